@@ -1,0 +1,8 @@
+-- The session's replies, by computation.
+use mathlib.Core.Path.{_≡_, refl}
+use Rattle.meaning.specs.Session.{session, sessionReplies, SessionRight}
+use Rattle.meaning.specs.Calls.{opened}
+
+pub session-right : SessionRight
+unfolding session sessionReplies opened
+session-right s = refl

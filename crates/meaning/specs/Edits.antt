@@ -1,0 +1,59 @@
+-- The calls Begin and Write, and how an edit changes. Rests on Outcomes.
+use Prim.Native.Nat.{ℕ, suc}
+use mathlib.Core.Bool.{Bool, true, false, cond}
+use mathlib.Core.List.{List, [], _∷_, map}
+use lib.ListN.{length}
+use lib.Dec.{leb, eqb}
+use Rattle.meaning.specs.Limits.{FREE, OPEN}
+use Rattle.meaning.specs.Store.{Val, Access, Edit, Store, handle, slotOf, nextGeneration, editAt, withEdit, isOf, accessOf, names}
+use Rattle.meaning.specs.Replies.{ok, edit}
+use Rattle.meaning.specs.Outcomes.{Outcome, replies, Verdict, pass, needs, unless, forOpen, hasRecord, accessRoom}
+
+-- an access takes the place of the edit's access of that record, or stands first where it has none
+unfoldable pub withAccess : Edit → Access → Edit
+withAccess e a =
+    record {
+      state = e .state;
+      generation = e .generation;
+      accesses = cond (names e (a .rec)) (map (λ b. cond (isOf (a .rec) b) a b) (e .accesses)) (a ∷ e .accesses);
+      point = e .point;
+    }
+
+-- Begin "takes the lowest free slot": the slot of the first free one, where the list starts at slot k, or one more than there are
+abbrev pub freeFrom : ℕ → List Edit → ℕ
+freeFrom k [] = k
+freeFrom k (e ∷ es) = cond (eqb (e .state) FREE) k (freeFrom (suc k) es)
+
+abbrev pub freeSlot : Store → ℕ
+freeSlot s = freeFrom 1 (s .edits)
+
+-- "raises its generation by one"
+abbrev pub openedEdit : Edit → Edit
+openedEdit e = record { state = OPEN; generation = nextGeneration (e .generation); accesses = []; point = 0 }
+
+unfoldable pub begun : Store → ℕ → Store
+begun s k = withEdit s k (openedEdit (editAt s k))
+
+-- 13
+unfoldable pub beginChecks : Store → Verdict
+beginChecks s = needs (leb (freeSlot s) (length (s .edits))) 13 pass
+
+-- "Begin gives a handle."
+unfoldable pub beginning : Store → Outcome
+beginning s =
+    let k : ℕ = freeSlot s in
+    unless s (beginChecks s) (replies (begun s k) (edit (handle (nextGeneration (editAt s k .generation)) k)))
+
+-- "Write stores a pending value; a second write of the record replaces it. No lock." What was read stays.
+abbrev pub writtenAccess : Edit → ℕ → Val → Access
+writtenAccess e r v = record { rec = r; from = accessOf e r .from; written = true; value = v }
+
+unfoldable pub written : Store → ℕ → ℕ → Val → Store
+written s k r v = withEdit s k (withAccess (editAt s k) (writtenAccess (editAt s k) r v))
+
+-- 2, 3, 5, 10
+unfoldable pub writeChecks : Store → ℕ → ℕ → Verdict
+writeChecks s h r = forOpen s h (needs (hasRecord s r) 5 (needs (accessRoom s (slotOf h) r) 10 pass))
+
+unfoldable pub writing : ℕ → ℕ → Val → Store → Outcome
+writing h r v s = unless s (writeChecks s h r) (replies (written s (slotOf h) r v) ok)

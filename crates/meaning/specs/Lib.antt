@@ -1,0 +1,13 @@
+pub mod Lists
+pub mod Limits
+pub mod Store
+pub mod Points
+pub mod Replies
+pub mod Outcomes
+pub mod Edits
+pub mod Locking
+pub mod Ending
+pub mod Records
+pub mod Calls
+pub mod Sound
+pub mod Session

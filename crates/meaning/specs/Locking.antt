@@ -1,0 +1,107 @@
+-- The calls Lock and Read. Rests on Outcomes and Edits.
+use Prim.Native.Nat.{ℕ, suc, _-_}
+use mathlib.Core.Bool.{Bool, true, false, cond, _&&_}
+use mathlib.Core.List.{List, [], _∷_}
+use lib.Dec.{leb, ltb}
+use Rattle.meaning.specs.Limits.{LAST, READ, WRITE}
+use Rattle.meaning.specs.Store.{blank, Version, Lock, Access, Rec, Store, slotOf, editAt, recAt, withEdit, withRec, withLocks, accessOf, hasRead, newestBelow, versionOn}
+use Rattle.meaning.specs.Points.{firstBlocked, firstOpen, addLock}
+use Rattle.meaning.specs.Replies.{locked, read, own, again}
+use Rattle.meaning.specs.Outcomes.{Outcome, replies, Verdict, pass, orElse, needs, unless, forOpen, hasRecord, isPoint, judge, accessRoom, lockRoom}
+use Rattle.meaning.specs.Edits.{withAccess}
+use Rattle.meaning.specs.declared.Extent.{Extent}
+use Rattle.meaning.specs.declared.Extent.the-variants.{All, Part}
+
+-- "A wants all points or none, P takes a part." Where what is taken of low..high ends, if it starts at from
+abbrev pub grantEnd : Extent → ℕ → ℕ → Rec → ℕ → ℕ → ℕ
+grantEnd All mode k x from high = high
+grantEnd Part mode k x from high = firstBlocked mode k x from high - 1
+
+-- "P takes the run from the first free point to just before the next blocked one, or to high."
+abbrev pub lockFrom : Extent → ℕ → Rec → ℕ → ℕ → ℕ
+lockFrom All k x low high = low
+lockFrom Part k x low high = firstOpen WRITE k x low high
+
+abbrev pub lockEnd : Extent → ℕ → Rec → ℕ → ℕ → ℕ
+lockEnd w k x low high = grantEnd w WRITE k x (lockFrom w k x low high) high
+
+-- A: no point is blocked; P: some point is not
+abbrev pub lockGranted : Extent → ℕ → Rec → ℕ → ℕ → Bool
+lockGranted All k x low high = ltb high (firstBlocked WRITE k x low high)
+lockGranted Part k x low high = leb (firstOpen WRITE k x low high) high
+
+-- "Read ... P stops before the first point write-locked by another owner, but needs at least tr + 1."
+abbrev pub readGranted : Extent → ℕ → Rec → ℕ → ℕ → Bool
+readGranted All k x low high = ltb high (firstBlocked READ k x low high)
+readGranted Part k x low high = ltb low (firstBlocked READ k x low high)
+
+-- slot k gets a lock on low..high of record r
+unfoldable pub withLock : Store → ℕ → ℕ → ℕ → ℕ → ℕ → Store
+withLock s r mode k low high =
+    withRec s r (withLocks (recAt s r) (addLock (record { low = low; high = high; mode = mode; owner = k }) (recAt s r .locks)))
+
+-- Lock: 9 or 8, 11
+unfoldable pub lockVerdict : Store → ℕ → ℕ → ℕ → ℕ → Extent → Verdict
+lockVerdict s k r low high w =
+    orElse (lockGranted w k (recAt s r) low high) (judge s r WRITE k (firstBlocked WRITE k (recAt s r) low high))
+    (needs (lockRoom s) 11 pass)
+
+-- 2, 3, 5, 6, 7
+unfoldable pub lockChecks : Store → ℕ → ℕ → ℕ → ℕ → Verdict
+lockChecks s h r low high =
+    forOpen s h
+    (needs (hasRecord s r) 5 (needs (leb low high && leb high LAST) 6 (needs (ltb (recAt s r .floor) low) 7 pass)))
+
+-- "Lock write-locks low..high."
+unfoldable pub lockWanted : Store → ℕ → ℕ → ℕ → ℕ → Extent → Outcome
+lockWanted s k r low high w =
+    let from : ℕ = lockFrom w k (recAt s r) low high in
+    let end : ℕ = lockEnd w k (recAt s r) low high in
+    unless s (lockVerdict s k r low high w) (replies (withLock s r WRITE k from end) (locked from end))
+
+unfoldable pub locking : ℕ → ℕ → ℕ → ℕ → Extent → Store → Outcome
+locking h r low high w s = unless s (lockChecks s h r low high) (lockWanted s (slotOf h) r low high w)
+
+-- Read: "the version is the newest below m, at tr, and tr + 1..m is read-locked"
+abbrev pub readVersion : Store → ℕ → ℕ → Version
+readVersion s r m = newestBelow (recAt s r .versions) m
+
+abbrev pub readFrom : Store → ℕ → ℕ → ℕ
+readFrom s r m = suc (readVersion s r m .point)
+
+abbrev pub readEnd : Store → ℕ → ℕ → ℕ → Extent → ℕ
+readEnd s k r m w = grantEnd w READ k (recAt s r) (readFrom s r m) m
+
+-- 7, 9 or 8, 10, 11
+unfoldable pub readVerdict : Store → ℕ → ℕ → ℕ → Extent → Verdict
+readVerdict s k r m w =
+    needs (ltb (recAt s r .floor) m) 7
+    (orElse (readGranted w k (recAt s r) (readFrom s r m) m) (judge s r READ k (firstBlocked READ k (recAt s r) (readFrom s r m) m))
+    (needs (accessRoom s k r) 10 (needs (lockRoom s) 11 pass)))
+
+abbrev pub readAccess : ℕ → ℕ → Access
+readAccess r from = record { rec = r; from = from; written = false; value = blank }
+
+unfoldable pub readStore : Store → ℕ → ℕ → ℕ → ℕ → Store
+readStore s k r from end = withEdit (withLock s r READ k from end) k (withAccess (editAt s k) (readAccess r from))
+
+unfoldable pub readNew : Store → ℕ → ℕ → ℕ → Extent → Outcome
+readNew s k r m w =
+    let v : Version = readVersion s r m in
+    let end : ℕ = readEnd s k r m w in
+    unless s (readVerdict s k r m w) (replies (readStore s k r (readFrom s r m) end) (read (v .point) end (v .value)))
+
+-- "an own pending value is the answer if there is one. A record read before gives the same version again. Neither locks."
+unfoldable pub readOpen : Store → ℕ → ℕ → ℕ → Extent → Outcome
+readOpen s k r m w =
+    let a : Access = accessOf (editAt s k) r in
+    let v : Version = versionOn (recAt s r .versions) (a .from - 1) in
+    cond (a .written) (replies s (own (a .value)))
+    (cond (hasRead a) (replies s (again (a .from - 1) (v .value))) (readNew s k r m w))
+
+-- 2, 3, 5, 6
+unfoldable pub readChecks : Store → ℕ → ℕ → ℕ → Verdict
+readChecks s h r m = forOpen s h (needs (hasRecord s r) 5 (needs (isPoint m) 6 pass))
+
+unfoldable pub reading : ℕ → ℕ → ℕ → Extent → Store → Outcome
+reading h r m w s = unless s (readChecks s h r m) (readOpen s (slotOf h) r m w)

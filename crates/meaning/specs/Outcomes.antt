@@ -1,0 +1,78 @@
+-- What a call comes to: a reply and the store after it; how its checks stand in order; the tests behind the refusals. Rests on Store,
+-- Points and Replies.
+use Prim.Native.Nat.{ℕ, _+_}
+use mathlib.Core.Bool.{Bool, true, false, cond, _&&_, _||_}
+use mathlib.Core.List.{List, [], _∷_}
+use lib.ListN.{length}
+use lib.Dec.{leb, ltb, eqb}
+use Rattle.meaning.specs.Limits.{LAST, OPEN}
+use Rattle.meaning.specs.Store.{Edit, Store, handle, slotOf, generationOf, editAt, recAt, inUse, names, writtenOf}
+use Rattle.meaning.specs.Store.{versionsUsed, locksUsed, accessesUsed}
+use Rattle.meaning.specs.Points.{frozen, holder}
+use Rattle.meaning.specs.Replies.{Reply, refusing}
+
+pub record Outcome : Type 0 where
+  pub reply : Reply
+  pub store : Store
+
+abbrev pub replies : Store → Reply → Outcome
+replies s r = record { reply = r; store = s }
+
+-- whether a call is refused, and with which number and details
+pub data Verdict : Type 0 where
+  pass : Verdict
+  refuse : ℕ → List ℕ → Verdict
+
+-- refused as r says unless the test holds; else as v says
+abbrev pub orElse : Bool → Verdict → Verdict → Verdict
+orElse true r v = v
+orElse false r v = r
+
+-- refused with n unless the test holds; else as v says
+abbrev pub needs : Bool → ℕ → Verdict → Verdict
+needs b n v = orElse b (refuse n []) v
+
+-- "All memory stays the same": a refused call leaves the store as it is
+abbrev pub unless : Store → Verdict → Outcome → Outcome
+unless s pass o = o
+unless s (refuse n more) o = replies s (refusing n more)
+
+-- 2: "slot out of range or free, or another generation"; a slot out of range reads as free
+unfoldable pub knows : Store → ℕ → Bool
+knows s h = inUse (s .edits) (slotOf h) && eqb (editAt s (slotOf h) .generation) (generationOf h)
+
+-- 3 and 4
+unfoldable pub isOpen : Store → ℕ → Bool
+isOpen s h = eqb (editAt s (slotOf h) .state) OPEN
+
+-- 2, 3, and then as v says
+abbrev pub forOpen : Store → ℕ → Verdict → Verdict
+forOpen s h v = needs (knows s h) 2 (needs (isOpen s h) 3 v)
+
+-- 5
+unfoldable pub hasRecord : Store → ℕ → Bool
+hasRecord s r = ltb r (length (s .records))
+
+-- 6: a point above 0, for a read and a commit
+abbrev pub isPoint : ℕ → Bool
+isPoint p = leb 1 p && leb p LAST
+
+-- 9 or 8: what blocks slot k at the point p of record r
+abbrev pub handleAt : Store → ℕ → ℕ
+handleAt s k = handle (editAt s k .generation) k
+
+unfoldable pub judge : Store → ℕ → ℕ → ℕ → ℕ → Verdict
+judge s r mode k p =
+    cond (frozen s r mode p) (refuse 9 []) (refuse 8 (handleAt s (holder mode k (recAt s r) p) ∷ []))
+
+-- 10: "one access for a record new to the edit"
+unfoldable pub accessRoom : Store → ℕ → ℕ → Bool
+accessRoom s k r = names (editAt s k) r || ltb (accessesUsed s) (s .accessRows)
+
+-- 11: "one lock for each grant"
+unfoldable pub lockRoom : Store → Bool
+lockRoom s = ltb (locksUsed s) (s .lockRows)
+
+-- 12: "one version for each record written"
+unfoldable pub versionRoom : Store → ℕ → Bool
+versionRoom s k = leb (versionsUsed s + length (writtenOf (editAt s k))) (s .versionRows)

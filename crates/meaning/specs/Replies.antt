@@ -1,0 +1,151 @@
+-- The replies of document 01, and which of them each case of the code's answers is. Rests on Store and the types of src/lib.rt.
+use Prim.Native.Nat.{ℕ}
+use mathlib.Core.Bool.{Bool, true, false}
+use mathlib.Core.List.{List, [], _∷_}
+use Rattle.meaning.specs.Store.{Val, Value}
+use Rattle.meaning.specs.declared.Point.{Point}
+use Rattle.meaning.specs.declared.Handle.{Handle}
+use Rattle.meaning.specs.declared.Refusal.{Refusal}
+use Rattle.meaning.specs.declared.Refusal.the-variants.{Unsound, NoEdit, EditEnded, EditOpen, NoRecord, BadPoint, BelowFloor, Held, Frozen, NoAccessRow, NoLockRow, NoVersionRow, NoSlot, NotCommon, LockedBelow, BadFormat}
+use Rattle.meaning.specs.declared.PointReply.{PointReply}
+use Rattle.meaning.specs.declared.PointReply.the-variants as Pt
+use Rattle.meaning.specs.declared.FormatReply.{FormatReply}
+use Rattle.meaning.specs.declared.FormatReply.the-variants as Fm
+use Rattle.meaning.specs.declared.BeginReply.{BeginReply}
+use Rattle.meaning.specs.declared.BeginReply.the-variants as Bg
+use Rattle.meaning.specs.declared.WriteReply.{WriteReply}
+use Rattle.meaning.specs.declared.WriteReply.the-variants as Wr
+use Rattle.meaning.specs.declared.LockReply.{LockReply}
+use Rattle.meaning.specs.declared.LockReply.the-variants as Lk
+use Rattle.meaning.specs.declared.ReadReply.{ReadReply}
+use Rattle.meaning.specs.declared.ReadReply.the-variants as Rd
+use Rattle.meaning.specs.declared.CommitReply.{CommitReply}
+use Rattle.meaning.specs.declared.CommitReply.the-variants as Cm
+use Rattle.meaning.specs.declared.AbortReply.{AbortReply}
+use Rattle.meaning.specs.declared.AbortReply.the-variants as Ab
+use Rattle.meaning.specs.declared.SettleReply.{SettleReply}
+use Rattle.meaning.specs.declared.SettleReply.the-variants as St
+use Rattle.meaning.specs.declared.PurgeReply.{PurgeReply}
+use Rattle.meaning.specs.declared.PurgeReply.the-variants as Pg
+use Rattle.meaning.specs.declared.ViewReply.{ViewReply}
+use Rattle.meaning.specs.declared.ViewReply.the-variants as Vw
+
+-- "Replies: `ok`; `edit` handle; `locked` low high; `read` tr end value; `own` value; `again` tr value; `commit` point; `nopoint`;
+-- `purged` versions locks; `at` point value; `no` number (8: then the handle)." A refusal carries its number and what is printed
+-- after it; `point` is the answer of the call Point.
+pub data Reply : Type 0 where
+  ok : Reply
+  edit : ℕ → Reply
+  locked : ℕ → ℕ → Reply
+  read : ℕ → ℕ → Value → Reply
+  own : Val → Reply
+  again : ℕ → Value → Reply
+  commit : ℕ → Reply
+  nopoint : Reply
+  purged : ℕ → ℕ → Reply
+  at : ℕ → Value → Reply
+  point : ℕ → Reply
+  refusing : ℕ → List ℕ → Reply
+
+-- is it one of the sixteen refusals?
+abbrev pub refused : Reply → Bool
+refused ok = false
+refused (edit h) = false
+refused (locked low high) = false
+refused (read tr end v) = false
+refused (own v) = false
+refused (again tr v) = false
+refused (commit p) = false
+refused nopoint = false
+refused (purged vs ls) = false
+refused (at p v) = false
+refused (point p) = false
+refused (refusing n more) = true
+
+-- the number of a refusal, as in the table of document 01
+abbrev pub number : Refusal → ℕ
+number Unsound = 1
+number NoEdit = 2
+number EditEnded = 3
+number EditOpen = 4
+number NoRecord = 5
+number BadPoint = 6
+number BelowFloor = 7
+number (Held h) = 8
+number Frozen = 9
+number NoAccessRow = 10
+number NoLockRow = 11
+number NoVersionRow = 12
+number NoSlot = 13
+number NotCommon = 14
+number LockedBelow = 15
+number BadFormat = 16
+
+-- what is printed after the number: the holder's handle for 8
+abbrev pub details : Refusal → List ℕ
+details Unsound = []
+details NoEdit = []
+details EditEnded = []
+details EditOpen = []
+details NoRecord = []
+details BadPoint = []
+details BelowFloor = []
+details (Held h) = h .0 ∷ []
+details Frozen = []
+details NoAccessRow = []
+details NoLockRow = []
+details NoVersionRow = []
+details NoSlot = []
+details NotCommon = []
+details LockedBelow = []
+details BadFormat = []
+
+abbrev pub ofRefusal : Refusal → Reply
+ofRefusal r = refusing (number r) (details r)
+
+abbrev pub ofPoint : PointReply → Reply
+ofPoint (Pt.Made p) = point (p .0)
+ofPoint (Pt.Refused r) = ofRefusal r
+
+abbrev pub ofFormat : FormatReply → Reply
+ofFormat Fm.Done = ok
+ofFormat (Fm.Refused r) = ofRefusal r
+
+abbrev pub ofBegin : BeginReply → Reply
+ofBegin (Bg.Edit h) = edit (h .0)
+ofBegin (Bg.Refused r) = ofRefusal r
+
+abbrev pub ofWrite : WriteReply → Reply
+ofWrite Wr.Done = ok
+ofWrite (Wr.Refused r) = ofRefusal r
+
+abbrev pub ofLock : LockReply → Reply
+ofLock (Lk.Locked low high) = locked (low .0) (high .0)
+ofLock (Lk.Refused r) = ofRefusal r
+
+abbrev pub ofRead : ReadReply → Reply
+ofRead (Rd.Read tr end v) = read (tr .0) (end .0) v
+ofRead (Rd.Own v) = own v
+ofRead (Rd.Again tr v) = again (tr .0) v
+ofRead (Rd.Refused r) = ofRefusal r
+
+abbrev pub ofCommit : CommitReply → Reply
+ofCommit (Cm.Commit p) = commit (p .0)
+ofCommit Cm.NoPoint = nopoint
+ofCommit (Cm.Refused r) = ofRefusal r
+
+abbrev pub ofAbort : AbortReply → Reply
+ofAbort Ab.Done = ok
+ofAbort (Ab.Refused r) = ofRefusal r
+
+abbrev pub ofSettle : SettleReply → Reply
+ofSettle St.Done = ok
+ofSettle (St.Refused r) = ofRefusal r
+
+abbrev pub ofPurge : PurgeReply → Reply
+ofPurge (Pg.Purged vs ls) = purged vs ls
+ofPurge (Pg.Refused r) = ofRefusal r
+
+abbrev pub ofView : ViewReply → Reply
+ofView (Vw.At p v) = at (p .0) v
+ofView (Vw.Refused r) = ofRefusal r
