@@ -10,4 +10,9 @@ pub mod Ending
 pub mod Records
 pub mod Calls
 pub mod Sound
+pub mod Pointwise
+pub mod SoundFacts
+pub mod Causes
+pub mod Order
+pub mod Laws
 pub mod Session

@@ -1,7 +1,12 @@
 -- List functions with a Bool test, and the least and the greatest number of a list. Rests on nothing.
 use Prim.Native.Nat.{ℕ, suc, _+_, min, max}
 use mathlib.Core.Bool.{Bool, true, false, cond, _&&_, _||_}
-use mathlib.Core.List.{List, [], _∷_}
+use mathlib.Core.List.{List, [], _∷_, List·Memᴰ}
+
+-- x is an element of the list
+infix 4 _∈_
+abbrev pub _∈_ : {A : Type 0} → A → List A → Type 0
+x ∈ xs = List·Memᴰ x xs
 
 -- every test of a list of tests holds
 abbrev pub every : List Bool → Bool
