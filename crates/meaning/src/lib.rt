@@ -2,8 +2,10 @@
 // Each function is proved against the definitions in specs/, which say what the store means. Nothing here knows a word's place.
 ghost use mathlib.Core.Path.{_≡_};
 ghost use Rattle.meaning.specs.Limits.{LAST};
+ghost use Rattle.meaning.specs.Points.{covers, conflicts, blocks};
 ghost use Rattle.meaning.specs.Replies.{ofPoint, number};
 ghost use Rattle.meaning.specs.Records.{pointing};
+ghost use Rattle.meaning.specs.Sound.{agree, startsRead};
 ghost use Rattle.meaning.specs.Store.{handle, slotOf, generationOf, nextGeneration};
 
 // The numbers of document 01; specs/Limits names the same ones.
@@ -14,6 +16,8 @@ const SEATS: u64 = 64;
 const SLOTS: u64 = 64;
 
 const LAST: u64 = 70368744177663;
+
+const WRITE: u64 = 2;
 
 // A clock reading. Only `make_point` turns it into a point.
 pub struct Reading(u64);
@@ -57,11 +61,11 @@ pub struct Access {
 
 // The five counts of a store.
 pub struct Counts {
-    pub records: u64,
-    pub edits: u64,
-    pub versions: u64,
-    pub locks: u64,
-    pub accesses: u64,
+    pub records: usize,
+    pub edits: usize,
+    pub versions: usize,
+    pub locks: usize,
+    pub accesses: usize,
 }
 
 // The flags A and P: all points or none, or a part.
@@ -284,4 +288,63 @@ pub fn refusal_number(r: Refusal) -> u64
         Refusal::LockedBelow => 15,
         Refusal::BadFormat => 16,
     }
+}
+
+// Tests on locks.
+
+pub fn covers(p: u64, l: Lock) -> bool
+    ensures { λ q. ⌜ q ≡ covers p l ⌝ }
+{
+    if p < l.low {
+        return false;
+    }
+    p <= l.high
+}
+
+// A lock of another owner would stand in the way of this mode.
+pub fn conflicts(mode: u64, l: Lock) -> bool
+    ensures { λ q. ⌜ q ≡ conflicts mode l ⌝ }
+{
+    if mode == WRITE {
+        return true;
+    }
+    l.mode == WRITE
+}
+
+pub fn blocks(mode: u64, k: u64, l: Lock) -> bool
+    ensures { λ q. ⌜ q ≡ blocks mode k l ⌝ }
+{
+    if l.owner == k {
+        return false;
+    }
+    conflicts(mode, l)
+}
+
+// No write lock shares a point with a lock of another owner.
+pub fn agree(l: Lock, m: Lock) -> bool
+    ensures { λ q. ⌜ q ≡ agree l m ⌝ }
+{
+    if m.owner == l.owner {
+        return true;
+    }
+    if !conflicts(l.mode, m) {
+        return true;
+    }
+    if l.high < m.low {
+        return true;
+    }
+    m.high < l.low
+}
+
+// A read lock of slot k that starts at from.
+pub fn starts_read(k: u64, from: u64, l: Lock) -> bool
+    ensures { λ q. ⌜ q ≡ startsRead k from l ⌝ }
+{
+    if l.owner != k {
+        return false;
+    }
+    if l.mode == WRITE {
+        return false;
+    }
+    l.low == from
 }
