@@ -1,0 +1,4 @@
+-- Serializability of multiversion timestamp locking: histories, the steps that a store may take, and the claim.
+pub mod History
+pub mod Steps
+pub mod Claim
