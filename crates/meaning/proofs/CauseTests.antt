@@ -1,21 +1,19 @@
 -- Each test of the checks fails exactly where its cause of the table stands: the tests on a handle, a record, a point and the rows left.
 -- Rests on Verdicts.
-use Prim.Native.Nat.{ℕ, suc, _+_, _≤_, _<_}
+use Prim.Native.Nat.{ℕ, _+_, _≤_, _<_}
 use native.Mathlib.Omega.{arith}
 use mathlib.Core.Path.{_≡_, refl}
 use mathlib.Core.Logic.{_⊎_, inl, inr}
 use mathlib.Core.Bool.{Bool, true, false, not, _&&_, _||_}
-use mathlib.Core.List.{List, [], _∷_}
 use lib.Dec.{leb, ltb, eqb}
 use lib.ListN.{length}
 use borrow.Author.Tests.{ltb-true, ltb-false, leb-true, leb-false, eqb-true, eqb-false, eq-eqb, not-true, not-false}
-use Rattle.meaning.specs.Lists.{_∈_, any}
+use Rattle.meaning.specs.Lists.{any}
 use Rattle.meaning.specs.Limits.{LAST, FREE, OPEN, COMMITTED, ABORTED}
-use Rattle.meaning.specs.Store.{Access, Edit, Store, slotOf, generationOf, editOf, editAt, inUse, isOf, names, writtenOf, versionsUsed, locksUsed, accessesUsed}
+use Rattle.meaning.specs.Store.{Store, slotOf, generationOf, editAt, inUse, isOf, names, writtenOf, versionsUsed, locksUsed, accessesUsed}
 use Rattle.meaning.specs.Outcomes.{knows, isOpen, hasRecord, isPoint, accessRoom, lockRoom, versionRoom}
 use Rattle.meaning.specs.Causes.{NoSuchEdit, slot-zero, slot-past, slot-free, other-generation, HasEnded, NoAccessRow}
-use Rattle.meaning.proofs.Lists.{and-left, and-right, or-out, or-left, or-right, test, not-both, any-in, any-out, any-none}
-use Rattle.meaning.proofs.Stores.{used-in}
+use Rattle.meaning.proofs.Lists.{and-left, and-right, or-out, test, not-both, any-out, any-none}
 use Rattle.meaning.proofs.Verdicts.{Known, knows-out}
 
 -- the test fails exactly where the cause stands

@@ -4,19 +4,19 @@ use Prim.Native.Nat.{ℕ, suc, _≤_, _<_}
 use native.Mathlib.Omega.{arith}
 use native.Mathlib.Nat.{le-refl}
 use native.Mathlib.Decide.{decLt}
-use mathlib.Core.Path.{_≡_, refl, sym, ap}
-use mathlib.Core.Logic.{_⊎_, inl, inr, _↔_}
-use mathlib.Core.Bool.{Bool, true, false}
+use mathlib.Core.Path.{_≡_}
+use mathlib.Core.Logic.{_⊎_, inl, inr}
+use mathlib.Core.Bool.{true, false}
 use Rattle.meaning.specs.Limits.{READ, WRITE}
-use Rattle.meaning.specs.Store.{Version, Lock, Rec, Store, recAt, newestBelow}
-use Rattle.meaning.specs.Points.{firstBlocked, frozen}
+use Rattle.meaning.specs.Store.{Rec, Store, recAt}
+use Rattle.meaning.specs.Points.{firstBlocked}
 use Rattle.meaning.specs.Locking.{lockGranted, readGranted, readVersion, readFrom}
-use Rattle.meaning.specs.Pointwise.{Proper, Blocked, LeastBlocked, NoneBlocked, LockDenied, LockTakes, ReadDenied, ReadTakes, NewestIs, Frozen}
+use Rattle.meaning.specs.Pointwise.{Proper, LeastBlocked, NoneBlocked, LockDenied, LockTakes, ReadDenied, ReadTakes, NewestIs}
 use Rattle.meaning.specs.Causes.{LockJudged, ReadJudged}
 use Rattle.meaning.specs.declared.Extent.{Extent}
 use Rattle.meaning.specs.declared.Extent.the-variants.{All, Part}
 use Rattle.meaning.proofs.Points.{first-blocked-is-least, lock-takes-run, read-takes-run}
-use Rattle.meaning.proofs.Newest.{newest-one, newest-below}
+use Rattle.meaning.proofs.Newest.{newest-one}
 
 -- a least blocked point is the only one
 pub least-one : {mode k : ℕ} {x : Rec} {low high p q : ℕ} → LeastBlocked mode k x low high p → LeastBlocked mode k x low high q → p ≡ q

@@ -1,32 +1,30 @@
 -- The laws of the refusals: a refusal changes nothing and has a number of its call; of a sound store it is given exactly for the first
 -- cause of the order that stands, and 8 names the lowest holder. Rests on the judging of each call.
-use Prim.Native.Nat.{ℕ, suc, _≤_, _<_}
+use Prim.Native.Nat.{ℕ, _<_}
 use native.Mathlib.Omega.{arith}
 use native.Mathlib.Decide.{decLt}
-use mathlib.Core.Path.{_≡_, refl, sym}
-use mathlib.Core.Logic.{_⊎_, inl, inr, _↔_}
+use mathlib.Core.Path.{_≡_, refl}
+use mathlib.Core.Logic.{_⊎_, inl, inr}
 use mathlib.Core.Bool.{true, false≢true}
-use mathlib.Core.List.{List, [], _∷_}
-use lib.ListN.{length}
+use mathlib.Core.List.{[], _∷_}
 use Rattle.meaning.specs.Limits.{SLOTS, SETTLED, FREE, READ, WRITE}
-use Rattle.meaning.specs.Store.{Lock, Counts, Rec, Store, slotOf, countsOf, editOf, recAt}
-use Rattle.meaning.specs.Points.{firstBlocked, holder}
+use Rattle.meaning.specs.Store.{Lock, Counts, Store, slotOf, countsOf, editOf, recAt}
+use Rattle.meaning.specs.Points.{holder}
 use Rattle.meaning.specs.Replies.{Reply, ok, edit, locked, read, own, again, commit, nopoint, purged, at, point, refusing, refused}
 use Rattle.meaning.specs.Outcomes.{handleAt}
-use Rattle.meaning.specs.Locking.{readVersion, readFrom}
+use Rattle.meaning.specs.Locking.{readFrom}
 use Rattle.meaning.specs.Records.{goodCounts}
 use Rattle.meaning.specs.Calls.{act}
 use Rattle.meaning.specs.Sound.{soundStore}
-use Rattle.meaning.specs.Pointwise.{Blocked, BlockedBy, LeastBlocked, NoneBlocked, LowestHolder}
-use Rattle.meaning.specs.Causes.{edits, LockJudged, ReadJudged}
-use Rattle.meaning.specs.Order.{Item, order, held, Stands, First, here, there, Says, Refuses, HeldByLowest}
+use Rattle.meaning.specs.Pointwise.{Blocked, BlockedBy, LowestHolder}
+use Rattle.meaning.specs.Causes.{edits}
+use Rattle.meaning.specs.Order.{order, held, Stands, Refuses, HeldByLowest}
 use Rattle.meaning.specs.Laws.{RefusalChangesNothing, RefusedForCause, GrantedWithoutCause, OnlyOwnNumbers, HolderIsLowest}
 use Rattle.meaning.specs.declared.Call.{Call}
 use Rattle.meaning.specs.declared.Call.the-variants as C
 use Rattle.meaning.proofs.Stores.{used-range}
-use Rattle.meaning.proofs.Points.{first-blocked-is-least, holder-is-lowest}
-use Rattle.meaning.proofs.Newest.{newest-below-is}
-use Rattle.meaning.proofs.Newest.{newest-one}
+use Rattle.meaning.proofs.Points.{holder-is-lowest}
+use Rattle.meaning.proofs.Newest.{newest-below-is, newest-one}
 use Rattle.meaning.proofs.SoundParts.{sound-out}
 use Rattle.meaning.proofs.FormatCauses.{counts-test}
 use Rattle.meaning.proofs.Denials.{least-one, found-least}

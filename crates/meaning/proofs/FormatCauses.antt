@@ -1,22 +1,21 @@
 -- Format is refused exactly where a count is out of range or the length is not the sum, and Point where the reading or the seat is too
 -- large. Rests on CauseTests.
-use Prim.Native.Nat.{ℕ, _≤_, _<_, _*_, _+_}
+use Prim.Native.Nat.{ℕ, _*_, _+_}
 use native.Mathlib.Omega.{arith}
 use mathlib.Core.Path.{_≡_, refl}
 use mathlib.Core.Logic.{_⊎_, inl, inr, _↔_}
 use mathlib.Core.Bool.{Bool, true, false, cond, _&&_}
-use mathlib.Core.List.{List, [], _∷_}
+use mathlib.Core.List.{List, []}
 use lib.Dec.{ltb}
-use Rattle.meaning.specs.Lists.{every}
 use Rattle.meaning.specs.Limits.{READINGS, SEATS, MAX-RECORDS, MAX-EDITS, MAX-ROWS}
-use Rattle.meaning.specs.Store.{Counts, Store, fresh}
+use Rattle.meaning.specs.Store.{Counts, fresh}
 use Rattle.meaning.specs.Replies.{Reply, ok, point, refusing}
-use Rattle.meaning.specs.Outcomes.{Outcome, replies, pass, needs, unless}
-use Rattle.meaning.specs.Records.{goodCounts, formatting, pointing}
+use Rattle.meaning.specs.Outcomes.{replies, pass, needs, unless}
+use Rattle.meaning.specs.Records.{goodCounts, formatting}
 use Rattle.meaning.specs.Causes.{BadCounts, records, edits, versions, locks, accesses, OutOfRange}
 use Rattle.meaning.specs.Order.{Refuses}
 use Rattle.meaning.specs.Laws.{FormatRefusedForCause, PointRefusedForCause}
-use Rattle.meaning.proofs.Lists.{false-in, not-both}
+use Rattle.meaning.proofs.Lists.{not-both}
 use Rattle.meaning.proofs.CauseTests.{Refutes, and-test, range-test, below-test}
 
 -- the five counts, and a part that never fails

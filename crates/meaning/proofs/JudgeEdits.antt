@@ -1,15 +1,15 @@
 -- Begin and Write judged along the order of the checks. Rests on Judging, CauseTests and Granted.
 use Prim.Native.Nat.{ℕ, zero, suc, _+_, _≤_, _<_}
 use native.Mathlib.Omega.{arith}
-use mathlib.Core.Path.{_≡_, refl, sym, _∙_}
+use mathlib.Core.Path.{_≡_, refl}
 use mathlib.Core.Logic.{_⊎_, inl, inr}
-use mathlib.Core.Bool.{Bool, true, false, cond}
+use mathlib.Core.Bool.{true, false}
 use mathlib.Core.List.{List, [], _∷_}
 use lib.Dec.{leb, eqb}
 use lib.ListN.{length, getD}
-use borrow.Author.Tests.{leb-true, leb-false, eqb-true, eqb-false, eq-eqb}
+use borrow.Author.Tests.{leb-true, leb-false, eqb-false}
 use Rattle.meaning.specs.Limits.{FREE}
-use Rattle.meaning.specs.Store.{Edit, Store, freshEdit, slotOf, editOf, editAt}
+use Rattle.meaning.specs.Store.{Edit, Store, freshEdit, slotOf, editOf}
 use Rattle.meaning.specs.Outcomes.{knows, isOpen, hasRecord, accessRoom}
 use Rattle.meaning.specs.Edits.{freeFrom, freeSlot, beginning, beginChecks, writing, writeChecks}
 use Rattle.meaning.specs.Causes.{NoFreeSlot}

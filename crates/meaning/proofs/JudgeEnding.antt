@@ -1,16 +1,11 @@
 -- Commit, Abort and Settle judged along the order of the checks. Rests on Judging, CauseTests and CommonEnds.
-use Prim.Native.Nat.{ℕ, _≤_, _<_}
-use native.Mathlib.Omega.{arith}
-use mathlib.Core.Path.{_≡_, refl}
-use mathlib.Core.Logic.{_⊎_, inl, inr, _↔_}
-use mathlib.Core.Bool.{Bool, true, false, not}
-use mathlib.Core.List.{List, [], _∷_}
+use Prim.Native.Nat.{ℕ}
+use mathlib.Core.Path.{refl}
+use mathlib.Core.Bool.{not}
 use Rattle.meaning.specs.Store.{Store, slotOf, editAt}
-use Rattle.meaning.specs.Points.{inCommon}
 use Rattle.meaning.specs.Replies.{nopoint}
 use Rattle.meaning.specs.Outcomes.{knows, isOpen, versionRoom}
 use Rattle.meaning.specs.Ending.{goodPick, chosen, allowed, noCommon, committing, commitChecks, commitOpen, commitVerdict, aborting, abortChecks, settling, settleChecks}
-use Rattle.meaning.specs.Pointwise.{InCommonSet}
 use Rattle.meaning.specs.Causes.{BadPoint, NotCommon}
 use Rattle.meaning.specs.Order.{order}
 use Rattle.meaning.specs.declared.Handle.{Handle}

@@ -1,13 +1,11 @@
 -- Lock judged along the order of the checks. Rests on Judging, CauseTests and Denials.
-use Prim.Native.Nat.{ℕ, suc, _≤_, _<_}
-use native.Mathlib.Omega.{arith}
-use mathlib.Core.Path.{_≡_, refl, sym}
-use mathlib.Core.Logic.{_⊎_, inl, inr, _↔_}
-use mathlib.Core.Bool.{Bool, true, false, _&&_}
-use mathlib.Core.List.{List, [], _∷_}
+use Prim.Native.Nat.{ℕ, _≤_}
+use mathlib.Core.Path.{_≡_, refl}
+use mathlib.Core.Logic.{_↔_}
+use mathlib.Core.Bool.{Bool, true, _&&_}
+use mathlib.Core.List.{[], _∷_}
 use lib.Dec.{leb, ltb}
 use borrow.Author.Tests.{leb-true}
-use Rattle.meaning.specs.Lists.{_∈_}
 use Rattle.meaning.specs.Limits.{LAST, WRITE}
 use Rattle.meaning.specs.Store.{Lock, Rec, Store, slotOf, recAt}
 use Rattle.meaning.specs.Points.{firstBlocked, frozen, holder}
@@ -25,7 +23,7 @@ use Rattle.meaning.proofs.Lists.{and-left, not-both}
 use Rattle.meaning.proofs.SoundParts.{sound-out}
 use Rattle.meaning.proofs.Points.{frozen-is}
 use Rattle.meaning.proofs.Denials.{lock-granted, lock-denied, lock-judged-one}
-use Rattle.meaning.proofs.CauseTests.{Refutes, known-test, open-test, record-test, span-test, below-test, lock-row-test}
+use Rattle.meaning.proofs.CauseTests.{known-test, open-test, record-test, span-test, below-test, lock-row-test}
 use Rattle.meaning.proofs.Judging.{Judging, granted, refuses, _next_, never, listed, decided, shown, by-test}
 
 -- each lock of a sound store is a span of points

@@ -1,18 +1,18 @@
 -- Read judged along the order of the checks. Rests on Judging, CauseTests, Denials and Accessed.
-use Prim.Native.Nat.{ℕ, suc, _-_, _≤_, _<_}
+use Prim.Native.Nat.{ℕ, _-_, _≤_, _<_}
 use native.Mathlib.Omega.{arith}
-use mathlib.Core.Path.{_≡_, refl, sym}
+use mathlib.Core.Path.{_≡_, refl}
 use mathlib.Core.Logic.{_⊎_, inl, inr, _↔_}
-use mathlib.Core.Bool.{Bool, true, false, _&&_}
-use mathlib.Core.List.{List, [], _∷_}
+use mathlib.Core.Bool.{true, false}
+use mathlib.Core.List.{[], _∷_}
 use lib.Dec.{leb, ltb}
 use borrow.Author.Tests.{leb-true, ltb-true, ltb-false}
 use Rattle.meaning.specs.Limits.{LAST, READ}
-use Rattle.meaning.specs.Store.{Value, Version, Access, Rec, Store, slotOf, editAt, recAt, accessOf, hasRead, versionOn}
+use Rattle.meaning.specs.Store.{Value, Access, Rec, Store, slotOf, editAt, recAt, accessOf, hasRead, versionOn}
 use Rattle.meaning.specs.Points.{firstBlocked, frozen, holder}
 use Rattle.meaning.specs.Replies.{own, again}
 use Rattle.meaning.specs.Outcomes.{knows, isOpen, hasRecord, isPoint, judge, handleAt, accessRoom, lockRoom}
-use Rattle.meaning.specs.Locking.{readGranted, readVersion, readFrom, readEnd, reading, readChecks, readOpen, readNew, readVerdict}
+use Rattle.meaning.specs.Locking.{readGranted, readVersion, readFrom, reading, readChecks, readOpen, readNew, readVerdict}
 use Rattle.meaning.specs.Sound.{soundStore}
 use Rattle.meaning.specs.SoundFacts.{SoundStore}
 use Rattle.meaning.specs.Pointwise.{Frozen, NewestIs}
@@ -25,11 +25,10 @@ use Rattle.meaning.specs.declared.Call.the-variants as C
 use Rattle.meaning.proofs.Lists.{and-left, not-both}
 use Rattle.meaning.proofs.SoundParts.{sound-out}
 use Rattle.meaning.proofs.Points.{frozen-is}
-use Rattle.meaning.proofs.Newest.{newest-below-is}
-use Rattle.meaning.proofs.Newest.{newest-below}
+use Rattle.meaning.proofs.Newest.{newest-below-is, newest-below}
 use Rattle.meaning.proofs.Denials.{read-granted, read-denied, read-judged-one}
 use Rattle.meaning.proofs.Accessed.{accessed-in, accessed-out}
-use Rattle.meaning.proofs.CauseTests.{Refutes, known-test, open-test, record-test, point-test, below-test, access-test, lock-row-test}
+use Rattle.meaning.proofs.CauseTests.{known-test, open-test, record-test, point-test, below-test, access-test, lock-row-test}
 use Rattle.meaning.proofs.JudgeLocking.{proper}
 use Rattle.meaning.proofs.Judging.{Judging, granted, refuses, answers, _next_, never, listed, decided, shown, by-test}
 

@@ -1,28 +1,25 @@
--- Purge and View judged along the order of the checks. Rests on Judging, CauseTests, Newest.
-use Prim.Native.Nat.{ℕ, suc, _≤_, _<_}
+-- Purge and View judged along the order of the checks. Rests on Judging, CauseTests and Newest.
+use Prim.Native.Nat.{ℕ, suc}
 use native.Mathlib.Omega.{arith}
 use mathlib.Core.Path.{_≡_, refl}
-use mathlib.Core.Logic.{_⊎_, inl, inr, _↔_}
 use mathlib.Core.Bool.{Bool, true, false, not, _&&_}
-use mathlib.Core.List.{List, [], _∷_}
-use lib.Dec.{leb, eqb}
-use lib.ListN.{length}
-use borrow.Author.Tests.{leb-true, leb-false, eqb-true, eqb-false, ne-eqb, le-leb, not-true, not-false}
-use Rattle.meaning.specs.Lists.{_∈_, any}
+use mathlib.Core.List.{List}
+use lib.Dec.{leb}
+use borrow.Author.Tests.{leb-true, leb-false, eqb-false, ne-eqb, le-leb, not-true, not-false}
+use Rattle.meaning.specs.Lists.{any}
 use Rattle.meaning.specs.Limits.{LAST, SETTLED}
-use Rattle.meaning.specs.Store.{Version, Lock, Rec, Store, recAt, newestAt}
+use Rattle.meaning.specs.Store.{Version, Lock, Store, recAt, newestAt}
 use Rattle.meaning.specs.Points.{isOwned}
 use Rattle.meaning.specs.Outcomes.{hasRecord}
-use Rattle.meaning.specs.Records.{purging, purgeChecks, purgeTo, purgeVerdict, purgedRec, viewing, viewChecks}
+use Rattle.meaning.specs.Records.{purging, purgeChecks, purgeTo, purgeVerdict, viewing, viewChecks}
 use Rattle.meaning.specs.SoundFacts.{SoundStore}
 use Rattle.meaning.specs.Pointwise.{NewestIs}
 use Rattle.meaning.specs.Causes.{LockedBelow}
 use Rattle.meaning.specs.Order.{order}
 use Rattle.meaning.specs.declared.Point.{Point}
 use Rattle.meaning.specs.declared.Call.the-variants as C
-use Rattle.meaning.proofs.Lists.{and-in, and-left, and-right, not-both, test, any-in, any-out}
-use Rattle.meaning.proofs.Newest.{newest-at-is}
-use Rattle.meaning.proofs.Newest.{newest-one}
+use Rattle.meaning.proofs.Lists.{and-in, and-left, and-right, not-both, any-in, any-out}
+use Rattle.meaning.proofs.Newest.{newest-at-is, newest-one}
 use Rattle.meaning.proofs.SoundParts.{sound-out}
 use Rattle.meaning.proofs.CauseTests.{Refutes, record-test, at-most-test}
 use Rattle.meaning.proofs.Judging.{Judging, granted, _next_, never, decided, by-test}

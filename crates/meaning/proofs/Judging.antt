@@ -3,7 +3,7 @@
 use Prim.Native.Nat.{ℕ, suc, _<_}
 use native.Mathlib.Omega.{arith}
 use mathlib.Core.Path.{_≡_, refl, sym, ap, _∙_}
-use mathlib.Core.Logic.{_⊎_, inl, inr, _↔_}
+use mathlib.Core.Logic.{inl, inr, _↔_}
 use mathlib.Core.Bool.{Bool, true, false, not, _&&_, false≢true}
 use mathlib.Core.List.{List, [], _∷_, Memᴰ·cast}
 use lib.Dec.{eqb}
@@ -17,7 +17,7 @@ use Rattle.meaning.specs.Replies.{Reply, ok, edit, locked, read, own, ag
 use Rattle.meaning.specs.Outcomes.{Outcome, replies, handleAt}
 use Rattle.meaning.specs.Locking.{readFrom}
 use Rattle.meaning.specs.Sound.{soundStore}
-use Rattle.meaning.specs.Order.{Item, unsound, noSlot, noEdit, ended, stillOpen, noRecord, badPoint, ownOrAgain, belowFloor, emptySet, notCommon, lockedBelow, frozen, held, noAccessRow, noLockRow, noVersionRow, Stands, First, here, there, NoneStands, Says, Grants, Refuses, concerns}
+use Rattle.meaning.specs.Order.{Item, unsound, noSlot, noEdit, ended, stillOpen, noRecord, badPoint, ownOrAgain, belowFloor, emptySet, notCommon, lockedBelow, frozen, held, noAccessRow, noLockRow, noVersionRow, Stands, Says, Grants, Refuses, concerns}
 use Rattle.meaning.specs.declared.Call.{Call}
 use Rattle.meaning.specs.declared.Call.the-variants as C
 use Rattle.meaning.proofs.Lists.{and-left, and-right, any-out}
@@ -44,16 +44,16 @@ code noLockRow = 11
 code noVersionRow = 12
 
 -- the holder found at the point at which a call is judged
-abbrev blame : Store → ℕ → ℕ → ℕ → ℕ → List ℕ
-blame s r mode k p = handleAt s (holder mode k (recAt s r) p) ∷ []
+abbrev holderAt : Store → ℕ → ℕ → ℕ → ℕ → List ℕ
+holderAt s r mode k p = handleAt s (holder mode k (recAt s r) p) ∷ []
 
 abbrev pub holders : Call → Store → List ℕ
 holders C.Begin s = []
 holders (C.Write h r v) s = []
 holders (C.Lock h r low high w) s =
-    blame s r WRITE (slotOf (h .0)) (firstBlocked WRITE (slotOf (h .0)) (recAt s r) (low .0) (high .0))
+    holderAt s r WRITE (slotOf (h .0)) (firstBlocked WRITE (slotOf (h .0)) (recAt s r) (low .0) (high .0))
 holders (C.Read h r m w) s =
-    blame s r READ (slotOf (h .0)) (firstBlocked READ (slotOf (h .0)) (recAt s r) (readFrom s r (m .0)) (m .0))
+    holderAt s r READ (slotOf (h .0)) (firstBlocked READ (slotOf (h .0)) (recAt s r) (readFrom s r (m .0)) (m .0))
 holders (C.Commit h pick f) s = []
 holders (C.Abort h f) s = []
 holders (C.Settle h) s = []

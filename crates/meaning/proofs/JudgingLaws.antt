@@ -1,13 +1,12 @@
 -- What follows from the judging of a call: of a sound store the item said is the first that stands, and what is granted has no cause; of
 -- any store a refusal leaves the store as it is and carries a number that can concern the call. Rests on Judging.
 use Prim.Native.Nat.{ℕ}
-use native.Mathlib.Omega.{arith}
-use mathlib.Core.Path.{_≡_, refl, sym, ap, _∙_}
-use mathlib.Core.Bool.{Bool, true, false, false≢true}
-use mathlib.Core.List.{List, [], _∷_}
+use mathlib.Core.Path.{_≡_, sym, ap, _∙_}
+use mathlib.Core.Bool.{true, false≢true}
+use mathlib.Core.List.{List}
 use Rattle.meaning.specs.Store.{Store}
-use Rattle.meaning.specs.Replies.{Reply, refusing, refused}
-use Rattle.meaning.specs.Outcomes.{Outcome, replies}
+use Rattle.meaning.specs.Replies.{refusing, refused}
+use Rattle.meaning.specs.Outcomes.{Outcome}
 use Rattle.meaning.specs.Sound.{soundStore}
 use Rattle.meaning.specs.Order.{Item, Stands, First, here, there, NoneStands, Says, Grants}
 use Rattle.meaning.specs.declared.Call.{Call}

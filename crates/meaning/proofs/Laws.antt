@@ -1,6 +1,5 @@
 -- The theorems of specs/Laws, each under its name and with its statement for a type. Rests on the files that prove them; only that every
 -- call keeps a sound store sound is put together here.
-use mathlib.Core.Path.{_≡_}
 use Rattle.meaning.specs.Laws.{FirstBlockedIsLeast, LockTakesRun, ReadTakesRun, CommonSetIs, EarliestIsLeast, LatestIsGreatest, NoCommonIsEmpty, NewestBelowIs, NewestAtIs, SettlingNeedsNoRow, SoundIsFacts, FreshIsSound, CallsKeepSound, RefusalChangesNothing, RefusedForCause, GrantedWithoutCause, OnlyOwnNumbers, HolderIsLowest, FormatRefusedForCause, PointRefusedForCause}
 use Rattle.meaning.specs.Calls.{act}
 use Rattle.meaning.specs.declared.Call.the-variants as C
