@@ -1,0 +1,66 @@
+//! A model of the shared plan store, written from document 01 alone.
+//!
+//!     model run [--check]                  answers the script on standard input
+//!     model gen SEED LINES [--plain]       prints a random script
+//!     model stats SEEDS LINES [--check]    counts the replies to the scripts of seeds 1..SEEDS
+
+#![forbid(unsafe_code)]
+
+mod count;
+mod generate;
+mod record;
+mod reply;
+mod script;
+mod serial;
+mod sound;
+mod store;
+#[cfg(test)]
+mod tests;
+
+use std::io::{self, Write};
+use std::process::ExitCode;
+
+fn stats(seeds: u64, lines: usize, check: bool) -> Result<(), String> {
+    let counted = count::count(seeds, lines, check)?;
+    for (kind, count) in counted.kinds.iter().chain(&counted.by_letter) {
+        println!("{count:>9}  {kind}");
+    }
+    Ok(())
+}
+
+fn generate(seed: u64, lines: usize, plain: bool) -> Result<(), String> {
+    let mut text = vec![];
+    for line in generate::script(seed, lines, plain) {
+        text.extend_from_slice(&line);
+        text.push(b'\n');
+    }
+    io::stdout().write_all(&text).map_err(|e| e.to_string())
+}
+
+fn command(words: &[&str]) -> Result<(), String> {
+    let small = |word: &str| word.parse::<u64>().map_err(|e| format!("{word}: {e}"));
+    match words {
+        ["run"] => script::run(&mut io::stdin().lock(), &mut io::stdout().lock(), false),
+        ["run", "--check"] => script::run(&mut io::stdin().lock(), &mut io::stdout().lock(), true),
+        ["gen", seed, lines] => generate(small(seed)?, small(lines)? as usize, false),
+        ["gen", seed, lines, "--plain"] => generate(small(seed)?, small(lines)? as usize, true),
+        ["stats", seeds, lines] => stats(small(seeds)?, small(lines)? as usize, false),
+        ["stats", seeds, lines, "--check"] => stats(small(seeds)?, small(lines)? as usize, true),
+        _ => Err(
+            "usage: model run [--check] | gen SEED LINES [--plain] | stats SEEDS LINES [--check]"
+                .to_string(),
+        ),
+    }
+}
+
+fn main() -> ExitCode {
+    let words: Vec<String> = std::env::args().skip(1).collect();
+    let words: Vec<&str> = words.iter().map(String::as_str).collect();
+    match command(&words) {
+        Ok(()) => ExitCode::SUCCESS,
+        Err(message) => {
+            eprintln!("model: {message}");
+            ExitCode::FAILURE
+        }
+    }
+}
