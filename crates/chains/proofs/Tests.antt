@@ -1,0 +1,32 @@
+-- The tests on one word of a row, as the code makes them: f is the word that was read.
+use Prim.Native.Nat.{ℕ, _≤_, _<_}
+use mathlib.Core.Path.{_≡_, sym, ap, _∙_}
+use mathlib.Core.Bool.{true, false}
+use mathlib.Core.List.{List}
+use native.Mathlib.Omega.{arith}
+use lib.Dec.{eqb}
+use borrow.Author.Tests.{eq-eqb, ne-eqb, lt-ltb, le-ltb}
+use Rattle.chains.specs.declared.Table.{Table}
+use Rattle.chains.specs.Table.{field, holds, above}
+
+module _ (t : Table) (w : List ℕ) (o v x f : ℕ) (e : f ≡ field t w x o) where
+  pub holds-yes : f ≡ v → holds t w o v x ≡ true
+  unfolding holds
+  holds-yes q = eq-eqb (field t w x o) v (sym e ∙ q)
+
+  pub holds-no : (f ≡ v → ⊥) → holds t w o v x ≡ false
+  unfolding holds
+  holds-no q = ne-eqb (field t w x o) v (λ z. q (e ∙ z))
+
+  -- read off words that have the same word as w₀
+  pub holds-same : (w₀ : List ℕ) → field t w x o ≡ field t w₀ x o → eqb f v ≡ holds t w₀ o v x
+  unfolding holds
+  holds-same w₀ k = ap (λ y. eqb y v) (e ∙ k)
+
+  pub above-yes : v < f → above t w o v x ≡ true
+  unfolding above
+  above-yes l = lt-ltb v (field t w x o) (omega arith)
+
+  pub above-no : f ≤ v → above t w o v x ≡ false
+  unfolding above
+  above-no l = le-ltb v (field t w x o) (omega arith)

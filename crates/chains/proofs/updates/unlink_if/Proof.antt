@@ -1,0 +1,70 @@
+-- `chains::unlink_if` meets its contract: unlinking by the test whether word o of a row is v. Rests on Turns.
+use mathlib.Core.List.{[]}
+use native.Mathlib.Omega.{arith}
+use denote.Ref.{now}
+use Rattle.chains.specs.Table.{rowsOf, holds}
+use Rattle.chains.proofs.Cells.{lies, heads-lie}
+use Rattle.chains.proofs.Walks.{row-of, fuel-of}
+use Rattle.chains.proofs.Tests.{holds-same}
+use Rattle.chains.proofs.Turns.{TurnInv, turn-start, turn-ready, turn-field, turn-again, turn-done}
+use Rattle.chains.proofs.updates.unlink_if.Statement.{statement}
+use Rattle.chains.proofs.updates.unlink_if.Tie as tie
+
+abbrev Inv-loop : tie.InvT-loop
+Inv-loop w₀ t h a b o v n place₀ cur₀ left₀ w place cur left = TurnInv t h (holds t w₀ o v) w₀ a b [] (rowsOf t h w₀ a) w place cur left
+
+abbrev μ-loop : tie.MeasureT-loop
+μ-loop w₀ t h a b o v n place₀ cur₀ left₀ w place cur left = left
+
+head-of-requires : tie.Need-head-of-requires Inv-loop μ-loop
+head-of-requires c κs = (heads-lie (c .before .before .pre .0 .laid), c .before .before .pre .0 .a-in)
+
+loop-holds : tie.Need-loop-holds Inv-loop μ-loop
+loop-holds c = turn-start _ (c .before .before .before .pre .0) (c .head-of .ensures)
+
+more-requires : tie.Need-more-requires Inv-loop μ-loop
+more-requires c κs = tt
+
+next-of-requires : tie.Need-next-of-requires Inv-loop μ-loop
+next-of-requires c κs = (lies (c .before .before .before .loop .inv .ready .laid), row-of _ _ _ (c .before .before .more .ensures) (c .before .if1 .taken))
+
+get-requires : tie.Need-get-requires Inv-loop μ-loop
+get-requires c κs = (lies (c .before .before .before .before .before .loop .inv .ready .laid), row-of _ _ _ (c .before .before .before .before .more .ensures) (c .before .before .before .if1 .taken), c .before .before .before .before .before .before .before .before .before .pre .1)
+
+unlink-turn-requires : tie.Need-unlink-turn-requires Inv-loop μ-loop
+unlink-turn-requires c κs = turn-ready (c .before .before .before .before .before .before .before .loop .inv) (c .before .before .before .before .before .before .more .ensures) (c .before .before .before .before .before .if1 .taken)
+
+sub-left : tie.Need-sub-left Inv-loop μ-loop
+sub-left c = fuel-of _ _ _ (c .before .before .before .before .before .before .before .before .before .more .ensures) (c .before .before .before .before .before .before .before .before .if1 .taken)
+
+loop-less : tie.Need-loop-less Inv-loop μ-loop
+loop-less c = omega (arith, fuel-of _ _ _ (c .before .before .before .before .before .before .before .before .before .more .ensures) (c .before .before .before .before .before .before .before .before .if1 .taken))
+
+loop-again : tie.Need-loop-again Inv-loop μ-loop
+loop-again c = turn-again (c .before .before .before .before .before .before .before .before .before .before .loop .inv) (c .before .before .before .before .before .before .before .before .before .more .ensures) _ (c .before .before .before .before .before .before .before .before .if1 .taken) (c .before .before .before .before .before .before .next-of .ensures)
+    (holds-same (c .before .before .before .before .before .before .before .before .before .before .before .before .before .before .args .t) _ (c .before .before .before .before .before .before .before .before .before .before .before .before .before .before .args .o) (c .before .before .before .before .before .before .before .before .before .before .before .before .before .before .args .v) _ _ (c .before .before .before .before .get .ensures) (now (c .before .before .before .before .before .before .before .before .before .before .before .before .before .before .args .w)) (turn-field (c .before .before .before .before .before .before .before .before .before .before .loop .inv) (c .before .before .before .before .before .before .before .before .before .more .ensures) (c .before .before .before .before .before .before .before .before .if1 .taken) (c .before .before .before .before .before .before .before .before .before .before .before .before .before .before .args .o) (c .before .before .before .before .before .before .before .before .before .before .before .before .before .before .pre .1) (c .before .before .before .before .before .before .before .before .before .before .before .before .before .before .pre .2) (c .before .before .before .before .before .before .before .before .before .before .before .before .before .before .pre .0)))
+    (c .before .before .unlink-turn .ensures)
+
+same-length : tie.Need-same-length Inv-loop μ-loop
+same-length c = c .before .before .loop .inv .elsewhere .size
+
+returns : tie.Need-returns Inv-loop μ-loop
+returns c = turn-done (c .before .before .loop .inv) (c .before .more .ensures) (c .if1 .left)
+
+pub unlink-if-spec : {M : Type 1} → statement M
+unlink-if-spec =
+    tie.close
+    (tie.spec
+    Inv-loop
+    μ-loop
+    head-of-requires
+    loop-holds
+    more-requires
+    next-of-requires
+    get-requires
+    unlink-turn-requires
+    sub-left
+    loop-less
+    loop-again
+    same-length
+    returns)
