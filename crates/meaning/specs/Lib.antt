@@ -15,4 +15,5 @@ pub mod SoundFacts
 pub mod Causes
 pub mod Order
 pub mod Laws
+pub mod Contract
 pub mod Session

@@ -1,0 +1,16 @@
+-- Demand 3 for the calls of the store: each call as steps of the serial core, the theorems, and examples.
+pub mod StoreSlots
+pub mod EveryCall
+pub mod Valued
+pub mod Changes
+pub mod CallRuns
+pub mod Simple
+pub mod Reading
+pub mod Ending
+pub mod Purging
+pub mod Theorem
+pub mod OverWords
+pub mod Contracts
+pub mod CommitList
+pub mod Examples
+pub mod Handles

@@ -1,0 +1,6 @@
+-- Demand 3: what the plain run hears, and the claim over the abstract store and over what the store is lent; examples.
+pub mod Heard
+pub mod Statement
+pub mod Words
+pub mod Examples
+pub mod Handles

@@ -1,0 +1,59 @@
+-- Demand 3 over what the store is lent: a list of calls with their replies in which neighbours are related by the contracts of the public
+-- calls, from one Format that replied `ok`. Whoever uses the store through its contracts has such a list. Rests on Contract and Heard; the
+-- theorems are in proofs/OverWords and proofs/Contracts, under the same names.
+use Prim.Native.Nat.{ℕ, _<_}
+use mathlib.Core.Path.{_≡_}
+use mathlib.Core.Bool.{Bool, true}
+use mathlib.Core.List.{List, [], _∷_}
+use Rattle.meaning.specs.Limits.{LAST}
+use Rattle.meaning.specs.Store.{Val, Store, fresh}
+use Rattle.meaning.specs.Replies.{Reply, at}
+use Rattle.meaning.specs.Records.{goodCounts, viewing}
+use Rattle.meaning.specs.Calls.{act, run, after}
+use Rattle.meaning.specs.Sound.{soundStore}
+use Rattle.meaning.specs.declared.Counts.{Counts}
+use Rattle.meaning.specs.declared.Call.{Call}
+use Rattle.serial.specs.History.{Seq, History, Commits, plainEnd, PlainFits}
+use Rattle.serial.specs.Claim.{CommitOrder}
+use Rattle.history.specs.Heard.{shownValue, history}
+use Rattle.meaning.specs.Contract.{Does, Shows, Formats}
+
+module _ (Lent : Type 0) (decode : Lent → Store) (soundLent : Lent → Bool) where
+  -- calls with their replies, each on what the one before left
+  pub data Calls : Lent → List Call → List Reply → Lent → Type 0 where
+    done : {w : Lent} → Calls w [] [] w
+    then : {w w₁ w₂ : Lent} {c : Call} {q : Reply} {cs : List Call} {qs : List Reply} → Does Lent decode soundLent (act c) w w₁ q
+        → Calls w₁ cs qs w₂
+        → Calls w (c ∷ cs) (q ∷ qs) w₂
+
+  -- the list follows one Format
+  pub record Listed (counts : Counts) (cs : List Call) (qs : List Reply) (end : Lent) : Type 0 where
+    pub start : Lent
+    pub format : Formats Lent decode soundLent counts start
+    pub calls : Calls start cs qs end
+
+  -- the plain run of the history l in the order o, and what the store is lent at the end of l: what a View at LAST replies there, by its
+  -- contract, is the plain run's value
+  pub record SerialWords (records : ℕ) (l : History Val) (end : Lent) (o : Seq ℕ) : Type 0 where
+    pub reads : PlainFits l o
+    pub newest : (r : ℕ) (q : Reply) → r < records → Shows Lent decode soundLent (viewing r LAST) end q
+        → (p : ℕ) × (q ≡ at p (shownValue (plainEnd l o r)))
+
+  abbrev pub WordsSerializable : Type 0
+  WordsSerializable = (counts : Counts) (cs : List Call) (qs : List Reply) (end : Lent) → Listed counts cs qs end
+      → (o : Seq ℕ) → CommitOrder (history cs qs) o
+      → SerialWords (counts .records) (history cs qs) end o
+
+  abbrev pub WordsOrderExists : Type 0
+  WordsOrderExists = (counts : Counts) (cs : List Call) (qs : List Reply) (end : Lent) → Listed counts cs qs end
+      → (o : Seq ℕ) × CommitOrder (history cs qs) o
+
+  abbrev pub WordsPointIsOne : Type 0
+  WordsPointIsOne = (counts : Counts) (cs : List Call) (qs : List Reply) (end : Lent) → Listed counts cs qs end
+      → (e p t : ℕ) → Commits (history cs qs) e p → Commits (history cs qs) e t → p ≡ t
+
+-- The premises can be met: the abstract store itself, lent as it is, keeps the contracts, so that every list of calls with its replies is
+-- such a list.
+abbrev pub EveryListListed : Type 0
+EveryListListed = (counts : Counts) (cs : List Call) → goodCounts counts ≡ true
+    → Listed Store (λ s. s) soundStore counts cs (run cs (fresh counts)) (after cs (fresh counts))

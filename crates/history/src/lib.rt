@@ -1,0 +1,1 @@
+// No functions: the crate is the theory in specs/ and proofs/.
