@@ -1,0 +1,14 @@
+pub mod Apart
+pub mod Parts
+pub mod OneTable
+pub mod OneWord
+pub mod Rooms
+pub mod Stored
+pub mod Lists
+pub mod Locks
+pub mod Turns
+pub mod Versions
+pub mod Accesses
+pub mod Refills
+pub mod Raises
+pub mod Finds

@@ -1,0 +1,103 @@
+-- The loops that drop a record's rows by a test of their entry: the invariant of `unlink_turn`'s loop, over the tables. In each, `d` is what the
+-- code's test `more` ensures and `e` how it went. Rests on Turns of `chains`.
+use Prim.Native.Nat.{ℕ, suc, _-_, _≤_, _<_}
+use mathlib.Core.Path.{_≡_, refl, sym, ap, _∙_}
+use mathlib.Core.Bool.{Bool, true, false}
+use mathlib.Core.List.{List, []}
+use native.Mathlib.Omega.{arith}
+use Rattle.chains.specs.Lists.{dropIf, pushIf}
+use Rattle.chains.specs.Walk.{IsRow, more}
+use Rattle.chains.specs.Table.{field, link, headOf, rowsOf}
+use Rattle.chains.specs.Change.{Ready, Changed, Follows, Turned}
+use Rattle.chains.proofs.Frames.{only-elsewhere, field-kept}
+use Rattle.chains.proofs.Walks.{more-out}
+use Rattle.chains.proofs.Turns.{TurnInv, turn-start, turn-ready, turn-again, turn-end}
+use Rattle.meaning.specs.declared.Lock.{Lock}
+use Rattle.meaning.specs.declared.Version.{Version}
+use Rattle.meaning.specs.declared.Counts.{Counts}
+use Rattle.tables.specs.Layout.{lockTable, lockHeads, versionTable, versionHeads, Fits, L-LOW, L-HIGH, L-MODE, V-POINT, V-VALUE, V-SPARE}
+use Rattle.tables.specs.Decode.{lockAt, versionAt}
+use Rattle.tables.specs.Words.{Well}
+use Rattle.tables.proofs.Places.{locks-laid, versions-laid}
+use Rattle.changes.proofs.OneTable.{locks-fit, versions-fit}
+use Rattle.changes.proofs.Locks.{lock-ready-back}
+use Rattle.changes.proofs.Versions.{version-ready}
+
+-- Record r's locks
+pub record LockTurns (c : Counts) (p : Lock → Bool) (w₀ : List ℕ) (r : ℕ) (w : List ℕ) (place cur left : ℕ) : Type 0 where
+  pub turns : TurnInv (lockTable c) (lockHeads c) (λ i. p (lockAt c w₀ i)) w₀ (suc r) 0 [] (rowsOf (lockTable c) (lockHeads c) w₀ (suc r)) w place cur left
+  pub well : Well c w₀
+  pub within : r < c .records
+
+pub lock-turns-start : {c : Counts} {w : List ℕ} {r cur : ℕ} (p : Lock → Bool) → Well c w → r < c .records → cur ≡ headOf (lockHeads c) w (suc r) → LockTurns c p w r w 0 cur (c .locks)
+unfolding lockTable
+lock-turns-start p W l e = record { turns = turn-start (λ i. p (lockAt _ _ i)) (lock-ready-back W l) e; well = W; within = l }
+
+module _ {c : Counts} {p : Lock → Bool} {w₀ : List ℕ} {r : ℕ} {w : List ℕ} {place cur left : ℕ} (i : LockTurns c p w₀ r w place cur left) where
+  pub lock-turns-fits : Fits c w
+  unfolding lockTable
+  lock-turns-fits = locks-fit (i .well .fits) (only-elsewhere (omega arith) (i .turns .elsewhere))
+
+  module _ {b : Bool} (d : b ≡ more (c .locks) left cur) where
+    pub lock-turns-row : b ≡ true → Fits c w × IsRow (c .locks) cur
+    lock-turns-row e = (lock-turns-fits, more-out (c .locks) left cur d e .row)
+
+    pub lock-turns-ready : b ≡ true → Fits c w × (r < c .records) × Ready (lockTable c) (lockHeads c) w (suc r) 0 × Follows (lockTable c) (lockHeads c) w (suc r) place cur
+    unfolding lockTable
+    lock-turns-ready e = let q = turn-ready (i .turns) d e in (lock-turns-fits, i .within, q .0, q .1)
+
+    -- the row's entry is as before the loop
+    lock-turns-entry : b ≡ true → lockAt c w cur ≡ lockAt c w₀ cur
+    unfolding lockAt lockTable
+    lock-turns-entry e =
+        let kept : (o : ℕ) → o < 4 → field (lockTable c) w cur o ≡ field (lockTable c) w₀ cur o = λ o h. field-kept (locks-laid (i .well .fits)) (i .turns .elsewhere) cur o (more-out (c .locks) left cur d e .row .low) (omega arith) (λ z. omega arith) in
+        rw (kept L-LOW (omega arith), kept L-HIGH (omega arith), kept L-MODE (omega arith)) refl
+
+    pub lock-turns-again : {w′ : List ℕ} {nxt place′ : ℕ} {hit : Bool} → b ≡ true → nxt ≡ link (lockTable c) w cur → hit ≡ p (lockAt c w cur) → Turned (lockTable c) (lockHeads c) w w′ (suc r) 0 place cur hit place′
+        → LockTurns c p w₀ r w′ place′ nxt (left - 1)
+    unfolding lockTable
+    lock-turns-again {hit = hit} e en k u = record { turns = turn-again (i .turns) d hit e en (k ∙ ap p (lock-turns-entry e)) u; well = i .well; within = i .within }
+
+    pub lock-turns-end : b ≡ false → Changed (lockTable c) (lockHeads c) w₀ w (suc r) 0 (dropIf (λ i. p (lockAt c w₀ i)) (rowsOf (lockTable c) (lockHeads c) w₀ (suc r)))
+        (pushIf (λ i. p (lockAt c w₀ i)) (rowsOf (lockTable c) (lockHeads c) w₀ (suc r)) (rowsOf (lockTable c) (lockHeads c) w₀ 0))
+    unfolding lockTable
+    lock-turns-end e = turn-end (i .turns) d e
+
+-- Record r's versions
+pub record VersionTurns (c : Counts) (p : Version → Bool) (w₀ : List ℕ) (r : ℕ) (w : List ℕ) (place cur left : ℕ) : Type 0 where
+  pub turns : TurnInv (versionTable c) (versionHeads c) (λ i. p (versionAt c w₀ i)) w₀ (suc r) 0 [] (rowsOf (versionTable c) (versionHeads c) w₀ (suc r)) w place cur left
+  pub well : Well c w₀
+  pub within : r < c .records
+
+pub version-turns-start : {c : Counts} {w : List ℕ} {r cur : ℕ} (p : Version → Bool) → Well c w → r < c .records → cur ≡ headOf (versionHeads c) w (suc r) → VersionTurns c p w r w 0 cur (c .versions)
+unfolding versionTable
+version-turns-start p W l e = record { turns = turn-start (λ i. p (versionAt _ _ i)) (version-ready W l) e; well = W; within = l }
+
+module _ {c : Counts} {p : Version → Bool} {w₀ : List ℕ} {r : ℕ} {w : List ℕ} {place cur left : ℕ} (i : VersionTurns c p w₀ r w place cur left) where
+  pub version-turns-fits : Fits c w
+  unfolding versionTable
+  version-turns-fits = versions-fit (i .well .fits) (only-elsewhere (omega arith) (i .turns .elsewhere))
+
+  module _ {b : Bool} (d : b ≡ more (c .versions) left cur) where
+    pub version-turns-row : b ≡ true → Fits c w × IsRow (c .versions) cur
+    version-turns-row e = (version-turns-fits, more-out (c .versions) left cur d e .row)
+
+    pub version-turns-ready : b ≡ true → Fits c w × (r < c .records) × Ready (versionTable c) (versionHeads c) w (suc r) 0 × Follows (versionTable c) (versionHeads c) w (suc r) place cur
+    unfolding versionTable
+    version-turns-ready e = let q = turn-ready (i .turns) d e in (version-turns-fits, i .within, q .0, q .1)
+
+    version-turns-entry : b ≡ true → versionAt c w cur ≡ versionAt c w₀ cur
+    unfolding versionAt versionTable
+    version-turns-entry e =
+        let kept : (o : ℕ) → o < 3 → field (versionTable c) w cur o ≡ field (versionTable c) w₀ cur o = λ o h. field-kept (versions-laid (i .well .fits)) (i .turns .elsewhere) cur o (more-out (c .versions) left cur d e .row .low) (omega arith) (λ z. omega arith) in
+        rw (kept V-POINT (omega arith), kept V-VALUE (omega arith), kept V-SPARE (omega arith)) refl
+
+    pub version-turns-again : {w′ : List ℕ} {nxt place′ : ℕ} {hit : Bool} → b ≡ true → nxt ≡ link (versionTable c) w cur → hit ≡ p (versionAt c w cur) → Turned (versionTable c) (versionHeads c) w w′ (suc r) 0 place cur hit place′
+        → VersionTurns c p w₀ r w′ place′ nxt (left - 1)
+    unfolding versionTable
+    version-turns-again {hit = hit} e en k u = record { turns = turn-again (i .turns) d hit e en (k ∙ ap p (version-turns-entry e)) u; well = i .well; within = i .within }
+
+    pub version-turns-end : b ≡ false → Changed (versionTable c) (versionHeads c) w₀ w (suc r) 0 (dropIf (λ i. p (versionAt c w₀ i)) (rowsOf (versionTable c) (versionHeads c) w₀ (suc r)))
+        (pushIf (λ i. p (versionAt c w₀ i)) (rowsOf (versionTable c) (versionHeads c) w₀ (suc r)) (rowsOf (versionTable c) (versionHeads c) w₀ 0))
+    unfolding versionTable
+    version-turns-end e = turn-end (i .turns) d e

@@ -1,0 +1,357 @@
+// The changes that the calls are made of. Each leaves the words well formed and equals a function of the decoded store; the callers prove that
+// the words are well formed (`Well`), that slots and records are in range, and that there is room, in the words of the meaning.
+ghost use mathlib.Core.Path.{_≡_};
+ghost use mathlib.Core.Bool.{true, false, not};
+ghost use mathlib.Core.List.{[], map};
+ghost use Prim.Native.Nat.{suc, _≤_, _<_};
+ghost use Rattle.chains.specs.Lists.{occ, firstOf};
+ghost use Rattle.chains.specs.Walk.{IsRow};
+ghost use Rattle.chains.specs.Table.{place};
+ghost use lib.ListN.{set};
+ghost use Rattle.chains.specs.Change.{Ready, Follows, Taken, Moved, Turned};
+ghost use Rattle.meaning.specs.Limits.{MAX-EDITS, GENERATIONS, FREE, LAST};
+ghost use Rattle.meaning.specs.Store.{withRec, recAt, editAt, isOf, names, versionsUsed, locksUsed, accessesUsed};
+ghost use Rattle.meaning.specs.Outcomes.{accessRoom};
+ghost use Rattle.meaning.specs.Points.{isOwned, addLock, leaveSettled, dropOwner, emptied, trimmed, trimTo};
+ghost use Rattle.meaning.specs.Sound.{namesOnce};
+ghost use Rattle.meaning.specs.Edits.{begun, withAccess};
+ghost use Rattle.meaning.specs.Ending.{ended, freed, insert};
+ghost use Rattle.meaning.specs.Lists.{keep};
+ghost use lib.Dec.{leb, ltb};
+ghost use Rattle.tables.specs.Layout.{MODES, L-LOW, Fits, lockTable, lockHeads, versionTable, versionHeads, accessTable, accessHeads};
+ghost use Rattle.tables.specs.Decode.{lockAt, versionAt, accessAt, accessRows, decodeAt};
+ghost use Rattle.tables.specs.Words.{Well};
+ghost use Rattle.changes.specs.Becomes.{Becomes, versionOf, withFloor, withGeneration, withAccesses, onVersions, onLocks, onEdit};
+use meaning::Access;
+use meaning::Counts;
+use meaning::Lock;
+
+const FREE: u64 = 0;
+
+const OPEN: u64 = 1;
+
+const SETTLED: u64 = 0;
+
+// Slots.
+
+pub fn set_state(w: &mut [u64], c: Counts, k: usize, state: u64, point: u64)
+    requires { ⌜ Well c (now w) × IsRow (c .edits) k ⌝ }
+    ensures { λ _. ⌜ Becomes c (now (w .exit)) (onEdit (decodeAt c (now (w .entry))) k (λ e. ended e state point)) ⌝ }
+{
+    tables::put_state(w, c, k, state);
+    tables::put_point(w, c, k, point);
+}
+
+fn set_generation(w: &mut [u64], c: Counts, k: usize, g: u64)
+    requires { ⌜ Well c (now w) × IsRow (c .edits) k ⌝ }
+    ensures { λ _. ⌜ Becomes c (now (w .exit)) (onEdit (decodeAt c (now (w .entry))) k (λ e. withGeneration e g)) ⌝ }
+{
+    tables::put_generation(w, c, k, g);
+}
+
+// Begin: a free slot is opened, with the next generation.
+pub fn open_slot(w: &mut [u64], c: Counts, k: usize)
+    requires { ⌜ Well c (now w) × IsRow (c .edits) k × (editAt (decodeAt c (now w)) k .generation < GENERATIONS) × (editAt (decodeAt c (now w)) k .accesses ≡ []) ⌝ }
+    ensures { λ _. ⌜ Becomes c (now (w .exit)) (begun (decodeAt c (now (w .entry))) k) ⌝ }
+{
+    let g = tables::generation_of(w, c, k);
+    let next = meaning::next_generation(g as u16);
+    set_generation(w, c, k, next as u64);
+    set_state(w, c, k, OPEN, 0);
+}
+
+// Records.
+
+pub fn set_floor(w: &mut [u64], c: Counts, r: usize, v: u64)
+    requires { ⌜ Well c (now w) × (r < c .records) ⌝ }
+    ensures { λ _. ⌜ Becomes c (now (w .exit)) (withRec (decodeAt c (now (w .entry))) r (withFloor (recAt (decodeAt c (now (w .entry))) r) v)) ⌝ }
+{
+    tables::put_floor(w, c, r, v);
+}
+
+// Locks.
+
+// The first free row becomes the first of record r's locks.
+fn take_lock(w: &mut [u64], c: Counts, r: usize) -> usize
+    requires { ⌜ Well c (now w) × (r < c .records) ⌝ }
+    ensures { λ q. ⌜ Taken (lockHeads c) (now (w .entry)) (now (w .exit)) 0 q (Moved (lockTable c) (lockHeads c) (now (w .entry)) (now (w .exit)) 0 (suc r) q) ⌝ }
+{
+    chains::move_first(w, tables::lock_table(c), tables::lock_heads(c), 0, r + 1)
+}
+
+pub fn add_lock(w: &mut [u64], c: Counts, r: usize, l: Lock)
+    requires { ⌜ Well c (now w) × (r < c .records) × (l .mode < MODES) × (l .owner ≤ MAX-EDITS) × (locksUsed (decodeAt c (now w)) < c .locks) ⌝ }
+    ensures { λ _. ⌜ Becomes c (now (w .exit)) (onLocks (decodeAt c (now (w .entry))) r (addLock l)) ⌝ }
+{
+    let i = take_lock(w, c, r);
+    tables::put_lock(w, c, i, r, l);
+}
+
+pub fn leave_settled(w: &mut [u64], c: Counts, r: usize, mode: u64, low: u64, high: u64)
+    requires { ⌜ Well c (now w) × (r < c .records) × (mode < MODES) × (locksUsed (decodeAt c (now w)) < c .locks) ⌝ }
+    ensures { λ _. ⌜ Becomes c (now (w .exit)) (onLocks (decodeAt c (now (w .entry))) r (leaveSettled true mode low high)) ⌝ }
+{
+    add_lock(
+        w,
+        c,
+        r,
+        Lock {
+            low,
+            high,
+            mode,
+            owner: SETTLED,
+        },
+    );
+}
+
+// One turn along record r's locks, at row i after `place`: a row that is to go is sent to the free chain. Replies the place for the next turn.
+fn unlink_lock(w: &mut [u64], c: Counts, r: usize, place: usize, i: usize, hit: bool) -> usize
+    requires { ⌜ Fits c (now w) × (r < c .records) × Ready (lockTable c) (lockHeads c) (now w) (suc r) 0 × Follows (lockTable c) (lockHeads c) (now w) (suc r) place i ⌝ }
+    ensures { λ q. ⌜ Turned (lockTable c) (lockHeads c) (now (w .entry)) (now (w .exit)) (suc r) 0 place i hit q ⌝ }
+{
+    chains::unlink_turn(
+        w,
+        tables::lock_table(c),
+        tables::lock_heads(c),
+        r + 1,
+        0,
+        place,
+        i,
+        hit,
+    )
+}
+
+fn owned_by(w: &[u64], c: Counts, i: usize, k: u64) -> bool
+    requires { ⌜ Fits c (now w) × IsRow (c .locks) i ⌝ }
+    ensures { λ q. ⌜ q ≡ isOwned k (lockAt c (now (w .entry)) i) ⌝ }
+{
+    let l = tables::lock_at(w, c, i);
+    l.owner == k
+}
+
+// The locks of owner k on record r go.
+pub fn drop_owner(w: &mut [u64], c: Counts, r: usize, k: u64)
+    requires { ⌜ Well c (now w) × (r < c .records) ⌝ }
+    ensures { λ _. ⌜ Becomes c (now (w .exit)) (onLocks (decodeAt c (now (w .entry))) r (dropOwner k)) ⌝ }
+{
+    let n = c.locks;
+    let mut place = 0;
+    let mut cur = tables::first_lock(w, c, r);
+    let mut left = n;
+    while chains::more(n, left, cur) {
+        let nxt = tables::next_lock(w, c, cur);
+        let hit = owned_by(w, c, cur, k);
+        place = unlink_lock(w, c, r, place, cur, hit);
+        cur = nxt;
+        left -= 1;
+    }
+}
+
+// Purge: settled locks lose their points up to v. First the locks go that would be left empty, then the others' low ends rise.
+
+fn is_emptied(w: &[u64], c: Counts, i: usize, v: u64) -> bool
+    requires { ⌜ Fits c (now w) × IsRow (c .locks) i ⌝ }
+    ensures { λ q. ⌜ q ≡ emptied v (lockAt c (now (w .entry)) i) ⌝ }
+{
+    let l = tables::lock_at(w, c, i);
+    if l.owner != SETTLED {
+        return false;
+    }
+    l.high <= v
+}
+
+fn drop_emptied(w: &mut [u64], c: Counts, r: usize, v: u64)
+    requires { ⌜ Well c (now w) × (r < c .records) ⌝ }
+    ensures { λ _. ⌜ Becomes c (now (w .exit)) (onLocks (decodeAt c (now (w .entry))) r (keep (λ l. not (emptied v l)))) ⌝ }
+{
+    let n = c.locks;
+    let mut place = 0;
+    let mut cur = tables::first_lock(w, c, r);
+    let mut left = n;
+    while chains::more(n, left, cur) {
+        let nxt = tables::next_lock(w, c, cur);
+        let hit = is_emptied(w, c, cur, v);
+        place = unlink_lock(w, c, r, place, cur, hit);
+        cur = nxt;
+        left -= 1;
+    }
+}
+
+fn raised_low(l: Lock, v: u64) -> u64
+    requires { ⌜ v ≤ LAST ⌝ }
+    ensures { λ q. ⌜ q ≡ trimmed v l .low ⌝ }
+{
+    if l.owner != SETTLED {
+        return l.low;
+    }
+    if v < l.low {
+        return l.low;
+    }
+    v + 1
+}
+
+fn raise_low(w: &mut [u64], c: Counts, i: usize, v: u64)
+    requires { ⌜ Fits c (now w) × IsRow (c .locks) i × (v ≤ LAST) ⌝ }
+    ensures { λ _. ⌜ now (w .exit) ≡ set (now (w .entry)) (place (lockTable c) i L-LOW) (trimmed v (lockAt c (now (w .entry)) i) .low) ⌝ }
+{
+    let l = tables::lock_at(w, c, i);
+    let low = raised_low(l, v);
+    tables::put_low(w, c, i, low);
+}
+
+fn raise_lows(w: &mut [u64], c: Counts, r: usize, v: u64)
+    requires { ⌜ Well c (now w) × (r < c .records) × (v ≤ LAST) ⌝ }
+    ensures { λ _. ⌜ Becomes c (now (w .exit)) (onLocks (decodeAt c (now (w .entry))) r (map (trimmed v))) ⌝ }
+{
+    let n = c.locks;
+    let mut cur = tables::first_lock(w, c, r);
+    let mut left = n;
+    while chains::more(n, left, cur) {
+        let nxt = tables::next_lock(w, c, cur);
+        raise_low(w, c, cur, v);
+        cur = nxt;
+        left -= 1;
+    }
+}
+
+pub fn trim_locks(w: &mut [u64], c: Counts, r: usize, v: u64)
+    requires { ⌜ Well c (now w) × (r < c .records) × (v ≤ LAST) ⌝ }
+    ensures { λ _. ⌜ Becomes c (now (w .exit)) (onLocks (decodeAt c (now (w .entry))) r (trimTo v)) ⌝ }
+{
+    drop_emptied(w, c, r, v);
+    raise_lows(w, c, r, v);
+}
+
+// Versions.
+
+pub fn add_version(w: &mut [u64], c: Counts, r: usize, point: u64, value: u64)
+    requires { ⌜ Well c (now w) × (r < c .records) × (1 ≤ point) × (versionsUsed (decodeAt c (now w)) < c .versions) ⌝ }
+    ensures { λ _. ⌜ Becomes c (now (w .exit)) (onVersions (decodeAt c (now (w .entry))) r (insert (versionOf point value))) ⌝ }
+{
+    let i = tables::insert_version(w, c, r, point - 1);
+    tables::put_version(w, c, i, point, value);
+}
+
+fn unlink_version(w: &mut [u64], c: Counts, r: usize, place: usize, i: usize, hit: bool) -> usize
+    requires { ⌜ Fits c (now w) × (r < c .records) × Ready (versionTable c) (versionHeads c) (now w) (suc r) 0 × Follows (versionTable c) (versionHeads c) (now w) (suc r) place i ⌝ }
+    ensures { λ q. ⌜ Turned (versionTable c) (versionHeads c) (now (w .entry)) (now (w .exit)) (suc r) 0 place i hit q ⌝ }
+{
+    chains::unlink_turn(
+        w,
+        tables::version_table(c),
+        tables::version_heads(c),
+        r + 1,
+        0,
+        place,
+        i,
+        hit,
+    )
+}
+
+fn is_below(w: &[u64], c: Counts, i: usize, v: u64) -> bool
+    requires { ⌜ Fits c (now w) × IsRow (c .versions) i ⌝ }
+    ensures { λ q. ⌜ q ≡ ltb (versionAt c (now (w .entry)) i .point) v ⌝ }
+{
+    let x = tables::version_at(w, c, i);
+    x.point < v
+}
+
+// The versions of record r below v go.
+pub fn cut_versions(w: &mut [u64], c: Counts, r: usize, v: u64)
+    requires { ⌜ Well c (now w) × (r < c .records) ⌝ }
+    ensures { λ _. ⌜ Becomes c (now (w .exit)) (onVersions (decodeAt c (now (w .entry))) r (keep (λ x. leb v (x .point)))) ⌝ }
+{
+    let n = c.versions;
+    let mut place = 0;
+    let mut cur = tables::first_version(w, c, r);
+    let mut left = n;
+    while chains::more(n, left, cur) {
+        let nxt = tables::next_version(w, c, cur);
+        let hit = is_below(w, c, cur, v);
+        place = unlink_version(w, c, r, place, cur, hit);
+        cur = nxt;
+        left -= 1;
+    }
+}
+
+// Accesses.
+
+// The first free row becomes the first of slot k's accesses.
+fn take_access(w: &mut [u64], c: Counts, k: usize) -> usize
+    requires { ⌜ Well c (now w) × IsRow (c .edits) k ⌝ }
+    ensures { λ q. ⌜ Taken (accessHeads c) (now (w .entry)) (now (w .exit)) 0 q (Moved (accessTable c) (accessHeads c) (now (w .entry)) (now (w .exit)) 0 k q) ⌝ }
+{
+    chains::move_first(w, tables::access_table(c), tables::access_heads(c), 0, k)
+}
+
+// An access of a record that the edit does not name.
+pub fn add_access(w: &mut [u64], c: Counts, k: usize, a: Access)
+    requires { ⌜ Well c (now w) × IsRow (c .edits) k × (names (editAt (decodeAt c (now w)) k) (a .rec) ≡ false) × (accessesUsed (decodeAt c (now w)) < c .accesses) ⌝ }
+    ensures { λ _. ⌜ Becomes c (now (w .exit)) (onEdit (decodeAt c (now (w .entry))) k (λ e. withAccess e a)) ⌝ }
+{
+    let i = take_access(w, c, k);
+    tables::put_access(w, c, i, a);
+}
+
+// An access of the record that row i, one of slot k's, names.
+pub fn change_access(w: &mut [u64], c: Counts, k: usize, i: usize, a: Access)
+    requires { ⌜ Well c (now w) × IsRow (c .edits) k × (1 ≤ occ i (accessRows c (now w) k)) × (accessAt c (now w) i .rec ≡ a .rec) × (namesOnce (editAt (decodeAt c (now w)) k) ≡ true) ⌝ }
+    ensures { λ _. ⌜ Becomes c (now (w .exit)) (onEdit (decodeAt c (now (w .entry))) k (λ e. withAccess e a)) ⌝ }
+{
+    tables::put_access(w, c, i, a);
+}
+
+fn names_record(w: &[u64], c: Counts, i: usize, r: u64) -> bool
+    requires { ⌜ Fits c (now w) × IsRow (c .accesses) i ⌝ }
+    ensures { λ q. ⌜ q ≡ isOf r (accessAt c (now (w .entry)) i) ⌝ }
+{
+    let a = tables::access_at(w, c, i);
+    a.rec == r
+}
+
+// The row of slot k's access of record r, or 0 where it has none.
+pub fn access_row(w: &[u64], c: Counts, k: usize, r: u64) -> usize
+    requires { ⌜ Fits c (now w) × IsRow (c .edits) k ⌝ }
+    ensures { λ q. ⌜ q ≡ firstOf (λ i. isOf r (accessAt c (now (w .entry)) i)) (accessRows c (now (w .entry)) k) ⌝ }
+{
+    let n = c.accesses;
+    let mut cur = tables::first_access(w, c, k);
+    let mut left = n;
+    while chains::more(n, left, cur) {
+        if names_record(w, c, cur, r) {
+            return cur;
+        }
+        cur = tables::next_access(w, c, cur);
+        left -= 1;
+    }
+    0
+}
+
+// The access takes the place of the edit's access of that record, or stands first where it has none.
+pub fn set_access(w: &mut [u64], c: Counts, k: usize, a: Access)
+    requires { ⌜ Well c (now w) × IsRow (c .edits) k × (namesOnce (editAt (decodeAt c (now w)) k) ≡ true) × (accessRoom (decodeAt c (now w)) k (a .rec) ≡ true) ⌝ }
+    ensures { λ _. ⌜ Becomes c (now (w .exit)) (onEdit (decodeAt c (now (w .entry))) k (λ e. withAccess e a)) ⌝ }
+{
+    let i = access_row(w, c, k, a.rec);
+    if i == 0 {
+        add_access(w, c, k, a);
+    } else {
+        change_access(w, c, k, i, a);
+    }
+}
+
+fn empty_accesses(w: &mut [u64], c: Counts, k: usize)
+    requires { ⌜ Well c (now w) × IsRow (c .edits) k ⌝ }
+    ensures { λ _. ⌜ Becomes c (now (w .exit)) (onEdit (decodeAt c (now (w .entry))) k (λ e. withAccesses e [])) ⌝ }
+{
+    chains::empty_after(w, tables::access_table(c), tables::access_heads(c), k, 0, 0);
+}
+
+// The slot is free, without accesses; its generation stays.
+pub fn free_slot(w: &mut [u64], c: Counts, k: usize)
+    requires { ⌜ Well c (now w) × IsRow (c .edits) k ⌝ }
+    ensures { λ _. ⌜ Becomes c (now (w .exit)) (onEdit (decodeAt c (now (w .entry))) k freed) ⌝ }
+{
+    empty_accesses(w, c, k);
+    set_state(w, c, k, FREE, 0);
+}

@@ -1,0 +1,9 @@
+pub mod Slots
+pub mod Found
+pub mod Extremes
+pub mod Free
+pub mod Judged
+pub mod Fronts
+pub mod Common
+pub mod Reach
+pub mod Lifts

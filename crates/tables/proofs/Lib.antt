@@ -1,0 +1,9 @@
+-- Laws of the tables. Callers rest on Loops (where a loop over a chain starts, and its four kinds), Decoded (parts of the decoded store), Builds
+-- (tests over all records or slots) and Bridge (`formed` and `Well`).
+pub mod Header
+pub mod Places
+pub mod Builds
+pub mod Decoded
+pub mod Loops
+pub mod Bridge
+pub mod Lengths

@@ -1,0 +1,15 @@
+-- `tables::reads::point_of` meets its contract.
+use Rattle.tables.specs.Decode.{slotAt}
+use borrow.Author.Needs.{needs}
+use Rattle.tables.proofs.reads.point_of.Statement.{statement}
+use Rattle.tables.proofs.reads.point_of.Tie as tie
+
+slot-word-requires : tie.Need-slot-word-requires
+slot-word-requires c κs = search needs
+
+returns : tie.Need-returns
+unfolding slotAt
+returns c = c .slot-word .ensures
+
+pub point-of-spec : {M : Type 1} → statement M
+point-of-spec = tie.close (tie.spec slot-word-requires returns)

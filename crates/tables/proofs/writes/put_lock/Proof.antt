@@ -1,0 +1,46 @@
+-- `tables::writes::put_lock` meets its contract.
+use mathlib.Core.Path.{refl}
+use native.Mathlib.Omega.{arith}
+use Rattle.tables.specs.Rows.{lockStored}
+use Rattle.tables.proofs.Places
+use borrow.Author.Needs.{needs}
+use Rattle.tables.proofs.writes.put_lock.Statement.{statement}
+use Rattle.tables.proofs.writes.put_lock.Tie as tie
+
+lock-tag-requires : tie.Need-lock-tag-requires
+lock-tag-requires c κs = search needs
+
+set-lock-word-requires : tie.Need-set-lock-word-requires
+set-lock-word-requires c κs = search needs
+
+set-lock-word-requires-2 : tie.Need-set-lock-word-requires-2
+set-lock-word-requires-2 c κs = (Places.lock-fits _ _ _ (c .before .before .before .before .before .before .before .pre .0) (c .before .before .before .set-lock-word .ensures), c .before .before .before .before .before .before .before .pre .1, omega arith)
+
+set-lock-word-requires-3 : tie.Need-set-lock-word-requires-3
+set-lock-word-requires-3 c κs = (Places.lock-fits _ _ _ (Places.lock-fits _ _ _ (c .before .before .before .before .before .before .before .before .before .before .before .pre .0) (c .before .before .before .before .before .before .before .set-lock-word .ensures)) (c .before .before .before .set-lock-word2 .ensures), c .before .before .before .before .before .before .before .before .before .before .before .pre .1, omega arith)
+
+word-requires : tie.Need-word-requires
+word-requires c κs = search needs
+
+set-lock-word-requires-4 : tie.Need-set-lock-word-requires-4
+set-lock-word-requires-4 c κs = (Places.lock-fits _ _ _ (Places.lock-fits _ _ _ (Places.lock-fits _ _ _ (c .before .before .before .before .before .before .before .before .before .before .before .before .before .before .before .before .pre .0) (c .before .before .before .before .before .before .before .before .before .before .before .before .set-lock-word .ensures)) (c .before .before .before .before .before .before .before .before .set-lock-word2 .ensures)) (c .before .before .before .before .set-lock-word3 .ensures), c .before .before .before .before .before .before .before .before .before .before .before .before .before .before .before .before .pre .1, omega arith)
+
+same-length : tie.Need-same-length
+same-length c = search needs
+
+returns : tie.Need-returns
+unfolding lockStored
+returns c = rw (c .before .before .set-lock-word4 .ensures, c .before .before .before .before .before .before .before .set-lock-word3 .ensures, c .before .before .before .before .before .before .before .before .before .before .before .set-lock-word2 .ensures, c .before .before .before .before .before .before .before .before .before .before .before .before .before .before .before .set-lock-word .ensures, c .before .before .before .before .before .before .before .before .before .before .before .before .before .before .before .before .before .lock-tag .ensures, c .before .before .before .word .ensures) refl
+
+pub put-lock-spec : {M : Type 1} → statement M
+put-lock-spec =
+    tie.close
+    (tie.spec
+    lock-tag-requires
+    set-lock-word-requires
+    set-lock-word-requires-2
+    set-lock-word-requires-3
+    word-requires
+    set-lock-word-requires-4
+    same-length
+    returns)

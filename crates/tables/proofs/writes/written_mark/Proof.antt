@@ -1,0 +1,16 @@
+-- `tables::writes::written_mark` meets its contract.
+use mathlib.Core.Path.{refl}
+use Rattle.tables.specs.Rows.{writtenMark}
+use Rattle.tables.proofs.writes.written_mark.Statement.{statement}
+use Rattle.tables.proofs.writes.written_mark.Tie as tie
+
+returns : tie.Need-returns
+unfolding writtenMark
+returns c = rw (c .if1 .taken) refl
+
+returns-2 : tie.Need-returns-2
+unfolding writtenMark
+returns-2 c = rw (c .if1 .left) refl
+
+pub written-mark-spec : {M : Type 1} → statement M
+written-mark-spec = tie.close (tie.spec returns returns-2)
