@@ -1,0 +1,82 @@
+-- The clauses of soundness in the order in which the check tests them: those of one lock, of one access, and two that go along a chain.
+-- The laws that these are the clauses of document 01 are in proofs/. Rests on specs/Sound of the crate `meaning`.
+use Prim.Native.Nat.{ℕ, suc, _≤_}
+use mathlib.Core.Path.{_≡_}
+use mathlib.Core.Bool.{Bool, true, false, not, _&&_, _||_}
+use mathlib.Core.List.{List, [], _∷_}
+use lib.ListN.{length, getD, set}
+use lib.Dec.{leb, ltb, eqb}
+use Rattle.meaning.specs.Lists.{any, allFrom}
+use Rattle.meaning.specs.Limits.{LAST, READ, WRITE, SETTLED}
+use Rattle.meaning.specs.Store.{Rec, Edit, recOf, inUse, hasRead}
+use Rattle.meaning.specs.declared.Version.{Version}
+use Rattle.meaning.specs.declared.Lock.{Lock}
+use Rattle.meaning.specs.declared.Access.{Access}
+use Rattle.meaning.specs.Points.{isOwned}
+use Rattle.meaning.specs.Sound.{backs, isPresent, startsRead, stateListed, generationListed, pointListed, freeIdle, soundRec, soundEdit}
+use Rattle.meaning.specs.declared.Counts.{Counts}
+use Rattle.tables.specs.Decode.{recordsOf, editsOf}
+
+-- one lock of a record with this floor: its mode, its span and its owner
+abbrev pub modeListed : Lock → Bool
+modeListed l = eqb (l .mode) READ || eqb (l .mode) WRITE
+
+abbrev pub spanLies : ℕ → Lock → Bool
+spanLies floor l = ltb floor (l .low) && (leb (l .low) (l .high) && leb (l .high) LAST)
+
+abbrev pub ownerUsed : List Edit → Lock → Bool
+ownerUsed es l = isOwned SETTLED l || inUse es (l .owner)
+
+unfoldable pub lockSound : List Edit → ℕ → Lock → Bool
+lockSound es floor l = spanLies floor l && (modeListed l && ownerUsed es l)
+
+-- a version's point lies below the one before it, at or above the floor, and is not 0
+unfoldable pub fallsBelow : ℕ → ℕ → ℕ → Bool
+fallsBelow floor top p = ltb p top && (leb floor p && ltb 0 p)
+
+-- the versions from here on, after one at top: each falls, and the last stands at the floor if that is above 0
+abbrev pub endsOn : ℕ → ℕ → Bool
+endsOn floor top = eqb floor 0 || eqb top floor
+
+unfoldable pub fallsTo : ℕ → ℕ → List Version → Bool
+fallsTo floor top [] = endsOn floor top
+fallsTo floor top (v ∷ vs) = fallsBelow floor top (v .point) && fallsTo floor (v .point) vs
+
+unfoldable pub versionsSound : Rec → Bool
+versionsSound x = leb (x .floor) LAST && fallsTo (x .floor) (suc LAST) (x .versions)
+
+-- a version at or below the floor, or with a lock that backs it
+unfoldable pub isBacked : List Edit → ℕ → Rec → Version → Bool
+isBacked es r x v = leb (v .point) (x .floor) || any (backs es r (v .point)) (x .locks)
+
+-- the version stands just before `from`, the point read + 1
+abbrev pub standsBefore : ℕ → Version → Bool
+standsBefore from v = eqb (suc (v .point)) from
+
+-- a record read: its read lock, then the version
+unfoldable pub readSound : List Rec → ℕ → Access → Bool
+readSound rs k a =
+    not (hasRead a) || any (startsRead k (a .from)) (recOf rs (a .rec) .locks) && isPresent (recOf rs (a .rec)) (a .from)
+
+-- the accesses of slot k from here on: each names a record that exists and has no stamp k yet, and its read is in order
+unfoldable pub accessesSound : List Rec → ℕ → List ℕ → List Access → Bool
+accessesSound rs k m [] = true
+accessesSound rs k m (a ∷ rest) =
+    ltb (a .rec) (length rs)
+    && (not (eqb (getD m (a .rec) 0) k) && (readSound rs k a && accessesSound rs k (set m (a .rec) k) rest))
+
+-- the words of a slot
+unfoldable pub slotListed : Edit → Bool
+slotListed e = stateListed e && (generationListed e && (pointListed e && freeIdle e))
+
+-- one stamp for each record, none above k
+pub record Stamps (k : ℕ) (m : List ℕ) : Type 0 where
+  pub size : length m ≡ 1024
+  pub upto : (i : ℕ) → getD m i 0 ≤ k
+
+-- all records, and all slots
+unfoldable pub recordsSound : Counts → List ℕ → Bool
+recordsSound c w = allFrom 0 (soundRec (editsOf c w)) (recordsOf c w)
+
+unfoldable pub slotsSound : Counts → List ℕ → Bool
+slotsSound c w = allFrom 1 (soundEdit (recordsOf c w)) (editsOf c w)
