@@ -27,7 +27,7 @@ use Rattle.tables.proofs.Decoded.{edit-at}
 use Rattle.changes.specs.Becomes.{Becomes, withAccesses}
 use Rattle.changes.proofs.Parts.{all-same}
 use Rattle.changes.proofs.OneTable.{accesses-become, accesses-fit}
-use Rattle.changes.proofs.Rooms.{free-access}
+use Rattle.tables.proofs.Rooms.{free-access}
 use Rattle.changes.proofs.Stored.{access-stored-at, access-stored-marked, access-filled, access-rest}
 use Rattle.changes.proofs.Lists.{all-pushed}
 

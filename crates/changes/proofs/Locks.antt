@@ -28,7 +28,7 @@ use Rattle.tables.proofs.Decoded.{rec-at}
 use Rattle.changes.specs.Becomes.{Becomes}
 use Rattle.changes.proofs.Parts.{all-same}
 use Rattle.changes.proofs.OneTable.{locks-become, locks-fit}
-use Rattle.changes.proofs.Rooms.{free-lock}
+use Rattle.tables.proofs.Rooms.{free-lock}
 use Rattle.changes.proofs.Stored.{lock-stored-at, lock-stored-record, lock-filled, lock-rest}
 use Rattle.changes.proofs.Lists.{all-pushed, all-dropped, occ-drop}
 

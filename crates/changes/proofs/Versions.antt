@@ -26,7 +26,7 @@ use Rattle.tables.proofs.Places.{versions-laid}
 use Rattle.tables.proofs.Decoded.{rec-at}
 use Rattle.changes.specs.Becomes.{Becomes, withVersions, versionOf}
 use Rattle.changes.proofs.OneTable.{versions-become, versions-fit}
-use Rattle.changes.proofs.Rooms.{free-version}
+use Rattle.tables.proofs.Rooms.{free-version}
 use Rattle.changes.proofs.Stored.{version-stored-at, version-filled, version-rest}
 use Rattle.changes.proofs.Lists.{occ-drop, insert-after}
 

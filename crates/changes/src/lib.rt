@@ -24,16 +24,14 @@ ghost use Rattle.tables.specs.Words.{Well};
 ghost use Rattle.changes.specs.Becomes.{Becomes, versionOf, withFloor, withGeneration, withAccesses, onVersions, onLocks, onEdit};
 use meaning::Access;
 use meaning::Counts;
+use meaning::FREE;
 use meaning::Lock;
-
-const FREE: u64 = 0;
-
-const OPEN: u64 = 1;
-
-const SETTLED: u64 = 0;
+use meaning::OPEN;
+use meaning::SETTLED;
 
 // Slots.
 
+// The slot's state and commit point.
 pub fn set_state(w: &mut [u64], c: Counts, k: usize, state: u64, point: u64)
     requires { ⌜ Well c (now w) × IsRow (c .edits) k ⌝ }
     ensures { λ _. ⌜ Becomes c (now (w .exit)) (onEdit (decodeAt c (now (w .entry))) k (λ e. ended e state point)) ⌝ }
@@ -42,6 +40,7 @@ pub fn set_state(w: &mut [u64], c: Counts, k: usize, state: u64, point: u64)
     tables::put_point(w, c, k, point);
 }
 
+// The slot's generation.
 fn set_generation(w: &mut [u64], c: Counts, k: usize, g: u64)
     requires { ⌜ Well c (now w) × IsRow (c .edits) k ⌝ }
     ensures { λ _. ⌜ Becomes c (now (w .exit)) (onEdit (decodeAt c (now (w .entry))) k (λ e. withGeneration e g)) ⌝ }
@@ -62,6 +61,7 @@ pub fn open_slot(w: &mut [u64], c: Counts, k: usize)
 
 // Records.
 
+// The record's floor.
 pub fn set_floor(w: &mut [u64], c: Counts, r: usize, v: u64)
     requires { ⌜ Well c (now w) × (r < c .records) ⌝ }
     ensures { λ _. ⌜ Becomes c (now (w .exit)) (withRec (decodeAt c (now (w .entry))) r (withFloor (recAt (decodeAt c (now (w .entry))) r) v)) ⌝ }
@@ -79,6 +79,7 @@ fn take_lock(w: &mut [u64], c: Counts, r: usize) -> usize
     chains::move_first(w, tables::lock_table(c), tables::lock_heads(c), 0, r + 1)
 }
 
+// A lock more on record r, the first of its chain.
 pub fn add_lock(w: &mut [u64], c: Counts, r: usize, l: Lock)
     requires { ⌜ Well c (now w) × (r < c .records) × (l .mode < MODES) × (l .owner ≤ MAX-EDITS) × (locksUsed (decodeAt c (now w)) < c .locks) ⌝ }
     ensures { λ _. ⌜ Becomes c (now (w .exit)) (onLocks (decodeAt c (now (w .entry))) r (addLock l)) ⌝ }
@@ -87,6 +88,7 @@ pub fn add_lock(w: &mut [u64], c: Counts, r: usize, l: Lock)
     tables::put_lock(w, c, i, r, l);
 }
 
+// A settled lock more on record r.
 pub fn leave_settled(w: &mut [u64], c: Counts, r: usize, mode: u64, low: u64, high: u64)
     requires { ⌜ Well c (now w) × (r < c .records) × (mode < MODES) × (locksUsed (decodeAt c (now w)) < c .locks) ⌝ }
     ensures { λ _. ⌜ Becomes c (now (w .exit)) (onLocks (decodeAt c (now (w .entry))) r (leaveSettled true mode low high)) ⌝ }
@@ -121,6 +123,7 @@ fn unlink_lock(w: &mut [u64], c: Counts, r: usize, place: usize, i: usize, hit: 
     )
 }
 
+// Whether lock row i is of owner k.
 fn owned_by(w: &[u64], c: Counts, i: usize, k: u64) -> bool
     requires { ⌜ Fits c (now w) × IsRow (c .locks) i ⌝ }
     ensures { λ q. ⌜ q ≡ isOwned k (lockAt c (now (w .entry)) i) ⌝ }
@@ -149,6 +152,7 @@ pub fn drop_owner(w: &mut [u64], c: Counts, r: usize, k: u64)
 
 // Purge: settled locks lose their points up to v. First the locks go that would be left empty, then the others' low ends rise.
 
+// Whether lock row i would be left empty.
 fn is_emptied(w: &[u64], c: Counts, i: usize, v: u64) -> bool
     requires { ⌜ Fits c (now w) × IsRow (c .locks) i ⌝ }
     ensures { λ q. ⌜ q ≡ emptied v (lockAt c (now (w .entry)) i) ⌝ }
@@ -160,6 +164,7 @@ fn is_emptied(w: &[u64], c: Counts, i: usize, v: u64) -> bool
     l.high <= v
 }
 
+// Those rows go.
 fn drop_emptied(w: &mut [u64], c: Counts, r: usize, v: u64)
     requires { ⌜ Well c (now w) × (r < c .records) ⌝ }
     ensures { λ _. ⌜ Becomes c (now (w .exit)) (onLocks (decodeAt c (now (w .entry))) r (keep (λ l. not (emptied v l)))) ⌝ }
@@ -177,6 +182,7 @@ fn drop_emptied(w: &mut [u64], c: Counts, r: usize, v: u64)
     }
 }
 
+// The low end that a lock is left with.
 fn raised_low(l: Lock, v: u64) -> u64
     requires { ⌜ v ≤ LAST ⌝ }
     ensures { λ q. ⌜ q ≡ trimmed v l .low ⌝ }
@@ -190,6 +196,7 @@ fn raised_low(l: Lock, v: u64) -> u64
     v + 1
 }
 
+// The same of lock row i, and of every row of record r's chain.
 fn raise_low(w: &mut [u64], c: Counts, i: usize, v: u64)
     requires { ⌜ Fits c (now w) × IsRow (c .locks) i × (v ≤ LAST) ⌝ }
     ensures { λ _. ⌜ now (w .exit) ≡ set (now (w .entry)) (place (lockTable c) i L-LOW) (trimmed v (lockAt c (now (w .entry)) i) .low) ⌝ }
@@ -214,6 +221,7 @@ fn raise_lows(w: &mut [u64], c: Counts, r: usize, v: u64)
     }
 }
 
+// Settled locks of record r lose their points up to v.
 pub fn trim_locks(w: &mut [u64], c: Counts, r: usize, v: u64)
     requires { ⌜ Well c (now w) × (r < c .records) × (v ≤ LAST) ⌝ }
     ensures { λ _. ⌜ Becomes c (now (w .exit)) (onLocks (decodeAt c (now (w .entry))) r (trimTo v)) ⌝ }
@@ -224,6 +232,7 @@ pub fn trim_locks(w: &mut [u64], c: Counts, r: usize, v: u64)
 
 // Versions.
 
+// A version more on record r, where its point belongs.
 pub fn add_version(w: &mut [u64], c: Counts, r: usize, point: u64, value: u64)
     requires { ⌜ Well c (now w) × (r < c .records) × (1 ≤ point) × (versionsUsed (decodeAt c (now w)) < c .versions) ⌝ }
     ensures { λ _. ⌜ Becomes c (now (w .exit)) (onVersions (decodeAt c (now (w .entry))) r (insert (versionOf point value))) ⌝ }
@@ -232,6 +241,7 @@ pub fn add_version(w: &mut [u64], c: Counts, r: usize, point: u64, value: u64)
     tables::put_version(w, c, i, point, value);
 }
 
+// One turn along record r's versions, as `unlink_lock`.
 fn unlink_version(w: &mut [u64], c: Counts, r: usize, place: usize, i: usize, hit: bool) -> usize
     requires { ⌜ Fits c (now w) × (r < c .records) × Ready (versionTable c) (versionHeads c) (now w) (suc r) 0 × Follows (versionTable c) (versionHeads c) (now w) (suc r) place i ⌝ }
     ensures { λ q. ⌜ Turned (versionTable c) (versionHeads c) (now (w .entry)) (now (w .exit)) (suc r) 0 place i hit q ⌝ }
@@ -248,6 +258,7 @@ fn unlink_version(w: &mut [u64], c: Counts, r: usize, place: usize, i: usize, hi
     )
 }
 
+// Whether version row i is below v.
 fn is_below(w: &[u64], c: Counts, i: usize, v: u64) -> bool
     requires { ⌜ Fits c (now w) × IsRow (c .versions) i ⌝ }
     ensures { λ q. ⌜ q ≡ ltb (versionAt c (now (w .entry)) i .point) v ⌝ }
@@ -301,6 +312,7 @@ pub fn change_access(w: &mut [u64], c: Counts, k: usize, i: usize, a: Access)
     tables::put_access(w, c, i, a);
 }
 
+// Whether access row i names record r.
 fn names_record(w: &[u64], c: Counts, i: usize, r: u64) -> bool
     requires { ⌜ Fits c (now w) × IsRow (c .accesses) i ⌝ }
     ensures { λ q. ⌜ q ≡ isOf r (accessAt c (now (w .entry)) i) ⌝ }
@@ -340,6 +352,7 @@ pub fn set_access(w: &mut [u64], c: Counts, k: usize, a: Access)
     }
 }
 
+// All of slot k's access rows become free.
 fn empty_accesses(w: &mut [u64], c: Counts, k: usize)
     requires { ⌜ Well c (now w) × IsRow (c .edits) k ⌝ }
     ensures { λ _. ⌜ Becomes c (now (w .exit)) (onEdit (decodeAt c (now (w .entry))) k (λ e. withAccesses e [])) ⌝ }

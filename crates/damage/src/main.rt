@@ -43,132 +43,60 @@ fn damage(state: [u64; 122], i: usize, v: u64, text: &[u8]) {
 
 // A store of 2 records, 3 edits, 4 versions, 8 locks and 8 accesses: 122 words. Record 0 has versions 9, 7 and 5, which is its floor; record 1 has
 // version 3. Edit 1 read record 0 at 7, wrote it and committed at 9; edit 2 read record 1 at 0 and committed at 1; edit 3 is open and has written
-// record 1. The words of the free access rows 6 to 8 are as Format left them.
-fn sound_state() -> [u64; 122] {
-    [
-        2,
-        3,
-        4,
-        8,
-        8,
-        0,
-        0,
-        5,
-        1,
-        1,
-        5,
-        4,
-        5,
-        0,
-        2,
-        1,
-        1,
-        9,
-        2,
-        3,
-        2,
-        1,
-        1,
-        0,
-        4,
-        0,
-        9,
-        42,
-        0,
-        2,
-        7,
-        501,
-        0,
-        3,
-        5,
-        500,
-        0,
-        0,
-        3,
-        7,
-        0,
-        0,
-        9,
-        9,
-        6,
-        0,
-        2,
-        8,
-        9,
-        5,
-        0,
-        3,
-        7,
-        7,
-        2,
-        0,
-        4,
-        6,
-        7,
-        1,
-        0,
-        6,
-        1,
-        2,
-        9,
-        1,
-        7,
-        9,
-        9,
-        5,
-        0,
-        0,
-        3,
-        3,
-        2,
-        1,
-        8,
-        20,
-        30,
-        1,
-        1,
-        0,
-        0,
-        8,
-        1,
-        42,
-        0,
-        1,
-        1,
-        0,
-        0,
-        3,
-        0,
-        0,
-        0,
-        0,
-        0,
-        1,
-        0,
-        1,
-        5,
-        0,
-        0,
-        0,
-        0,
-        0,
-        6,
-        0,
-        0,
-        0,
-        0,
-        7,
-        0,
-        0,
-        0,
-        0,
-        8,
-        0,
-        0,
-        0,
-        0,
-        0,
-    ]
+// record 1. The free access rows 5 to 8 are as Format left them.
+
+fn row4(state: [u64; 122], at: usize, a: u64, b: u64, c: u64, d: u64) -> [u64; 122] {
+    let mut w = state;
+    if at < 118 {
+        w[at] = a;
+        w[at + 1] = b;
+        w[at + 2] = c;
+        w[at + 3] = d;
+    }
+    w
+}
+
+fn row5(state: [u64; 122], at: usize, a: u64, b: u64, c: u64, d: u64, e: u64) -> [u64; 122] {
+    let mut w = state;
+    if at < 118 {
+        w[at] = a;
+        w[at + 1] = b;
+        w[at + 2] = c;
+        w[at + 3] = d;
+        w[at + 4] = e;
+    }
+    w
+}
+
+// The free chains, the records, the edit slots and the versions.
+fn with_versions(state: [u64; 122]) -> [u64; 122] {
+    let w = row4(state, 4, 8, 0, 0, 5);
+    let w = row5(w, 8, 1, 1, 5, 4, 5);
+    let w = row4(w, 14, 2, 1, 1, 9);
+    let w = row4(w, 18, 2, 3, 2, 1);
+    let w = row4(w, 22, 1, 0, 4, 0);
+    let w = row4(w, 26, 9, 42, 0, 2);
+    let w = row4(w, 30, 7, 501, 0, 3);
+    let w = row4(w, 34, 5, 500, 0, 0);
+    row4(w, 38, 3, 7, 0, 0)
+}
+
+fn with_locks(state: [u64; 122]) -> [u64; 122] {
+    let w = row5(state, 42, 9, 9, 6, 0, 2);
+    let w = row5(w, 47, 8, 9, 5, 0, 3);
+    let w = row5(w, 52, 7, 7, 2, 0, 4);
+    let w = row5(w, 57, 6, 7, 1, 0, 6);
+    let w = row5(w, 62, 1, 2, 9, 1, 7);
+    let w = row5(w, 67, 9, 9, 5, 0, 0);
+    let w = row5(w, 72, 3, 3, 2, 1, 8);
+    row5(w, 77, 20, 30, 1, 1, 0)
+}
+
+fn with_accesses(state: [u64; 122]) -> [u64; 122] {
+    let w = row5(state, 82, 0, 8, 1, 42, 0);
+    let w = row5(w, 87, 1, 1, 0, 0, 3);
+    let w = row5(w, 92, 0, 0, 0, 0, 0);
+    row5(w, 97, 1, 0, 1, 5, 0)
 }
 
 fn damage_words(w: [u64; 122]) {
@@ -240,58 +168,46 @@ fn damage_nothing(w: [u64; 122]) {
     damage(w, 90, 5, b"a value of an unwritten access\n");
 }
 
-fn main() {
+fn counts(records: usize, edits: usize, versions: usize, locks: usize, accesses: usize) -> Counts {
+    Counts {
+        records,
+        edits,
+        versions,
+        locks,
+        accesses,
+    }
+}
+
+fn format_stores() {
     let mut small = [7u64; 118];
+    lay_out(&mut small, counts(2, 2, 4, 8, 8), b"store 2 2 4 8 8\n");
     lay_out(
         &mut small,
-        Counts {
-            records: 2,
-            edits: 2,
-            versions: 4,
-            locks: 8,
-            accesses: 8,
-        },
-        b"store 2 2 4 8 8\n",
-    );
-    lay_out(
-        &mut small,
-        Counts {
-            records: 0,
-            edits: 2,
-            versions: 4,
-            locks: 8,
-            accesses: 8,
-        },
+        counts(0, 2, 4, 8, 8),
         b"store 0 2 4 8 8 is refused and changes nothing\n",
     );
     lay_out(
         &mut small,
-        Counts {
-            records: 2,
-            edits: 2,
-            versions: 4,
-            locks: 8,
-            accesses: 7,
-        },
+        counts(2, 2, 4, 8, 7),
         b"store 2 2 4 8 7 has another length\n",
     );
     let mut large = [7u64; 60662];
     lay_out(
         &mut large,
-        Counts {
-            records: 1024,
-            edits: 63,
-            versions: 4095,
-            locks: 4095,
-            accesses: 4095,
-        },
+        counts(1024, 63, 4095, 4095, 4095),
         b"the largest store\n",
     );
-    let words = sound_state();
-    damage(words, 0, 2, b"the state as it is\n");
-    damage_words(words);
-    damage_slots(words);
-    damage_versions(words);
-    damage_locks(words);
-    damage_nothing(words);
+}
+
+fn main() {
+    format_stores();
+    let mut words = [7u64; 122];
+    lay_out(&mut words, counts(2, 3, 4, 8, 8), b"store 2 3 4 8 8\n");
+    let state = with_accesses(with_locks(with_versions(words)));
+    damage(state, 0, 2, b"the state as it is\n");
+    damage_words(state);
+    damage_slots(state);
+    damage_versions(state);
+    damage_locks(state);
+    damage_nothing(state);
 }

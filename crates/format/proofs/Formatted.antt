@@ -1,27 +1,27 @@
 -- Formatted words are well formed, mean the fresh store, and are sound. Rests on Links and on fresh-is-sound of the crate `meaning`.
 use Prim.Native.Nat.{ℕ, zero, suc, _+_, _-_, _*_, _≤_, _<_}
-use mathlib.Core.Path.{_≡_, refl, sym, ap, _∙_}
-use mathlib.Core.Bool.{Bool, true, false}
-use mathlib.Core.List.{List, [], _∷_, _++_, map}
+use mathlib.Core.Path.{_≡_, refl, ap, _∙_}
+use mathlib.Core.Bool.{true}
+use mathlib.Core.List.{List, [], _++_}
 use native.Mathlib.Omega.{arith}
 use lib.ListN.{length, getD, replicate, length-append, length-replicate}
 use Rattle.chains.specs.Lists.{allOf}
 use Rattle.chains.specs.Walk.{IsRow}
-use Rattle.chains.specs.Table.{field, link, place, headCell, headOf, rowsOf}
+use Rattle.chains.specs.Table.{field, link, place, headCell, headOf}
 use Rattle.meaning.specs.Records.{goodCounts}
-use Rattle.meaning.specs.Store.{Rec, Edit, freshRec, freshEdit, fresh}
+use Rattle.meaning.specs.Store.{freshRec, freshEdit, fresh}
 use Rattle.meaning.specs.Sound.{soundStore}
 use Rattle.meaning.specs.declared.Counts.{Counts}
 use Rattle.meaning.proofs.Lists.{and-in}
 use Rattle.meaning.proofs.SoundParts.{fresh-is-sound}
 use Rattle.tables.specs.Layout as Layout
-use Rattle.tables.specs.Layout.{HEADER, R-FLOOR, S-STATE, S-GENERATION, S-POINT, Ranged, Fits, sizeOf, slotBase, versionBase, lockBase, accessBase, recordTable, slotTable, versionTable, lockTable, accessTable, versionHeads, lockHeads, accessHeads}
+use Rattle.tables.specs.Layout.{HEADER, R-FLOOR, S-STATE, S-GENERATION, S-POINT, Fits, sizeOf, slotBase, versionBase, lockBase, accessBase, recordTable, slotTable, versionTable, lockTable, accessTable, versionHeads, lockHeads, accessHeads}
 use Rattle.tables.specs.Decode.{build, recordAt, slotAt, floorOf, recordsOf, editsOf, decodeAt, versionRows, lockRows, accessRows, versionsOf, locksOf, accessesOf}
-use Rattle.tables.specs.Words.{Well, namesRecord, marked, lent, decode, formed, soundWords}
+use Rattle.tables.specs.Words.{Well, namesRecord, marked, decode, formed, soundWords}
 use Rattle.tables.proofs.Bridge.{well-in}
 use Rattle.tables.proofs.Header.{good-ranged}
 use Rattle.tables.proofs.Places
-use Rattle.format.specs.Format.{headerWords, blankWords, nextFree, linkedTo, linked, formattedWords, FormattedIsSound, FormattedIsFresh}
+use Rattle.format.specs.Format.{headerWords, blankWords, nextFree, linked, formattedWords, FormattedIsSound, FormattedIsFresh}
 use Rattle.format.proofs.Laying.{size-least, next-in, linked-size, versions-lie, locks-lie, accesses-lie}
 use Rattle.format.proofs.Links.{linked-below, linked-link, free-parted, free-rows}
 

@@ -1,20 +1,18 @@
 -- Free rows linked in rising order: they are the free chain, every row once, and the other chains are empty. Rests on Segments and Words of
 -- `chains`.
 use Prim.Native.Nat.{ℕ, zero, suc, _+_, _≤_, _<_}
-use mathlib.Core.Path.{_≡_, refl, sym, ap, _∙_}
-use mathlib.Core.Bool.{Bool, true, false, cond}
+use mathlib.Core.Path.{_≡_, refl, sym, _∙_}
+use mathlib.Core.Bool.{true}
 use mathlib.Core.List.{List, [], _∷_}
 use native.Mathlib.Omega.{arith}
-use native.Mathlib.Decide.{ℕ-discrete, decLt}
-use lib.ListN.{length, getD, set}
+use native.Mathlib.Decide.{ℕ-discrete}
+use lib.ListN.{getD}
 use lib.Seq.{getD-set-other}
-use lib.Dec.{ltb}
-use borrow.Author.Tests.{lt-ltb, le-ltb}
 use Rattle.chains.specs.declared.Table.{Table}
 use Rattle.chains.specs.declared.Heads.{Heads}
 use Rattle.chains.specs.Lists.{occ, sumTo}
 use Rattle.chains.specs.Walk.{IsRow}
-use Rattle.chains.specs.Table.{Lies, field, link, linkCell, headOf, rowsOf}
+use Rattle.chains.specs.Table.{Lies, link, linkCell, headOf, rowsOf}
 use Rattle.chains.specs.Partition.{partition}
 use Rattle.chains.proofs.Cells.{base-le, field-same, field-other}
 use Rattle.chains.proofs.Occurs.{occ-nil, occ-same, occ-other}

@@ -39,14 +39,14 @@ fn write_header(w: &mut [u64], c: Counts)
     requires { ⌜ HEADER ≤ length (now w) ⌝ }
     ensures { λ _. ⌜ now (w .exit) ≡ sets (now (w .entry)) 0 (headerWords c) ⌝ }
 {
-    w[0] = chains::word(c.records);
-    w[1] = chains::word(c.edits);
-    w[2] = chains::word(c.versions);
-    w[3] = chains::word(c.locks);
-    w[4] = chains::word(c.accesses);
-    w[5] = 1;
-    w[6] = 1;
-    w[7] = 1;
+    w[tables::H_RECORDS] = chains::word(c.records);
+    w[tables::H_EDITS] = chains::word(c.edits);
+    w[tables::H_VERSIONS] = chains::word(c.versions);
+    w[tables::H_LOCKS] = chains::word(c.locks);
+    w[tables::H_ACCESSES] = chains::word(c.accesses);
+    w[tables::FREE_VERSION] = 1;
+    w[tables::FREE_LOCK] = 1;
+    w[tables::FREE_ACCESS] = 1;
 }
 
 // The row after row i on a free chain of n rows.

@@ -1,20 +1,19 @@
 -- Searches for one entry: the access of a record, the newest version. Rests on the loops of `chains` and `tables`.
-use Prim.Native.Nat.{ℕ, zero, suc, _+_, _≤_, _<_}
+use Prim.Native.Nat.{ℕ, zero, suc, _+_}
 use mathlib.Core.Path.{_≡_, refl, sym, ap, _∙_}
-use mathlib.Core.Bool.{Bool, true, false}
+use mathlib.Core.Bool.{Bool, true, false, _||_}
 use mathlib.Core.List.{List, [], _∷_, map}
 use native.Mathlib.Omega.{arith}
-use lib.Dec.{leb, ltb, eqb}
+use lib.Dec.{leb, ltb}
 use borrow.Author.Tests.{leb-true, leb-false, lt-ltb, le-ltb}
 use mathlib.Core.Logic.{_⊎_, inl, inr}
-use Rattle.meaning.proofs.Lists.{test}
+use Rattle.meaning.proofs.Lists.{test, not-both}
 use Rattle.chains.specs.Lists.{firstOf}
 use Rattle.chains.specs.Walk.{among, IsRow, rows}
 use Rattle.chains.specs.Table.{link, chain, headOf, rowsOf}
 use Rattle.chains.proofs.Walks.{among-out}
-use Rattle.meaning.specs.Lists.{find}
+use Rattle.meaning.specs.Lists.{find, any}
 use Rattle.meaning.specs.declared.Version.{Version}
-use Rattle.meaning.specs.declared.Access.{Access}
 use Rattle.meaning.specs.Store.{isOf, noAccess, accessOf, first, newestAt, newestBelow}
 use Rattle.meaning.specs.declared.Counts.{Counts}
 use Rattle.tables.specs.Layout.{accessTable, accessHeads}
@@ -78,6 +77,42 @@ module _ {A : Type 0} (p : A → Bool) (g : ℕ → A) (d : A) (nx : ℕ → ℕ
           → IsRow n (firstOf (λ i. p (g i)) (elim b [ true ↦ h ∷ rows nx n f (nx h) | false ↦ [] ]))
       go true a e ih = rest (p (g h)) refl a e ih
       go false a e ih = absurd (e refl)
+
+-- whether some entry passes
+module _ {A : Type 0} (p : A → Bool) (g : ℕ → A) where
+  none-first : (xs : List ℕ) → any p (map g xs) ≡ false → firstOf (λ i. p (g i)) xs ≡ 0
+  unfolding firstOf
+  none-first [] e = refl
+  none-first (x ∷ xs) e = go (p (g x)) refl e (none-first xs)
+    where
+      go : (b : Bool) → p (g x) ≡ b → (b || any p (map g xs)) ≡ false → (any p (map g xs) ≡ false → firstOf (λ i. p (g i)) xs ≡ 0)
+          → firstOf (λ i. p (g i)) (x ∷ xs) ≡ 0
+      go true q e ih = absurd (not-both refl e)
+      go false q e ih = rw (q, firstOf) (ih e)
+
+  pub first-some : (xs : List ℕ) → (firstOf (λ i. p (g i)) xs ≡ 0 → ⊥) → any p (map g xs) ≡ true
+  first-some xs n = go (test (any p (map g xs)))
+    where
+      go : (any p (map g xs) ≡ true) ⊎ (any p (map g xs) ≡ false) → any p (map g xs) ≡ true
+      go (inl e) = e
+      go (inr e) = absurd (n (none-first xs e))
+
+  pub first-zero : (nx : ℕ → ℕ) (n f h : ℕ) → firstOf (λ i. p (g i)) (rows nx n f h) ≡ 0 → any p (map g (rows nx n f h)) ≡ false
+  unfolding rows firstOf
+  first-zero nx n zero h e = refl
+  first-zero nx n (suc f) h e = go (among n h) refl e (first-zero nx n f (nx h))
+    where
+      rest : (b : Bool) → p (g h) ≡ b → among n h ≡ true → firstOf (λ i. p (g i)) (h ∷ rows nx n f (nx h)) ≡ 0
+          → (firstOf (λ i. p (g i)) (rows nx n f (nx h)) ≡ 0 → any p (map g (rows nx n f (nx h))) ≡ false)
+          → any p (g h ∷ map g (rows nx n f (nx h))) ≡ false
+      rest true q a e ih = absurd (omega (arith, among-out n h a .low, rw (q, firstOf) at e))
+      rest false q a e ih = rw q (ih (rw (q, firstOf) at e))
+
+      go : (b : Bool) → among n h ≡ b → firstOf (λ i. p (g i)) (elim b [ true ↦ h ∷ rows nx n f (nx h) | false ↦ [] ]) ≡ 0
+          → (firstOf (λ i. p (g i)) (rows nx n f (nx h)) ≡ 0 → any p (map g (rows nx n f (nx h))) ≡ false)
+          → any p (map g (elim b [ true ↦ h ∷ rows nx n f (nx h) | false ↦ [] ])) ≡ false
+      go true a e ih = rest (p (g h)) refl a e ih
+      go false a e ih = refl
 
 -- the access of record r of slot k: i is its row
 module _ (c : Counts) (w : List ℕ) (k r : ℕ) {i : ℕ} (e : i ≡ firstOf (λ j. isOf r (accessAt c w j)) (accessRows c w k)) where

@@ -4,10 +4,10 @@ use Prim.Native.Nat.{ℕ, suc, _+_, _≤_, _<_, min, max}
 use native.Mathlib.Numerals.{add-one}
 use mathlib.Core.Path.{_≡_, refl, sym, ap, _∙_}
 use mathlib.Core.Logic.{_⊎_, inl, inr}
-use mathlib.Core.Bool.{Bool, true, false, cond, _&&_}
-use mathlib.Core.List.{List, map, Memᴰ·map, Memᴰ·of-map}
+use mathlib.Core.Bool.{Bool, true, false, _&&_}
+use mathlib.Core.List.{List, Memᴰ·map, Memᴰ·of-map}
 use native.Mathlib.Omega.{arith}
-use lib.Dec.{leb, ltb}
+use lib.Dec.{ltb}
 use borrow.Author.Tests.{ltb-true, ltb-false}
 use Rattle.meaning.specs.Lists.{_∈_, any, keep}
 use Rattle.meaning.specs.Points.{covers, covered, own, writes, isWrite, isOwned, firstFree}
@@ -76,7 +76,7 @@ module _ (ls : List Lock) (p high : ℕ) where
   unfolding pastOf
   past-still h e b =
       let i : suc (min high (b .lock .high)) ∈ endsAt p high ls =
-          Memᴰ·map (λ (l : Lock). suc (min high (l .high))) (keep-in (covers p) (b .member) (covers-in p (b .lock) (b .under))) in
+      Memᴰ·map (λ (l : Lock). suc (min high (l .high))) (keep-in (covers p) (b .member) (covers-in p (b .lock) (b .under))) in
       omega (arith, greatest-ge p i, b .under .upto)
 
 -- the search: every point of low.. below p is under a lock

@@ -1,7 +1,7 @@
 -- The first accesses of a slot: how they grow by one, and what a test of all of them says of the front. Rests on the walks of `chains`.
-use Prim.Native.Nat.{ℕ, zero, suc, _+_, _-_, _≤_, _<_}
+use Prim.Native.Nat.{ℕ, zero, suc, _+_, _-_, _≤_}
 use mathlib.Core.Path.{_≡_, refl, sym, ap, _∙_}
-use mathlib.Core.Bool.{Bool, true, false, _&&_}
+use mathlib.Core.Bool.{Bool, true, false}
 use mathlib.Core.List.{List, [], _∷_, _++_, map, append-assoc}
 use native.Mathlib.Omega.{arith}
 use Rattle.chains.specs.Walk.{IsRow, among, more, rows}
@@ -53,16 +53,14 @@ module _ {nx : ℕ → ℕ} {n : ℕ} where
     unfolding rows
     one = here 0
 
-    pub met-next : rows nx n (suc j) h₀ ≡ rows nx n j h₀ ++ (cur ∷ [])
-    met-next =
-        let s : suc j ≡ j + 1 = omega arith in
-        ap (λ g. rows nx n g h₀) s ∙ i .split 1 ∙ ap (λ z. rows nx n j h₀ ++ z) one
+    pub met-next : rows nx n (j + 1) h₀ ≡ rows nx n j h₀ ++ (cur ∷ [])
+    met-next = i .split 1 ∙ ap (λ z. rows nx n j h₀ ++ z) one
 
-    pub met-on : {h′ : ℕ} → h′ ≡ nx cur → Met nx n h₀ (suc j) h′
+    pub met-on : {h′ : ℕ} → h′ ≡ nx cur → Met nx n h₀ (j + 1) h′
     met-on {h′} x =
         record {
           split = λ g.
-              let s : suc j + g ≡ j + suc g = omega arith in
+              let s : j + 1 + g ≡ j + suc g = omega arith in
               ap (λ y. rows nx n y h₀) s ∙ i .split (suc g)
               ∙ ap (λ z. rows nx n j h₀ ++ z) (here g ∙ ap (λ y. cur ∷ rows nx n g y) (sym x))
               ∙ sym (ap (λ z. z ++ rows nx n g h′) met-next ∙ append-assoc (rows nx n j h₀) (cur ∷ []) (rows nx n g h′));

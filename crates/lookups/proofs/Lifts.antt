@@ -1,10 +1,10 @@
 -- The search for the earliest point, access by access: one pass over the first accesses, passes until none moves the point, one access more.
 -- Rests on Fronts and on CommonEnds of the crate `meaning`.
 use Prim.Native.Nat.{ℕ, suc, _+_, _-_, _≤_, _<_}
-use mathlib.Core.Path.{_≡_, refl, sym, ap, _∙_}
+use mathlib.Core.Path.{_≡_, refl, ap}
 use mathlib.Core.Logic.{_⊎_, inl, inr}
-use mathlib.Core.Bool.{Bool, true, false, _&&_}
-use mathlib.Core.List.{List, [], _∷_, _++_, map}
+use mathlib.Core.Bool.{Bool, true, false}
+use mathlib.Core.List.{List, [], _∷_, map}
 use native.Mathlib.Omega.{arith}
 use lib.Dec.{leb, ltb}
 use borrow.Author.Tests.{leb-true, leb-false, ltb-true, ltb-false}
@@ -115,7 +115,7 @@ module _ (allow : ℕ → Access → Bool) {c : Counts} {w : List ℕ} {k j : �
   xs = firstAccesses c w k j
 
   abbrev ys : List Access
-  ys = firstAccesses c w k (suc j)
+  ys = firstAccesses c w k (j + 1)
 
   of-front : (x : ℕ) → all (allow x) ys ≡ true → all (allow x) xs ≡ true
   of-front x e = all-front (allow x) xs (a ∷ []) (rw (s .joined) at e)
@@ -198,20 +198,19 @@ module _ (c : Counts) (w : List ℕ) (k : ℕ) where
       }
 
   module _ {p j cur left : ℕ} (i : Seeking c w k p j cur left) {r : Bool} (d : r ≡ more (c .accesses) left cur) where
-    pub seek-on : {q next : ℕ} → r ≡ true → 1 ≤ left → LeastFrom (λ x. all (allows (recordsOf c w) k x) (firstAccesses c w k (suc j))) 1 q → q ≤ LAST
+    pub seek-on : {q next : ℕ} → r ≡ true → 1 ≤ left → LeastFrom (λ x. all (allows (recordsOf c w) k x) (firstAccesses c w k (j + 1))) 1 q → q ≤ LAST
         → next ≡ link (accessTable c) w cur → Named c w next (left - 1) → Seeking c w k q (j + 1) next (left - 1)
     seek-on e f b l z n =
-        let s : suc j ≡ j + 1 = omega arith in
         record {
           sum = omega (arith, i .sum);
-          met = rw s at (met-on (i .met) (row-of (c .accesses) left cur d e) z);
+          met = met-on (i .met) (row-of (c .accesses) left cur d e) z;
           low = l;
-          best = rw s at b;
+          best = b;
           named = n;
         }
 
     -- no point is left: the rest cannot bring one back
-    pub seek-out : {q : ℕ} → r ≡ true → 1 ≤ left → LeastFrom (λ x. all (allows (recordsOf c w) k x) (firstAccesses c w k (suc j))) 1 q → LAST < q
+    pub seek-out : {q : ℕ} → r ≡ true → 1 ≤ left → LeastFrom (λ x. all (allows (recordsOf c w) k x) (firstAccesses c w k (j + 1))) 1 q → LAST < q
         → q ≡ earliest (recordsOf c w) k (slotAt c w k)
     seek-out {q} e f b l =
         is-earliest (recordsOf c w) k (slotAt c w k) (record {

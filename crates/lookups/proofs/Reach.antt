@@ -1,12 +1,11 @@
 -- The least point at or above a point that one access allows, and the greatest at or below it. Rests on CommonSet and Spans of the crate
 -- `meaning`.
 use Prim.Native.Nat.{ℕ, suc, _-_, _≤_, _<_, min, max}
-use mathlib.Core.Path.{_≡_, refl, sym, ap, _∙_}
+use mathlib.Core.Path.{_≡_, refl, sym, ap}
 use mathlib.Core.Logic.{_⊎_, inl, inr}
 use mathlib.Core.Bool.{Bool, true, false, cond}
 use mathlib.Core.List.{List, map, Memᴰ·map, Memᴰ·of-map}
 use native.Mathlib.Omega.{arith}
-use lib.Dec.{leb, ltb}
 use borrow.Author.Tests.{leb-true, le-leb, ltb-true, lt-ltb, le-ltb}
 use Rattle.meaning.specs.Limits.{LAST}
 use Rattle.meaning.specs.Lists.{_∈_, keep, least, greatest}
@@ -14,7 +13,7 @@ use Rattle.meaning.specs.Points.{own, writes, firstFree, ownOn, allows}
 use Rattle.meaning.specs.Store.{Rec, hasRead}
 use Rattle.meaning.specs.declared.Lock.{Lock}
 use Rattle.meaning.specs.declared.Access.{Access}
-use Rattle.meaning.proofs.Lists.{test, not-both, keep-in, keep-out, least-default, least-le, least-out, greatest-ge, greatest-out}
+use Rattle.meaning.proofs.Lists.{not-both, keep-in, keep-out, least-default, least-le, least-out, greatest-ge, greatest-out}
 use Rattle.meaning.proofs.Tests.{Covered}
 use Rattle.meaning.proofs.Spans.{firstFree-top, firstFree-low}
 use Rattle.meaning.proofs.CommonSet.{Parts, parts-out, parts-in}

@@ -16,7 +16,7 @@ use Rattle.meaning.specs.Outcomes.{knows, isOpen}
 use Rattle.meaning.specs.declared.Counts.{Counts}
 use Rattle.meaning.proofs.Lists.{test, getD-past}
 use Rattle.tables.specs.Decode.{build, slotAt, editsOf, decodeAt}
-use Rattle.tables.proofs.Decoded.{edit-of, edit-at, edits-length}
+use Rattle.tables.proofs.Decoded.{edit-of, edits-length}
 
 module _ (c : Counts) (w : List ℕ) where
   pub used-zero : (k : ℕ) → k ≡ 0 → false ≡ inUse (editsOf c w) k

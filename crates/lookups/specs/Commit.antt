@@ -1,8 +1,8 @@
 -- The search for the commit point, access by access: the least point of a set at or above a point, the greatest at or below it, and the steps
 -- that lead there. A set of points is given by its test. Rests on Search and on Decode of the crate `tables`.
-use Prim.Native.Nat.{ℕ, suc, _≤_, _<_, min, max}
+use Prim.Native.Nat.{ℕ, suc, _+_, _≤_, _<_, min, max}
 use mathlib.Core.Path.{_≡_}
-use mathlib.Core.Bool.{Bool, true, false, cond, _&&_}
+use mathlib.Core.Bool.{Bool, true, cond, _&&_}
 use mathlib.Core.List.{List, [], _∷_, _++_, map}
 use lib.Dec.{leb}
 use Rattle.chains.specs.Table.{front, headOf}
@@ -79,4 +79,4 @@ unfoldable pub firstAccesses : Counts → List ℕ → ℕ → ℕ → List Acce
 firstAccesses c w k j = map (accessAt c w) (front (accessTable c) w j (headOf (accessHeads c) w k))
 
 pub record Next (c : Counts) (w : List ℕ) (k j : ℕ) (a : Access) : Type 0 where
-  pub joined : firstAccesses c w k (suc j) ≡ firstAccesses c w k j ++ (a ∷ [])
+  pub joined : firstAccesses c w k (j + 1) ≡ firstAccesses c w k j ++ (a ∷ [])

@@ -1,7 +1,7 @@
 -- Searches over a record's locks, as the code makes them: which locks a search is about, own ones or those that block, and what one walk of
 -- them finds. Rests on Points of the crate `meaning`.
 use Prim.Native.Nat.{ℕ, suc, min, max}
-use mathlib.Core.Bool.{Bool, true, false, cond, _&&_}
+use mathlib.Core.Bool.{Bool, cond, _&&_}
 use mathlib.Core.List.{List, map}
 use Rattle.meaning.specs.Limits.{SETTLED}
 use Rattle.meaning.specs.Lists.{keep, greatest}

@@ -3,46 +3,44 @@
 // A caller proves that the words have these counts (`Fits`) and that records and slots are in range, so the functions have `requires`; beyond that
 // they are exact on any words. They also serve the soundness check.
 ghost use mathlib.Core.Path.{_≡_};
-ghost use mathlib.Core.Bool.{true, _&&_};
+ghost use mathlib.Core.Bool.{true, cond, _&&_};
 ghost use Prim.Native.Nat.{suc, _+_, _≤_, _<_, min, max};
 ghost use lib.ListN.{length};
 ghost use lib.Dec.{leb, eqb};
 ghost use Rattle.chains.specs.Lists.{firstOf};
 ghost use Rattle.chains.specs.Walk.{IsRow};
-ghost use Rattle.meaning.specs.Limits.{LAST};
-ghost use Rattle.meaning.specs.Store.{inUse, accessOf, isOf, newestAt, newestBelow, versionOn};
+ghost use Rattle.chains.specs.Table.{Laid};
+ghost use Rattle.chains.specs.Partition.{partition, used};
+ghost use Rattle.meaning.specs.Limits.{LAST, MAX-ROWS};
+ghost use Rattle.meaning.specs.Store.{inUse, accessOf, isOf, writtenOf, newestAt, newestBelow, versionOn};
 ghost use Rattle.meaning.specs.Lists.{all, any};
 ghost use Rattle.meaning.specs.Edits.{freeSlot};
-ghost use Rattle.meaning.specs.Outcomes.{knows, isOpen};
+ghost use Rattle.meaning.specs.Outcomes.{knows, isOpen, lockRoom, accessRoom, versionRoom};
 ghost use Rattle.meaning.specs.Points.{covered, own, writes, covers, meets, firstFree, firstBlocked, frozen, holder, ownOn, allowsWrite, allowsRead, allows, inCommon, earliest, latest};
 ghost use Rattle.meaning.specs.Sound.{namesExisting};
 ghost use Rattle.tables.specs.Layout.{Fits};
 ghost use Rattle.tables.specs.Decode.{decodeAt, recordsOf, editsOf, recordAt, slotAt, accessAt, accessRows};
+ghost use Rattle.tables.specs.Words.{Well};
 ghost use Rattle.lookups.specs.Search.{counts, counted, ownsWrite, pastOf, further, nearer, lowerOwner, settles};
 ghost use Rattle.lookups.specs.Commit.{LeastFrom, Lifted, GreatestTo, Lowered, readEnd, firstUnder, lastUnder, earlier, later, upFrom, downFrom, firstAccesses, Next};
+use chains::Heads;
+use chains::Table;
 use meaning::Access;
 use meaning::Counts;
+use meaning::FREE;
 use meaning::Handle;
+use meaning::LAST;
 use meaning::Lock;
+use meaning::OPEN;
+use meaning::READ;
+use meaning::SETTLED;
+use meaning::SLOTS;
 use meaning::Value;
 use meaning::Version;
+use meaning::WRITE;
 
-// The numbers of document 01; Limits of the crate `meaning` names the same ones.
-const LAST: u64 = 70368744177663;
-
+// The least point that an edit may commit at.
 const LOWEST: u64 = 1;
-
-const READ: u64 = 1;
-
-const WRITE: u64 = 2;
-
-const SETTLED: u64 = 0;
-
-const SLOTS: u64 = 64;
-
-const FREE: u64 = 0;
-
-const OPEN: u64 = 1;
 
 // Edits.
 
@@ -248,7 +246,16 @@ fn past(w: &[u64], c: Counts, mine: bool, mode: u64, k: u64, r: usize, p: u64, h
 }
 
 // The least point of low..high under none of them, or high + 1.
-pub fn first_free(w: &[u64], c: Counts, mine: bool, mode: u64, k: u64, r: usize, low: u64, high: u64) -> u64
+pub fn first_free(
+    w: &[u64],
+    c: Counts,
+    mine: bool,
+    mode: u64,
+    k: u64,
+    r: usize,
+    low: u64,
+    high: u64,
+) -> u64
     requires { ⌜ Fits c (now w) × (r < c .records) × (low ≤ high) × (high ≤ LAST) ⌝ }
     ensures { λ q. ⌜ q ≡ firstFree (counted mine mode k (recordAt c (now (w .entry)) r .locks)) low high ⌝ }
 {
@@ -367,7 +374,10 @@ fn lower_owner(mode: u64, k: u64, p: u64, best: u64, l: Lock) -> u64
     if !meaning::covers(p, l) {
         return best;
     }
-    smaller(best, l.owner)
+    if best < l.owner {
+        return best;
+    }
+    l.owner
 }
 
 // The lowest slot that blocks slot k at p.
@@ -444,7 +454,17 @@ fn allows_read(w: &[u64], c: Counts, k: usize, p: u64, a: Access) -> bool
     if p < a.from {
         return false;
     }
-    p < first_free(w, c, true, READ, chains::word(k), chains::wide(a.rec), a.from, LAST)
+    p
+        < first_free(
+            w,
+            c,
+            true,
+            READ,
+            chains::word(k),
+            chains::wide(a.rec),
+            a.from,
+            LAST,
+        )
 }
 
 pub fn allows(w: &[u64], c: Counts, k: usize, p: u64, a: Access) -> bool
@@ -497,7 +517,16 @@ fn read_end(w: &[u64], c: Counts, k: usize, a: Access) -> u64
     if a.from == 0 {
         return LAST + 1;
     }
-    first_free(w, c, true, READ, chains::word(k), chains::wide(a.rec), a.from, LAST)
+    first_free(
+        w,
+        c,
+        true,
+        READ,
+        chains::word(k),
+        chains::wide(a.rec),
+        a.from,
+        LAST,
+    )
 }
 
 fn earlier(k: u64, low: u64, best: u64, l: Lock) -> u64
@@ -592,7 +621,7 @@ fn lift(w: &[u64], c: Counts, k: usize, p: u64, j: usize) -> u64
 // From the least point p that the first j accesses allow to that of one more, a.
 fn lift_next(w: &[u64], c: Counts, k: usize, p: u64, j: usize, a: Access) -> u64
     requires { ⌜ Fits c (now w) × IsRow (c .edits) k × (namesExisting (recordsOf c (now w)) (slotAt c (now w) k) ≡ true) × (a .rec < c .records) × (p ≤ LAST) × (j < c .accesses) × Next c (now w) k j a × LeastFrom (λ x. all (allows (recordsOf c (now w)) k x) (firstAccesses c (now w) k j)) 1 p ⌝ }
-    ensures { λ q. ⌜ LeastFrom (λ x. all (allows (recordsOf c (now (w .entry))) k x) (firstAccesses c (now (w .entry)) k (suc j))) 1 q ⌝ }
+    ensures { λ q. ⌜ LeastFrom (λ x. all (allows (recordsOf c (now (w .entry))) k x) (firstAccesses c (now (w .entry)) k (j + 1))) 1 q ⌝ }
 {
     let q = next_allowed(w, c, k, p, a);
     if q == p {
@@ -621,4 +650,202 @@ pub fn earliest(w: &[u64], c: Counts, k: usize) -> u64
         j += 1;
     }
     p
+}
+
+// The latest point, the same way downwards; 0 where there is none.
+
+fn later(k: u64, high: u64, best: u64, l: Lock) -> u64
+    ensures { λ q. ⌜ q ≡ later k high best l ⌝ }
+{
+    if !owns_write(k, l) {
+        return best;
+    }
+    let end = smaller(high, l.high);
+    if end < l.low {
+        return best;
+    }
+    larger(best, end)
+}
+
+fn last_write(w: &[u64], c: Counts, k: u64, r: usize, high: u64) -> u64
+    requires { ⌜ Fits c (now w) × (r < c .records) ⌝ }
+    ensures { λ q. ⌜ q ≡ lastUnder (writes (own k (recordAt c (now (w .entry)) r .locks))) high ⌝ }
+{
+    let n = c.locks;
+    let mut best = 0;
+    let mut cur = tables::first_lock(w, c, r);
+    let mut left = n;
+    while chains::more(n, left, cur) {
+        best = later(k, high, best, tables::lock_at(w, c, cur));
+        cur = tables::next_lock(w, c, cur);
+        left -= 1;
+    }
+    best
+}
+
+fn down_from(w: &[u64], c: Counts, k: usize, a: Access, high: u64) -> u64
+    requires { ⌜ Fits c (now w) × (a .rec < c .records) ⌝ }
+    ensures { λ q. ⌜ q ≡ downFrom (ownOn (recordsOf c (now (w .entry))) k a) a high ⌝ }
+{
+    if !a.written {
+        return high;
+    }
+    last_write(w, c, chains::word(k), chains::wide(a.rec), high)
+}
+
+// The greatest point at or below p that one access allows, or 0.
+fn previous_allowed(w: &[u64], c: Counts, k: usize, p: u64, a: Access) -> u64
+    requires { ⌜ Fits c (now w) × (a .rec < c .records) × (p ≤ LAST) ⌝ }
+    ensures { λ q. ⌜ GreatestTo (λ x. allows (recordsOf c (now (w .entry))) k x a) p q ⌝ }
+{
+    if p < a.from {
+        return 0;
+    }
+    let end = read_end(w, c, k, a);
+    let high = smaller(p, end - 1);
+    let q = down_from(w, c, k, a, high);
+    if q < a.from {
+        return 0;
+    }
+    q
+}
+
+// One pass over the first j accesses.
+fn lower(w: &[u64], c: Counts, k: usize, p: u64, j: usize) -> u64
+    requires { ⌜ Fits c (now w) × IsRow (c .edits) k × (namesExisting (recordsOf c (now w)) (slotAt c (now w) k) ≡ true) × (p ≤ LAST) × (j ≤ c .accesses) ⌝ }
+    ensures { λ q. ⌜ Lowered (λ x. all (allows (recordsOf c (now (w .entry))) k x) (firstAccesses c (now (w .entry)) k j)) p q ⌝ }
+{
+    let n = c.accesses;
+    let mut q = p;
+    let mut cur = tables::first_access(w, c, k);
+    let mut left = j;
+    while chains::more(n, left, cur) {
+        q = previous_allowed(w, c, k, q, tables::access_at(w, c, cur));
+        cur = tables::next_access(w, c, cur);
+        left -= 1;
+    }
+    q
+}
+
+// The greatest point at or below p that the first j accesses allow, or 0.
+fn sink(w: &[u64], c: Counts, k: usize, p: u64, j: usize) -> u64
+    requires { ⌜ Fits c (now w) × IsRow (c .edits) k × (namesExisting (recordsOf c (now w)) (slotAt c (now w) k) ≡ true) × (p ≤ LAST) × (j ≤ c .accesses) ⌝ }
+    ensures { λ q. ⌜ GreatestTo (λ x. all (allows (recordsOf c (now (w .entry))) k x) (firstAccesses c (now (w .entry)) k j)) p q ⌝ }
+{
+    let mut q = p;
+    while LOWEST <= q {
+        let x = lower(w, c, k, q, j);
+        if x == q {
+            return q;
+        }
+        q = x;
+    }
+    q
+}
+
+// From the greatest point p that the first j accesses allow to that of one more, a.
+fn sink_next(w: &[u64], c: Counts, k: usize, p: u64, j: usize, a: Access) -> u64
+    requires { ⌜ Fits c (now w) × IsRow (c .edits) k × (namesExisting (recordsOf c (now w)) (slotAt c (now w) k) ≡ true) × (a .rec < c .records) × (1 ≤ p) × (j < c .accesses) × Next c (now w) k j a × GreatestTo (λ x. all (allows (recordsOf c (now w)) k x) (firstAccesses c (now w) k j)) LAST p ⌝ }
+    ensures { λ q. ⌜ GreatestTo (λ x. all (allows (recordsOf c (now (w .entry))) k x) (firstAccesses c (now (w .entry)) k (j + 1))) LAST q ⌝ }
+{
+    let q = previous_allowed(w, c, k, p, a);
+    if q == p {
+        return p;
+    }
+    sink(w, c, k, q, j + 1)
+}
+
+pub fn latest(w: &[u64], c: Counts, k: usize) -> u64
+    requires { ⌜ Fits c (now w) × IsRow (c .edits) k × (namesExisting (recordsOf c (now w)) (slotAt c (now w) k) ≡ true) ⌝ }
+    ensures { λ q. ⌜ q ≡ latest (recordsOf c (now (w .entry))) k (slotAt c (now (w .entry)) k) ⌝ }
+{
+    let n = c.accesses;
+    let mut p = LAST;
+    let mut j = 0;
+    let mut cur = tables::first_access(w, c, k);
+    let mut left = n;
+    while chains::more(n, left, cur) {
+        let a = tables::access_at(w, c, cur);
+        p = sink_next(w, c, k, p, j, a);
+        if p < LOWEST {
+            return p;
+        }
+        cur = tables::next_access(w, c, cur);
+        left -= 1;
+        j += 1;
+    }
+    p
+}
+
+// Rooms, on well-formed words.
+
+// Whether a table has so many free rows; no more rows than that are walked.
+fn has_free(w: &[u64], t: Table, h: Heads, most: usize) -> bool
+    requires { ⌜ Laid t h (now w) × (partition t h (now w) ≡ true) ⌝ }
+    ensures { λ q. ⌜ q ≡ leb (used t h (now (w .entry)) + most) (t .count) ⌝ }
+{
+    let n = t.count;
+    let mut cur = chains::head_of(w, h, 0);
+    let mut left = most;
+    while chains::more(n, left, cur) {
+        cur = chains::next_of(w, t, cur);
+        left -= 1;
+    }
+    left == 0
+}
+
+pub fn lock_room(w: &[u64], c: Counts) -> bool
+    requires { ⌜ Well c (now w) ⌝ }
+    ensures { λ q. ⌜ q ≡ lockRoom (decodeAt c (now (w .entry))) ⌝ }
+{
+    has_free(w, tables::lock_table(c), tables::lock_heads(c), 1)
+}
+
+pub fn access_room(w: &[u64], c: Counts, k: usize, r: u64) -> bool
+    requires { ⌜ Well c (now w) × IsRow (c .edits) k ⌝ }
+    ensures { λ q. ⌜ q ≡ accessRoom (decodeAt c (now (w .entry))) k r ⌝ }
+{
+    if access_row(w, c, k, r) != 0 {
+        return true;
+    }
+    has_free(w, tables::access_table(c), tables::access_heads(c), 1)
+}
+
+fn count_if(b: bool, m: usize) -> usize
+    requires { ⌜ m < MAX-ROWS ⌝ }
+    ensures { λ q. ⌜ q ≡ cond b (suc m) m ⌝ }
+{
+    if b {
+        return m + 1;
+    }
+    m
+}
+
+fn written_count(w: &[u64], c: Counts, k: usize) -> usize
+    requires { ⌜ Fits c (now w) × IsRow (c .edits) k ⌝ }
+    ensures { λ q. ⌜ q ≡ length (writtenOf (slotAt c (now (w .entry)) k)) ⌝ }
+{
+    let n = c.accesses;
+    let mut m = 0;
+    let mut cur = tables::first_access(w, c, k);
+    let mut left = n;
+    while chains::more(n, left, cur) {
+        let a = tables::access_at(w, c, cur);
+        m = count_if(a.written, m);
+        cur = tables::next_access(w, c, cur);
+        left -= 1;
+    }
+    m
+}
+
+pub fn version_room(w: &[u64], c: Counts, k: usize) -> bool
+    requires { ⌜ Well c (now w) × IsRow (c .edits) k ⌝ }
+    ensures { λ q. ⌜ q ≡ versionRoom (decodeAt c (now (w .entry))) k ⌝ }
+{
+    has_free(
+        w,
+        tables::version_table(c),
+        tables::version_heads(c),
+        written_count(w, c, k),
+    )
 }

@@ -8,16 +8,37 @@ ghost use Rattle.meaning.specs.Records.{pointing};
 ghost use Rattle.meaning.specs.Sound.{agree, startsRead};
 ghost use Rattle.meaning.specs.Store.{handle, slotOf, generationOf, nextGeneration};
 
-// The numbers of document 01; specs/Limits names the same ones.
-const READINGS: u64 = 1099511627776;
+// The numbers of document 01, each named once for all crates; specs/Limits has the same names.
+pub const READINGS: u64 = 1099511627776;
 
-const SEATS: u64 = 64;
+pub const SEATS: u64 = 64;
 
-const SLOTS: u64 = 64;
+pub const LAST: u64 = 70368744177663;
 
-const LAST: u64 = 70368744177663;
+pub const SLOTS: u64 = 64;
 
-const WRITE: u64 = 2;
+pub const GENERATIONS: u64 = 65536;
+
+pub const MAX_RECORDS: usize = 1024;
+
+pub const MAX_EDITS: usize = 63;
+
+pub const MAX_ROWS: usize = 4095;
+
+// The states of an edit slot, the modes of a lock, the owner of a settled one.
+pub const FREE: u64 = 0;
+
+pub const OPEN: u64 = 1;
+
+pub const COMMITTED: u64 = 2;
+
+pub const ABORTED: u64 = 3;
+
+pub const READ: u64 = 1;
+
+pub const WRITE: u64 = 2;
+
+pub const SETTLED: u64 = 0;
 
 // A clock reading. Only `make_point` turns it into a point.
 pub struct Reading(u64);

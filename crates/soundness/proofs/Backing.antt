@@ -1,10 +1,10 @@
 -- Versions and the write locks that back them, as the code tests them. Rests on Steps and on Decoded of the crate `tables`.
 use Prim.Native.Nat.{ℕ, zero, suc, _≤_, _<_}
 use mathlib.Core.Path.{_≡_, refl, sym, ap, _∙_}
-use mathlib.Core.Bool.{Bool, true, false, _&&_, _||_}
+use mathlib.Core.Bool.{Bool, true, false}
 use mathlib.Core.List.{List}
 use native.Mathlib.Omega.{arith}
-use lib.Dec.{leb, eqb}
+use lib.Dec.{eqb}
 use borrow.Author.Tests.{eq-eqb, ne-eqb, le-leb, lt-leb}
 use Rattle.chains.specs.Walk.{IsRow}
 use Rattle.meaning.specs.Limits.{WRITE, SETTLED, COMMITTED}
@@ -14,7 +14,6 @@ use Rattle.meaning.specs.Points.{covers}
 use Rattle.meaning.specs.Sound.{wroteAt, backs}
 use Rattle.meaning.specs.declared.Version.{Version}
 use Rattle.meaning.specs.declared.Lock.{Lock}
-use Rattle.meaning.specs.declared.Access.{Access}
 use Rattle.meaning.specs.declared.Counts.{Counts}
 use Rattle.meaning.proofs.Lists.{getD-past}
 use Rattle.tables.specs.Decode.{slotAt, editsOf}
@@ -50,12 +49,11 @@ module _ (c : Counts) (w : List ℕ) (k r t : ℕ) {s : ℕ} (es : s ≡ k) (row
           and-on (ap (λ x. eqb (x .state) COMMITTED) slot ∙ eq-eqb (slotAt c w s .state) COMMITTED (sym et ∙ h))
           (and-no _ (ap (λ x. eqb (x .point) t) slot ∙ ne-eqb (slotAt c w s .point) t (λ z. o (ep ∙ z))))
 
-      pub wrote-here : {j : ℕ} {a : Access} → point ≡ t → j ≡ r → a ≡ accessOf (slotAt c w s) j → a .written ≡ wroteAt (editsOf c w) k r t
+      pub wrote-here : {b : Bool} → point ≡ t → b ≡ accessOf (slotAt c w s) r .written → b ≡ wroteAt (editsOf c w) k r t
       unfolding wroteAt
-      wrote-here {j} {a} o ej ea =
+      wrote-here o ea =
           and-on (ap (λ x. eqb (x .state) COMMITTED) slot ∙ eq-eqb (slotAt c w s .state) COMMITTED (sym et ∙ h))
-          (and-on (ap (λ x. eqb (x .point) t) slot ∙ eq-eqb (slotAt c w s .point) t (sym ep ∙ o))
-          (ap (λ x. x .written) (ea ∙ ap (accessOf (slotAt c w s)) ej ∙ ap (λ x. accessOf x r) (sym slot))))
+          (and-on (ap (λ x. eqb (x .point) t) slot ∙ eq-eqb (slotAt c w s .point) t (sym ep ∙ o)) (ea ∙ ap (λ x. accessOf x r .written) (sym slot)))
 
 -- l is the lock as it was read
 module _ (es : List Edit) (r p : ℕ) {l m : Lock} (e : l ≡ m) where

@@ -1,16 +1,16 @@
 -- The clauses of a slot, in the order in which the check tests them, are those of `soundEdit`: with no stamp k at first, a record is named at
 -- most once exactly if it never bears the stamp k when it is met. Rests on Lists of the crate `meaning`.
-use Prim.Native.Nat.{ℕ, suc, _-_, _≤_, _<_}
+use Prim.Native.Nat.{ℕ, _-_, _≤_, _<_}
 use mathlib.Core.Path.{_≡_, refl, sym, ap, _∙_}
 use mathlib.Core.Logic.{_⊎_, inl, inr}
-use mathlib.Core.Bool.{Bool, true, false, not, _&&_, _||_}
+use mathlib.Core.Bool.{Bool, true, not, _&&_, _||_}
 use mathlib.Core.List.{List, [], _∷_, List·Memᴰ·head, List·Memᴰ·tail, List·Memᴰ·not-nil, List·Memᴰ·cases-cons}
 use native.Mathlib.Omega.{arith}
 use lib.ListN.{length, getD, set, length-set}
 use lib.Seq.{getD-set-same, getD-set-other}
 use lib.Dec.{ltb, eqb}
-use borrow.Author.Tests.{ltb-true, lt-ltb, eqb-true, eqb-false, ne-eqb, not-true}
-use Rattle.meaning.specs.Lists.{_∈_, every, all, any, pairwise}
+use borrow.Author.Tests.{ltb-true, lt-ltb, eqb-false, ne-eqb, not-true}
+use Rattle.meaning.specs.Lists.{_∈_, all, any, pairwise}
 use Rattle.meaning.specs.Store.{Rec, Edit, recOf, hasRead}
 use Rattle.meaning.specs.Sound.{stateListed, generationListed, pointListed, namesExisting, namesOnce, isPresent, readsPresent, startsRead, readsLocked, pointCommon, freeIdle, soundEdit}
 use Rattle.meaning.specs.declared.Access.{Access}

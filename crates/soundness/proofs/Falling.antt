@@ -1,7 +1,7 @@
 -- The loop over a record's versions, which keeps the last point met. Rests on Walk of `chains`.
-use Prim.Native.Nat.{ℕ, suc, _-_}
+use Prim.Native.Nat.{ℕ, _-_}
 use mathlib.Core.Path.{_≡_, refl, sym, ap, _∙_}
-use mathlib.Core.Bool.{Bool, true, false, _&&_}
+use mathlib.Core.Bool.{Bool, true, false}
 use mathlib.Core.List.{List, [], _∷_, map}
 use Rattle.chains.specs.Walk.{more, rows}
 use Rattle.chains.proofs.Loops.{Walk, walk-again, walk-out, walk-end}

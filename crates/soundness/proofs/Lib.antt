@@ -10,3 +10,5 @@ pub mod Records
 pub mod Slots
 pub mod Edits
 pub mod Whole
+pub mod Marking
+pub mod Marks

@@ -1,16 +1,15 @@
 -- A record read, as the code tests it: its version, its read lock. Rests on Steps.
-use Prim.Native.Nat.{ℕ, zero, suc, _-_, _≤_, _<_}
-use mathlib.Core.Path.{_≡_, refl, sym, ap, _∙_}
-use mathlib.Core.Bool.{Bool, true, false, not, _&&_, _||_}
+use Prim.Native.Nat.{ℕ, suc, _-_, _<_}
+use mathlib.Core.Path.{_≡_, sym, ap, _∙_}
+use mathlib.Core.Bool.{Bool, true, false, not}
 use mathlib.Core.List.{List}
 use native.Mathlib.Omega.{arith}
 use native.Mathlib.Decide.{ℕ-discrete}
-use lib.Dec.{eqb, ltb}
+use lib.Dec.{eqb}
 use borrow.Author.Tests.{eq-eqb, ne-eqb, lt-ltb, le-ltb}
 use Rattle.meaning.specs.Lists.{any}
-use Rattle.meaning.specs.Store.{Rec, recOf, hasRead}
+use Rattle.meaning.specs.Store.{Rec, recOf}
 use Rattle.meaning.specs.Sound.{isPresent, startsRead}
-use Rattle.meaning.specs.declared.Version.{Version}
 use Rattle.meaning.specs.declared.Access.{Access}
 use Rattle.meaning.specs.declared.Counts.{Counts}
 use Rattle.tables.specs.Decode.{recordAt, recordsOf}

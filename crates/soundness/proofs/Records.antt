@@ -3,7 +3,7 @@ use Prim.Native.Nat.{ℕ}
 use mathlib.Core.Path.{_≡_, refl}
 use mathlib.Core.Bool.{Bool, true, _&&_}
 use mathlib.Core.List.{List, [], _∷_}
-use Rattle.meaning.specs.Lists.{every, all}
+use Rattle.meaning.specs.Lists.{all}
 use Rattle.meaning.specs.Store.{Rec, Edit}
 use Rattle.meaning.specs.Sound.{modesListed, versionsFall, versionsLie, versionsEnd, noneAtZero, locksLie, ownersInUse, writesApart, versionsBacked, soundRec}
 use Rattle.meaning.proofs.Lists.{and-in, and-left, and-right, all-in, all-out, every-at}

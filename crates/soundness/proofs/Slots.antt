@@ -2,7 +2,7 @@
 use Prim.Native.Nat.{ℕ, zero, suc, _+_, _-_, _≤_}
 use mathlib.Core.Path.{_≡_, refl, sym, ap, _∙_}
 use mathlib.Core.Bool.{Bool, true, false, not}
-use mathlib.Core.List.{List, [], _∷_, map}
+use mathlib.Core.List.{List, map}
 use native.Mathlib.Omega.{arith}
 use lib.ListN.{length, getD, replicate, length-replicate}
 use lib.Dec.{eqb}
@@ -14,7 +14,6 @@ use Rattle.chains.proofs.Bounded.{all-ext}
 use Rattle.chains.proofs.Walks.{step, stop}
 use Rattle.meaning.specs.Limits.{FREE}
 use Rattle.meaning.specs.Sound.{freeIdle, soundRec, soundEdit}
-use Rattle.meaning.specs.declared.Access.{Access}
 use Rattle.meaning.specs.declared.Counts.{Counts}
 use Rattle.meaning.proofs.Lists.{test}
 use mathlib.Core.Logic.{_⊎_, inl, inr}
@@ -65,7 +64,7 @@ module _ (c : Counts) (w : List ℕ) (k : ℕ) where
 pub stamps-before : {k : ℕ} {m : List ℕ} → Stamps k m → Stamps (k + 1 - 1) m
 stamps-before {k} s = let e : k + 1 - 1 ≡ k = omega arith in rw e s
 
-zeros : (n i : ℕ) → _≡_ {A = ℕ} (getD (replicate n 0) i 0) 0
+pub zeros : (n i : ℕ) → _≡_ {A = ℕ} (getD (replicate n 0) i 0) 0
 zeros zero i = refl
 zeros (suc n) zero = refl
 zeros (suc n) (suc i) = zeros n i

@@ -1,6 +1,6 @@
 -- One test after the other, as code with early exits makes them: what a conjunction or a disjunction is once its first test is known.
-use mathlib.Core.Path.{_≡_, refl, sym, ap, _∙_}
-use mathlib.Core.Bool.{Bool, true, false, not, _&&_, _||_}
+use mathlib.Core.Path.{_≡_, refl, sym, _∙_}
+use mathlib.Core.Bool.{Bool, true, false, _&&_, _||_}
 
 pub and-no : {a : Bool} (b : Bool) → a ≡ false → false ≡ (a && b)
 and-no b e = rw e refl

@@ -1,8 +1,7 @@
 -- The whole check: on well-formed words the counts are in range and the rows in use fit, so records and slots are all that is left.
 -- Rests on Bridge of the crate `tables` and on Chains of `chains`.
-use Prim.Native.Nat.{ℕ, suc, _+_, _≤_}
+use Prim.Native.Nat.{ℕ, suc, _≤_}
 use mathlib.Core.Path.{_≡_, refl, sym, ap, _∙_}
-use mathlib.Core.Logic.{_⊎_, inl, inr}
 use mathlib.Core.Bool.{Bool, true, false, _&&_}
 use mathlib.Core.List.{List, [], _∷_, map}
 use native.Mathlib.Omega.{arith}
@@ -16,16 +15,16 @@ use Rattle.chains.specs.Partition.{partition}
 use Rattle.chains.proofs.Bounded.{sum-ext}
 use Rattle.chains.proofs.Chains.{lengths}
 use Rattle.chains.proofs.Words.{rep-of}
-use Rattle.meaning.specs.Lists.{every, total, allFrom}
+use Rattle.meaning.specs.Lists.{allFrom}
 use Rattle.meaning.specs.Records.{goodCounts}
-use Rattle.meaning.specs.Store.{Rec, Edit, countsOf, versionsUsed, locksUsed, accessesUsed}
+use Rattle.meaning.specs.Store.{countsOf, versionsUsed, locksUsed, accessesUsed}
 use Rattle.meaning.specs.Sound.{rowsFit, soundRec, soundEdit, soundStore}
 use Rattle.meaning.specs.declared.Counts.{Counts}
 use Rattle.meaning.proofs.Lists.{and-in, and-left, and-right, every-at, test}
 use Rattle.tables.specs.Layout as Layout
 use Rattle.tables.specs.Layout.{HEADER, sizeOf, headerOk, Fits, versionTable, lockTable, accessTable, versionHeads, lockHeads, accessHeads}
 use Rattle.tables.specs.Decode.{recordAt, slotAt, recordsOf, editsOf, decodeAt, versionRows, lockRows, accessRows, versionsOf, locksOf, accessesOf}
-use Rattle.tables.specs.Words.{Well, lent, decode, formedAt, formed, soundWords}
+use Rattle.tables.specs.Words.{versionsParted, locksParted, accessesParted, locksNamed, marksListed, Well, lent, decode, formedAt, formed, soundWords}
 use Rattle.tables.proofs.Builds.{total-build, sum-head}
 use Rattle.tables.proofs.Bridge.{well-at}
 use Rattle.tables.proofs.Decoded.{records-length, edits-length}
@@ -126,3 +125,7 @@ size-least c = omega arith
 
 pub header-long : (w : List ℕ) {h : Bool} → h ≡ headerOk w → h ≡ true → HEADER ≤ length w
 header-long w e z = omega (arith, header-fits w (sym e ∙ z) .size, size-least (Layout.countsOf w))
+
+pub locks-first : (c : Counts) (w : List ℕ) {b : Bool} → b ≡ formedAt c w → b ≡ true → locksParted c w ≡ true
+unfolding formedAt
+locks-first c w e z = every-at (versionsParted c w ∷ locksParted c w ∷ accessesParted c w ∷ locksNamed c w ∷ marksListed c w ∷ []) (sym e ∙ z) 1

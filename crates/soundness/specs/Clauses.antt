@@ -1,8 +1,8 @@
--- The clauses of soundness in the order in which the check tests them: those of one lock, of one access, and two that go along a chain.
+-- The clauses of soundness as the check tests them: those of one lock, of a version after another, of one access and of a slot's words.
 -- The laws that these are the clauses of document 01 are in proofs/. Rests on specs/Sound of the crate `meaning`.
 use Prim.Native.Nat.{ℕ, suc, _≤_}
 use mathlib.Core.Path.{_≡_}
-use mathlib.Core.Bool.{Bool, true, false, not, _&&_, _||_}
+use mathlib.Core.Bool.{Bool, true, not, _&&_, _||_}
 use mathlib.Core.List.{List, [], _∷_}
 use lib.ListN.{length, getD, set}
 use lib.Dec.{leb, ltb, eqb}

@@ -1,42 +1,39 @@
-// The check that lent words are a sound store: exact for every slice, and always ending.
+// The check that lent words are a sound store: exact for every slice, and ending on any words.
 //
 // `check` alone needs nothing. The functions below it are for words that have these counts (`Fits`); each equals one clause of soundness, or the
-// clauses of one record or of one slot.
+// clauses of one record or of one slot. It takes at most a small constant times these steps: one for each word, and for each record the number of
+// its locks times that of its locks, versions and accesses. Each chain of a table is walked within one budget of rows, a record that an edit names
+// is stamped, and the locks of an edit on the records that it wrote are marked, so that no clause walks an edit's accesses for a record.
 ghost use mathlib.Core.Path.{_≡_};
 ghost use mathlib.Core.Bool.{true, _||_};
 ghost use mathlib.Core.List.{map};
-ghost use Prim.Native.Nat.{suc, _-_, _<_};
+ghost use Prim.Native.Nat.{ℕ, suc, _-_, _≤_, _<_};
+ghost use lib.ListN.{length};
 ghost use lib.Dec.{eqb};
-ghost use Rattle.chains.specs.Lists.{allOf};
+ghost use Rattle.chains.specs.Lists.{occ, allOf};
 ghost use Rattle.chains.specs.Walk.{IsRow, rows};
 ghost use Rattle.chains.specs.Table.{link};
 ghost use Rattle.meaning.specs.Limits.{LAST, COMMITTED};
 ghost use Rattle.meaning.specs.Lists.{all, any, pairwise};
+ghost use Rattle.meaning.specs.Store.{accessOf};
 ghost use Rattle.meaning.specs.Sound.{agree, wroteAt, backs, namesExisting, startsRead, isPresent, pointCommon, freeIdle, soundRec, soundEdit};
 ghost use Rattle.tables.specs.Layout.{Fits, lockTable};
 ghost use Rattle.tables.specs.Decode.{lockAt, versionAt, accessAt, recordAt, slotAt, recordsOf, editsOf, lockRows, accessRows};
 ghost use Rattle.tables.specs.Words.{versionsParted, locksParted, accessesParted, namesRecord, marked, locksNamed, marksListed, formedAt, lent, soundWords};
 ghost use Rattle.soundness.specs.Clauses.{modeListed, spanLies, ownerUsed, lockSound, fallsBelow, endsOn, fallsTo, versionsSound, isBacked, standsBefore, readSound, accessesSound, slotListed, Stamps, recordsSound, slotsSound};
+ghost use Rattle.soundness.specs.Marks.{ownMark, markOwn, markAccess, markAccesses, markSlots, Writers};
+use meaning::ABORTED;
 use meaning::Access;
+use meaning::COMMITTED;
 use meaning::Counts;
+use meaning::FREE;
+use meaning::GENERATIONS;
+use meaning::LAST;
 use meaning::Lock;
+use meaning::READ;
+use meaning::SETTLED;
 use meaning::Version;
-
-const LAST: u64 = 70368744177663;
-
-const READ: u64 = 1;
-
-const WRITE: u64 = 2;
-
-const SETTLED: u64 = 0;
-
-const COMMITTED: u64 = 2;
-
-const FREE: u64 = 0;
-
-const ABORTED: u64 = 3;
-
-const GENERATIONS: u64 = 65536;
+use meaning::WRITE;
 
 // The chains.
 
@@ -407,8 +404,8 @@ fn accesses_sound(w: &[u64], c: Counts, k: usize, stamps: &mut [u8; 1024]) -> bo
 
 // Each version above the floor has a write lock on its point, settled or of an edit that wrote the record and committed at that point.
 
-fn wrote_at(w: &[u64], c: Counts, k: u64, r: usize, t: u64) -> bool
-    requires { ⌜ Fits c (now w) ⌝ }
+fn wrote_at(w: &[u64], c: Counts, k: u64, r: usize, t: u64, wrote: bool) -> bool
+    requires { ⌜ Fits c (now w) × (IsRow (c .edits) k → wrote ≡ accessOf (slotAt c (now w) k) r .written) ⌝ }
     ensures { λ q. ⌜ q ≡ wroteAt (editsOf c (now (w .entry))) k r t ⌝ }
 {
     if k == 0 {
@@ -424,12 +421,11 @@ fn wrote_at(w: &[u64], c: Counts, k: u64, r: usize, t: u64) -> bool
     if tables::point_of(w, c, slot) != t {
         return false;
     }
-    let a = lookups::access_of(w, c, slot, chains::word(r));
-    a.written
+    wrote
 }
 
-fn row_backs(w: &[u64], c: Counts, r: usize, p: u64, i: usize) -> bool
-    requires { ⌜ Fits c (now w) × IsRow (c .locks) i ⌝ }
+fn row_backs(w: &[u64], c: Counts, r: usize, p: u64, i: usize, marks: &[u8; 4096]) -> bool
+    requires { ⌜ Fits c (now w) × IsRow (c .locks) i × Writers c (now w) r (now marks) × (1 ≤ occ i (lockRows c (now w) r)) ⌝ }
     ensures { λ q. ⌜ q ≡ backs (editsOf c (now (w .entry))) r p (lockAt c (now (w .entry)) i) ⌝ }
 {
     let l = tables::lock_at(w, c, i);
@@ -442,18 +438,18 @@ fn row_backs(w: &[u64], c: Counts, r: usize, p: u64, i: usize) -> bool
     if l.owner == SETTLED {
         return true;
     }
-    wrote_at(w, c, l.owner, r, p)
+    wrote_at(w, c, l.owner, r, p, marks[i] == 1)
 }
 
-fn any_backs(w: &[u64], c: Counts, r: usize, p: u64) -> bool
-    requires { ⌜ Fits c (now w) × (r < c .records) ⌝ }
+fn any_backs(w: &[u64], c: Counts, r: usize, p: u64, marks: &[u8; 4096]) -> bool
+    requires { ⌜ Fits c (now w) × (r < c .records) × Writers c (now w) r (now marks) ⌝ }
     ensures { λ q. ⌜ q ≡ any (backs (editsOf c (now (w .entry))) r p) (recordAt c (now (w .entry)) r .locks) ⌝ }
 {
     let n = c.locks;
     let mut cur = tables::first_lock(w, c, r);
     let mut left = n;
     while chains::more(n, left, cur) {
-        if row_backs(w, c, r, p, cur) {
+        if row_backs(w, c, r, p, cur, marks) {
             return true;
         }
         cur = tables::next_lock(w, c, cur);
@@ -462,26 +458,26 @@ fn any_backs(w: &[u64], c: Counts, r: usize, p: u64) -> bool
     false
 }
 
-fn row_backed(w: &[u64], c: Counts, r: usize, i: usize) -> bool
-    requires { ⌜ Fits c (now w) × (r < c .records) × IsRow (c .versions) i ⌝ }
+fn row_backed(w: &[u64], c: Counts, r: usize, i: usize, marks: &[u8; 4096]) -> bool
+    requires { ⌜ Fits c (now w) × (r < c .records) × IsRow (c .versions) i × Writers c (now w) r (now marks) ⌝ }
     ensures { λ q. ⌜ q ≡ isBacked (editsOf c (now (w .entry))) r (recordAt c (now (w .entry)) r) (versionAt c (now (w .entry)) i) ⌝ }
 {
     let v = tables::version_at(w, c, i);
     if v.point <= tables::floor_of(w, c, r) {
         return true;
     }
-    any_backs(w, c, r, v.point)
+    any_backs(w, c, r, v.point, marks)
 }
 
-fn versions_backed(w: &[u64], c: Counts, r: usize) -> bool
-    requires { ⌜ Fits c (now w) × (r < c .records) ⌝ }
+fn versions_backed(w: &[u64], c: Counts, r: usize, marks: &[u8; 4096]) -> bool
+    requires { ⌜ Fits c (now w) × (r < c .records) × Writers c (now w) r (now marks) ⌝ }
     ensures { λ q. ⌜ q ≡ all (isBacked (editsOf c (now (w .entry))) r (recordAt c (now (w .entry)) r)) (recordAt c (now (w .entry)) r .versions) ⌝ }
 {
     let n = c.versions;
     let mut cur = tables::first_version(w, c, r);
     let mut left = n;
     while chains::more(n, left, cur) {
-        if !row_backed(w, c, r, cur) {
+        if !row_backed(w, c, r, cur, marks) {
             return false;
         }
         cur = tables::next_version(w, c, cur);
@@ -492,8 +488,8 @@ fn versions_backed(w: &[u64], c: Counts, r: usize) -> bool
 
 // The clauses of a record, and of all records.
 
-fn record_sound(w: &[u64], c: Counts, r: usize) -> bool
-    requires { ⌜ Fits c (now w) × (r < c .records) ⌝ }
+fn record_sound(w: &[u64], c: Counts, r: usize, marks: &[u8; 4096]) -> bool
+    requires { ⌜ Fits c (now w) × (r < c .records) × Writers c (now w) r (now marks) ⌝ }
     ensures { λ q. ⌜ q ≡ soundRec (editsOf c (now (w .entry))) r (recordAt c (now (w .entry)) r) ⌝ }
 {
     if !locks_sound(w, c, r) {
@@ -505,22 +501,97 @@ fn record_sound(w: &[u64], c: Counts, r: usize) -> bool
     if !locks_agree(w, c, r) {
         return false;
     }
-    versions_backed(w, c, r)
+    versions_backed(w, c, r, marks)
 }
 
-fn records_sound(w: &[u64], c: Counts) -> bool
-    requires { ⌜ Fits c (now w) ⌝ }
+fn records_sound_with(w: &[u64], c: Counts, marks: &[u8; 4096]) -> bool
+    requires { ⌜ Fits c (now w) × ((r : ℕ) → r < c .records → Writers c (now w) r (now marks)) ⌝ }
     ensures { λ q. ⌜ q ≡ recordsSound c (now (w .entry)) ⌝ }
 {
     let n = c.records;
     let mut r = 0;
     while r < n {
-        if !record_sound(w, c, r) {
+        if !record_sound(w, c, r, marks) {
             return false;
         }
         r += 1;
     }
     true
+}
+
+// Marks of lock rows, so that one step tells whether a lock's owner wrote the record: for each record that an edit has written, the rows of its own
+// locks on that record become 1.
+
+fn own_mark(w: &[u64], c: Counts, k: u64, i: usize, old: u8) -> u8
+    requires { ⌜ Fits c (now w) × IsRow (c .locks) i ⌝ }
+    ensures { λ q. ⌜ q ≡ ownMark c (now (w .entry)) k old i ⌝ }
+{
+    let l = tables::lock_at(w, c, i);
+    if l.owner == k { 1 } else { old }
+}
+
+fn mark_own(w: &[u64], c: Counts, k: u64, r: usize, marks: &mut [u8; 4096])
+    requires { ⌜ Fits c (now w) × (r < c .records) × (length (now marks) ≡ 4096) ⌝ }
+    ensures { λ _. ⌜ now (marks .exit) ≡ markOwn c (now (w .entry)) k (now (marks .entry)) (lockRows c (now (w .entry)) r) ⌝ }
+{
+    let n = c.locks;
+    let mut cur = tables::first_lock(w, c, r);
+    let mut left = n;
+    while chains::more(n, left, cur) {
+        let mark = own_mark(w, c, k, cur, marks[cur]);
+        marks[cur] = mark;
+        cur = tables::next_lock(w, c, cur);
+        left -= 1;
+    }
+}
+
+fn mark_access(w: &[u64], c: Counts, k: usize, a: Access, marks: &mut [u8; 4096])
+    requires { ⌜ Fits c (now w) × (length (now marks) ≡ 4096) ⌝ }
+    ensures { λ _. ⌜ now (marks .exit) ≡ markAccess c (now (w .entry)) k (now (marks .entry)) a ⌝ }
+{
+    if !a.written {
+        return;
+    }
+    if chains::word(c.records) <= a.rec {
+        return;
+    }
+    mark_own(w, c, chains::word(k), chains::wide(a.rec), marks);
+}
+
+fn mark_slot(w: &[u64], c: Counts, k: usize, marks: &mut [u8; 4096])
+    requires { ⌜ Fits c (now w) × IsRow (c .edits) k × (length (now marks) ≡ 4096) ⌝ }
+    ensures { λ _. ⌜ now (marks .exit) ≡ markAccesses c (now (w .entry)) k (now (marks .entry)) (slotAt c (now (w .entry)) k .accesses) ⌝ }
+{
+    let n = c.accesses;
+    let mut cur = tables::first_access(w, c, k);
+    let mut left = n;
+    while chains::more(n, left, cur) {
+        let a = tables::access_at(w, c, cur);
+        mark_access(w, c, k, a, marks);
+        cur = tables::next_access(w, c, cur);
+        left -= 1;
+    }
+}
+
+fn mark_slots(w: &[u64], c: Counts, marks: &mut [u8; 4096])
+    requires { ⌜ Fits c (now w) × (length (now marks) ≡ 4096) ⌝ }
+    ensures { λ _. ⌜ now (marks .exit) ≡ markSlots c (now (w .entry)) (now (marks .entry)) (c .edits) ⌝ }
+{
+    let n = c.edits;
+    let mut k = 0;
+    while k < n {
+        mark_slot(w, c, k + 1, marks);
+        k += 1;
+    }
+}
+
+fn records_sound(w: &[u64], c: Counts) -> bool
+    requires { ⌜ Fits c (now w) × (locksParted c (now w) ≡ true) × (slotsSound c (now w) ≡ true) ⌝ }
+    ensures { λ q. ⌜ q ≡ recordsSound c (now (w .entry)) ⌝ }
+{
+    let mut marks = [0u8; 4096];
+    mark_slots(w, c, &mut marks);
+    records_sound_with(w, c, &marks)
 }
 
 // The words of a slot.

@@ -1,4 +1,4 @@
--- `formed`, which is computed, and `Well`, its plain facts: each from the other. Rests on Header.
+-- `formed`, which is computed, and `Well`, its plain facts: each from the other; soundness of well-formed words. Rests on Header.
 use Prim.Native.Nat.{ℕ, zero, suc, _≤_, _<_}
 use mathlib.Core.Path.{_≡_, refl, sym, ap, _∙_}
 use mathlib.Core.Bool.{Bool, true, _&&_}
@@ -9,8 +9,9 @@ use Rattle.chains.proofs.Bounded.{both-true, all-at, all-all}
 use Rattle.meaning.proofs.Lists.{every-at, and-in}
 use Rattle.meaning.specs.declared.Counts.{Counts}
 use Rattle.tables.specs.Layout.{countsOf, headerOk, Fits}
-use Rattle.tables.specs.Decode.{lockRows, accessRows}
-use Rattle.tables.specs.Words.{versionsParted, locksParted, accessesParted, namesRecord, locksNamed, marked, marksListed, formedAt, Well, formed}
+use Rattle.meaning.specs.Sound.{soundStore}
+use Rattle.tables.specs.Decode.{lockRows, accessRows, decodeAt}
+use Rattle.tables.specs.Words.{versionsParted, locksParted, accessesParted, namesRecord, locksNamed, marked, marksListed, formedAt, Well, formed, lent, decode, soundWords}
 use Rattle.tables.proofs.Header.{header-fits, fits-header}
 
 module _ (c : Counts) (w : List ℕ) where
@@ -45,3 +46,12 @@ well-out w e = let b = both-true (headerOk w) (formedAt (countsOf w) w) e in wel
 pub well-in : (c : Counts) (w : List ℕ) → Well c w → formed w ≡ true
 unfolding formed
 well-in c w W = and-in (fits-header c w (W .fits)) (ap (λ d. formedAt d w) (W .fits .counts) ∙ well-formed-at c w W)
+
+-- so well-formed words are sound exactly if what they mean is
+pub sound-out : (w : List ℕ) → soundWords (lent w) ≡ true → Well (countsOf w) w × (soundStore (decodeAt (countsOf w) w) ≡ true)
+unfolding soundWords decode
+sound-out w e = let b = both-true (formed w) (soundStore (decodeAt (countsOf w) w)) e in (well-out w (b .0), b .1)
+
+pub sound-well : (c : Counts) (w : List ℕ) → Well c w → soundWords (lent w) ≡ soundStore (decodeAt c w)
+unfolding soundWords decode
+sound-well c w W = rw (well-in c w W, W .fits .counts) refl

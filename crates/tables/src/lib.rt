@@ -41,86 +41,82 @@ ghost use Rattle.tables.specs.Layout.{HEADER, recordTable, slotTable, ve
 use chains::Heads;
 use chains::Table;
 use meaning::Counts;
+use meaning::MAX_EDITS;
+use meaning::MAX_RECORDS;
+use meaning::MAX_ROWS;
 
 // The layout: every width and offset has its name here and nowhere else; specs/Layout has the same names.
-const HEADER: usize = 8;
+pub const HEADER: usize = 8;
 
-const RECORD: usize = 3;
+pub const RECORD: usize = 3;
 
-const SLOT: usize = 4;
+pub const SLOT: usize = 4;
 
-const VERSION: usize = 4;
+pub const VERSION: usize = 4;
 
-const LOCK: usize = 5;
+pub const LOCK: usize = 5;
 
-const ACCESS: usize = 5;
+pub const ACCESS: usize = 5;
 
-const H_RECORDS: usize = 0;
+pub const H_RECORDS: usize = 0;
 
-const H_EDITS: usize = 1;
+pub const H_EDITS: usize = 1;
 
-const H_VERSIONS: usize = 2;
+pub const H_VERSIONS: usize = 2;
 
-const H_LOCKS: usize = 3;
+pub const H_LOCKS: usize = 3;
 
-const H_ACCESSES: usize = 4;
+pub const H_ACCESSES: usize = 4;
 
-const FREE_VERSION: usize = 5;
+pub const FREE_VERSION: usize = 5;
 
-const FREE_LOCK: usize = 6;
+pub const FREE_LOCK: usize = 6;
 
-const FREE_ACCESS: usize = 7;
+pub const FREE_ACCESS: usize = 7;
 
-const R_VERSION: usize = 0;
+pub const R_VERSION: usize = 0;
 
-const R_LOCK: usize = 1;
+pub const R_LOCK: usize = 1;
 
-const R_FLOOR: usize = 2;
+pub const R_FLOOR: usize = 2;
 
-const S_STATE: usize = 0;
+pub const S_STATE: usize = 0;
 
-const S_GENERATION: usize = 1;
+pub const S_GENERATION: usize = 1;
 
-const S_ACCESS: usize = 2;
+pub const S_ACCESS: usize = 2;
 
-const S_POINT: usize = 3;
+pub const S_POINT: usize = 3;
 
-const V_POINT: usize = 0;
+pub const V_POINT: usize = 0;
 
-const V_VALUE: usize = 1;
+pub const V_VALUE: usize = 1;
 
-const V_SPARE: usize = 2;
+pub const V_SPARE: usize = 2;
 
-const V_NEXT: usize = 3;
+pub const V_NEXT: usize = 3;
 
-const L_LOW: usize = 0;
+pub const L_LOW: usize = 0;
 
-const L_HIGH: usize = 1;
+pub const L_HIGH: usize = 1;
 
-const L_MODE: usize = 2;
+pub const L_MODE: usize = 2;
 
-const L_RECORD: usize = 3;
+pub const L_RECORD: usize = 3;
 
-const L_NEXT: usize = 4;
+pub const L_NEXT: usize = 4;
 
-const MODES: u64 = 4;
+pub const MODES: u64 = 4;
 
-const A_RECORD: usize = 0;
+pub const A_RECORD: usize = 0;
 
-const A_FROM: usize = 1;
+pub const A_FROM: usize = 1;
 
-const A_WRITTEN: usize = 2;
+pub const A_WRITTEN: usize = 2;
 
-const A_VALUE: usize = 3;
+pub const A_VALUE: usize = 3;
 
-const A_NEXT: usize = 4;
-
-// The largest counts.
-const MAX_RECORDS: usize = 1024;
-
-const MAX_EDITS: usize = 63;
-
-const MAX_ROWS: usize = 4095;
+pub const A_NEXT: usize = 4;
 
 // The five parts as tables, and the heads of their chains.
 

@@ -1,6 +1,5 @@
 -- `format::format_fits` meets its contract.
 use mathlib.Core.Path.{sym, ap, _∙_}
-use mathlib.Core.Bool.{_&&_}
 use lib.Dec.{eqb}
 use borrow.Author.Tests.{not-true, not-false}
 use Rattle.tables.proofs.Header.{good-ranged}

@@ -1,5 +1,5 @@
 -- `format::lay_out` meets its contract: its steps are those of `formattedWords`.
-use mathlib.Core.Path.{sym, ap, _∙_}
+use mathlib.Core.Path.{_∙_}
 use native.Mathlib.Omega.{arith}
 use Rattle.format.specs.Format.{formattedWords}
 use Rattle.format.proofs.Laying.{size-least, blank-words, versions-lie, locks-lie, accesses-lie}

@@ -2,7 +2,6 @@
 use Prim.Native.Nat.{_-_}
 use native.Mathlib.Omega.{arith}
 use Rattle.format.proofs.Laying.{Linking, link-start, link-again, link-done, link-lies}
-use borrow.Author.Needs.{needs}
 use Rattle.format.proofs.link_rows.Statement.{statement}
 use Rattle.format.proofs.link_rows.Tie as tie
 

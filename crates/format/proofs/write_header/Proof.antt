@@ -1,7 +1,6 @@
 -- `format::write_header` meets its contract: eight stores.
 use native.Mathlib.Omega.{arith}
 use lib.ListN.{length-set}
-use Rattle.format.specs.Format.{headerWords}
 use borrow.Author.Needs.{needs}
 use Rattle.format.proofs.write_header.Statement.{statement}
 use Rattle.format.proofs.write_header.Tie as tie

@@ -1,3 +1,4 @@
+-- `lookups::access_row` meets its contract: a search with an early exit. Rests on Found.
 use native.Mathlib.Omega.{arith}
 use denote.Ref.{now}
 use borrow.Author.Tests.{eq-eqb, ne-eqb}
@@ -13,12 +14,6 @@ use Rattle.lookups.proofs.Found.{of-entry}
 use borrow.Author.Needs.{needs}
 use Rattle.lookups.proofs.access_row.Statement.{statement}
 use Rattle.lookups.proofs.access_row.Tie as tie
-use Rattle.lookups.proofs.access_row.Reads as reads
-use Rattle.lookups.proofs.access_row.Lts as lts
-use Rattle.chains.proofs.more.Reads as more-reads
-use Rattle.tables.proofs.access_at.Reads as access-at-reads
-use Rattle.tables.proofs.first_access.Reads as first-access-reads
-use Rattle.tables.proofs.next_access.Reads as next-access-reads
 
 abbrev Inv-loop : tie.InvT-loop
 Inv-loop w c k r n cur₀ left₀ cur left = FindInv (link (accessTable c) w) n (λ i. isOf r (accessAt c w i)) (firstOf (λ i. isOf r (accessAt c w i)) (accessRows c w k)) cur left
@@ -26,43 +21,33 @@ Inv-loop w c k r n cur₀ left₀ cur left = FindInv (link (accessTable c) w) n 
 abbrev μ-loop : tie.MeasureT-loop
 μ-loop w c k r n cur₀ left₀ cur left = left
 
--- src/lib.rt:88:9
 first-access-requires : tie.Need-first-access-requires Inv-loop μ-loop
 first-access-requires c κs = search needs
 
--- src/lib.rt:90:5
 loop-holds : tie.Need-loop-holds Inv-loop μ-loop
 loop-holds c = record { walk = access-rows-start _ _ _ (firstOf (λ i. isOf (c .before .before .args .r) (accessAt (c .before .before .args .c) (now (c .before .before .args .w)) i))) (c .first-access .ensures) }
 
--- src/lib.rt:90:11
 more-requires : tie.Need-more-requires Inv-loop μ-loop
 more-requires c κs = tt
 
--- src/lib.rt:91:13
 access-at-requires : tie.Need-access-at-requires Inv-loop μ-loop
 access-at-requires c κs = (c .before .before .before .before .before .pre .0, row-of _ _ _ (c .before .more .ensures) (c .if1 .taken))
 
--- src/lib.rt:93:13
 returns : tie.Need-returns Inv-loop μ-loop
 returns c = find-hit (c .before .before .before .before .before .loop .inv) (c .before .before .before .before .more .ensures) (c .before .before .before .if1 .taken) (of-entry (isOf (c .before .before .before .before .before .before .before .before .args .r)) (c .before .before .access-at .ensures) (eq-eqb _ _ (c .if2 .taken)))
 
--- src/lib.rt:95:9
 next-access-requires : tie.Need-next-access-requires Inv-loop μ-loop
 next-access-requires c κs = (c .before .before .before .before .before .before .before .before .pre .0, row-of _ _ _ (c .before .before .before .before .more .ensures) (c .before .before .before .if1 .taken))
 
--- src/lib.rt:96:9
 sub-left : tie.Need-sub-left Inv-loop μ-loop
 sub-left c = fuel-of _ _ _ (c .before .before .before .before .before .more .ensures) (c .before .before .before .before .if1 .taken)
 
--- src/lib.rt:90:5
 loop-less : tie.Need-loop-less Inv-loop μ-loop
 loop-less c = omega (arith, fuel-of _ _ _ (c .before .before .before .before .before .more .ensures) (c .before .before .before .before .if1 .taken))
 
--- src/lib.rt:90:5
 loop-again : tie.Need-loop-again Inv-loop μ-loop
 loop-again c = find-again (c .before .before .before .before .before .before .loop .inv) (c .before .before .before .before .before .more .ensures) (c .before .before .before .before .if1 .taken) (of-entry (isOf (c .before .before .before .before .before .before .before .before .before .args .r)) (c .before .before .before .access-at .ensures) (ne-eqb _ _ (c .before .if2 .left))) (c .next-access .ensures)
 
--- src/lib.rt:83:1
 returns-2 : tie.Need-returns-2 Inv-loop μ-loop
 returns-2 c = find-end (c .before .before .loop .inv) (c .before .more .ensures) (c .if1 .left)
 

@@ -1,3 +1,4 @@
+-- `lookups::allows` meets its contract. Rests on Common.
 use denote.Ref.{now}
 use borrow.Author.Tests.{not-true, not-false}
 use Rattle.tables.specs.Decode.{recordsOf}
@@ -5,24 +6,16 @@ use Rattle.lookups.proofs.Common.{allows-no, allows-is}
 use borrow.Author.Needs.{needs}
 use Rattle.lookups.proofs.allows.Statement.{statement}
 use Rattle.lookups.proofs.allows.Tie as tie
-use Rattle.lookups.proofs.allows.Reads as reads
-use Rattle.lookups.proofs.allows.Lts as lts
-use Rattle.lookups.proofs.allows_read.Reads as allows-read-reads
-use Rattle.lookups.proofs.allows_write.Reads as allows-write-reads
 
--- src/lib.rt:323:9
 allows-write-requires : tie.Need-allows-write-requires
 allows-write-requires c κs = search needs
 
--- src/lib.rt:324:9
 returns : tie.Need-returns
 returns c = allows-no (recordsOf (c .before .before .before .args .c) (now (c .before .before .before .args .w))) (c .before .before .before .args .k) (c .before .before .before .args .p) (c .before .before .before .args .a) (c .before .allows-write .ensures) (not-true _ (c .if1 .taken))
 
--- src/lib.rt:326:5
 allows-read-requires : tie.Need-allows-read-requires
 allows-read-requires c κs = search needs
 
--- src/lib.rt:319:1
 returns-2 : tie.Need-returns-2
 returns-2 c = allows-is (recordsOf (c .before .before .before .before .args .c) (now (c .before .before .before .before .args .w))) (c .before .before .before .before .args .k) (c .before .before .before .before .args .p) (c .before .before .before .before .args .a) (c .before .before .allows-write .ensures) (not-false _ (c .before .if1 .left)) (c .allows-read .ensures)
 

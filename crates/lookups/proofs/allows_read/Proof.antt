@@ -1,3 +1,4 @@
+-- `lookups::allows_read` meets its contract. Rests on Common.
 use denote.Ref.{now}
 use Rattle.meaning.specs.Points.{ownOn}
 use Rattle.tables.specs.Decode.{recordsOf}
@@ -5,33 +6,22 @@ use Rattle.lookups.proofs.Common.{own-reach, read-none, read-below, rea
 use borrow.Author.Needs.{needs}
 use Rattle.lookups.proofs.allows_read.Statement.{statement}
 use Rattle.lookups.proofs.allows_read.Tie as tie
-use Rattle.lookups.proofs.allows_read.Reads as reads
-use Rattle.lookups.proofs.allows_read.Lts as lts
-use Rattle.chains.proofs.wide.Reads as wide-reads
-use Rattle.chains.proofs.word.Reads as word-reads
-use Rattle.lookups.proofs.first_free.Reads as first-free-reads
 
--- src/lib.rt:311:9
 returns : tie.Need-returns
 returns c = read-none (ownOn (recordsOf (c .before .before .before .args .c) (now (c .before .before .before .args .w))) (c .before .before .before .args .k) (c .before .before .before .args .a)) (c .before .before .before .args .a) (c .before .before .before .args .p) (c .if1 .taken)
 
--- src/lib.rt:314:9
 returns-2 : tie.Need-returns-2
 returns-2 c = read-below (ownOn (recordsOf (c .before .before .before .before .before .args .c) (now (c .before .before .before .before .before .args .w))) (c .before .before .before .before .before .args .k) (c .before .before .before .before .before .args .a)) (c .before .before .before .before .before .args .a) (c .before .before .before .before .before .args .p) (c .before .before .if1 .left) (c .if2 .taken)
 
--- src/lib.rt:316:38
 word-requires : tie.Need-word-requires
 word-requires c κs = search needs
 
--- src/lib.rt:316:55
 wide-requires : tie.Need-wide-requires
 wide-requires c κs = search needs
 
--- src/lib.rt:316:9
 first-free-requires : tie.Need-first-free-requires
 first-free-requires c κs = search needs
 
--- src/lib.rt:306:1
 returns-3 : tie.Need-returns-3
 returns-3 c = read-is (ownOn (recordsOf (c .before .before .before .before .before .before .before .before .args .c) (now (c .before .before .before .before .before .before .before .before .args .w))) (c .before .before .before .before .before .before .before .before .args .k) (c .before .before .before .before .before .before .before .before .args .a)) (c .before .before .before .before .before .before .before .before .args .a) (c .before .before .before .before .before .before .before .before .args .p) (c .before .before .before .before .before .if1 .left) (search needs) (own-reach (c .before .before .before .before .before .before .before .before .args .c) (now (c .before .before .before .before .before .before .before .before .args .w)) (c .before .before .before .before .before .before .before .before .args .k) (c .before .before .before .before .before .before .before .before .args .a) (c .before .before .before .before .before .before .before .before .pre .1) (c .before .before .word .ensures) (c .before .wide .ensures) _ (c .before .before .before .before .before .before .before .before .args .a .from) (c .first-free .ensures))
 

@@ -1,21 +1,16 @@
+-- `lookups::counts` meets its contract.
 use Rattle.lookups.specs.Search.{counts}
 use borrow.Author.Needs.{needs}
 use Rattle.lookups.proofs.counts.Statement.{statement}
 use Rattle.lookups.proofs.counts.Tie as tie
-use Rattle.lookups.proofs.counts.Reads as reads
-use Rattle.lookups.proofs.counts.Lts as lts
-use Rattle.meaning.proofs.blocks.Reads as blocks-reads
 
--- src/lib.rt:208:9
 returns : tie.Need-returns
 unfolding counts
 returns c = rw (c .before .if1 .taken)
 
--- src/lib.rt:210:5
 blocks-requires : tie.Need-blocks-requires
 blocks-requires c κs = search needs
 
--- src/lib.rt:204:1
 returns-2 : tie.Need-returns-2
 unfolding counts
 returns-2 c = rw (c .before .if1 .left) (c .blocks2 .ensures)

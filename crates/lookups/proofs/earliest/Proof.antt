@@ -1,5 +1,5 @@
+-- `lookups::earliest` meets its contract: the least point of the first accesses, access by access. Rests on Lifts.
 use native.Mathlib.Omega.{arith}
-use denote.Ref.{now}
 use Rattle.chains.proofs.Walks.{row-of, fuel-of}
 use Rattle.lookups.proofs.Common.{named-start, named-rec, named-on}
 use Rattle.lookups.proofs.Fronts.{next-access}
@@ -7,13 +7,6 @@ use Rattle.lookups.proofs.Lifts.{Seeking, seek-start, seek-on, seek-out
 use borrow.Author.Needs.{needs}
 use Rattle.lookups.proofs.earliest.Statement.{statement}
 use Rattle.lookups.proofs.earliest.Tie as tie
-use Rattle.lookups.proofs.earliest.Reads as reads
-use Rattle.lookups.proofs.earliest.Lts as lts
-use Rattle.chains.proofs.more.Reads as more-reads
-use Rattle.lookups.proofs.lift_next.Reads as lift-next-reads
-use Rattle.tables.proofs.access_at.Reads as access-at-reads
-use Rattle.tables.proofs.first_access.Reads as first-access-reads
-use Rattle.tables.proofs.next_access.Reads as next-access-reads
 
 abbrev Inv-loop : tie.InvT-loop
 Inv-loop w c k n p₀ j₀ cur₀ left₀ p j cur left = Seeking c w k p j cur left
@@ -21,51 +14,39 @@ Inv-loop w c k n p₀ j₀ cur₀ left₀ p j cur left = Seeking c w k p j cur l
 abbrev μ-loop : tie.MeasureT-loop
 μ-loop w c k n p₀ j₀ cur₀ left₀ p j cur left = left
 
--- src/lib.rt:611:9
 first-access-requires : tie.Need-first-access-requires Inv-loop μ-loop
 first-access-requires c κs = (c .before .pre .0, c .before .pre .1)
 
--- src/lib.rt:613:5
 loop-holds : tie.Need-loop-holds Inv-loop μ-loop
 loop-holds c = seek-start _ _ _ (c .first-access .ensures) (named-start _ _ _ (c .before .before .pre .2) (c .first-access .ensures))
 
--- src/lib.rt:613:11
 more-requires : tie.Need-more-requires Inv-loop μ-loop
 more-requires c κs = tt
 
--- src/lib.rt:614:13
 access-at-requires : tie.Need-access-at-requires Inv-loop μ-loop
 access-at-requires c κs = (c .before .before .before .before .before .pre .0, row-of _ _ _ (c .before .more .ensures) (c .if1 .taken))
 
--- src/lib.rt:615:9
 lift-next-requires : tie.Need-lift-next-requires Inv-loop μ-loop
 lift-next-requires c κs = (c .before .before .before .before .before .before .pre .0, c .before .before .before .before .before .before .pre .1, c .before .before .before .before .before .before .pre .2, named-rec _ _ (c .before .before .before .loop .inv .named) (c .before .before .more .ensures) (c .before .if1 .taken) (c .access-at .ensures), c .before .before .before .loop .inv .low, omega (arith, c .before .before .before .loop .inv .sum, fuel-of _ _ _ (c .before .before .more .ensures) (c .before .if1 .taken)), next-access _ _ _ (c .before .before .before .loop .inv .met) (row-of _ _ _ (c .before .before .more .ensures) (c .before .if1 .taken)) (c .access-at .ensures), c .before .before .before .loop .inv .best)
 
--- src/lib.rt:617:13
 returns : tie.Need-returns Inv-loop μ-loop
 returns c = seek-out _ _ _ (c .before .before .before .before .before .loop .inv) (c .before .before .before .before .more .ensures) (c .before .before .before .if1 .taken) (fuel-of _ _ _ (c .before .before .before .before .more .ensures) (c .before .before .before .if1 .taken)) (c .before .lift-next .ensures) (c .if2 .taken)
 
--- src/lib.rt:619:9
 next-access-requires : tie.Need-next-access-requires Inv-loop μ-loop
 next-access-requires c κs = (c .before .before .before .before .before .before .before .before .pre .0, row-of _ _ _ (c .before .before .before .before .more .ensures) (c .before .before .before .if1 .taken))
 
--- src/lib.rt:620:9
 sub-left : tie.Need-sub-left Inv-loop μ-loop
 sub-left c = fuel-of _ _ _ (c .before .before .before .before .before .more .ensures) (c .before .before .before .before .if1 .taken)
 
--- src/lib.rt:621:9
 add-j : tie.Need-add-j Inv-loop μ-loop
 add-j c = omega (arith, c .before .before .before .before .before .before .loop .inv .sum)
 
--- src/lib.rt:613:5
 loop-less : tie.Need-loop-less Inv-loop μ-loop
 loop-less c = omega (arith, fuel-of _ _ _ (c .before .before .before .before .before .more .ensures) (c .before .before .before .before .if1 .taken))
 
--- src/lib.rt:613:5
 loop-again : tie.Need-loop-again Inv-loop μ-loop
 loop-again c = seek-on _ _ _ (c .before .before .before .before .before .before .loop .inv) (c .before .before .before .before .before .more .ensures) (c .before .before .before .before .if1 .taken) (fuel-of _ _ _ (c .before .before .before .before .before .more .ensures) (c .before .before .before .before .if1 .taken)) (c .before .before .lift-next .ensures) (search needs) (c .next-access .ensures) (named-on _ _ (c .before .before .before .before .before .before .loop .inv .named) (c .before .before .before .before .before .more .ensures) (c .before .before .before .before .if1 .taken) (c .next-access .ensures))
 
--- src/lib.rt:604:1
 returns-2 : tie.Need-returns-2 Inv-loop μ-loop
 returns-2 c = seek-done _ _ _ (c .before .before .loop .inv) (c .before .more .ensures) (c .if1 .left)
 

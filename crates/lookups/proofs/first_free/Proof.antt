@@ -1,15 +1,12 @@
+-- `lookups::first_free` meets its contract: every point passed is under a lock. Rests on Free.
 use Prim.Native.Nat.{suc, _-_}
 use native.Mathlib.Omega.{arith}
-use denote.Ref.{now}
 use Rattle.tables.specs.Decode.{recordAt}
 use Rattle.lookups.specs.Search.{counted}
 use Rattle.lookups.proofs.Free.{Run, run-start, run-on, run-moves, run-stop, run-end}
 use borrow.Author.Needs.{needs}
 use Rattle.lookups.proofs.first_free.Statement.{statement}
 use Rattle.lookups.proofs.first_free.Tie as tie
-use Rattle.lookups.proofs.first_free.Reads as reads
-use Rattle.lookups.proofs.first_free.Lts as lts
-use Rattle.lookups.proofs.past.Reads as past-reads
 
 abbrev Inv-loop : tie.InvT-loop
 Inv-loop w c mine mode k r low high p₀ p = Run (counted mine mode k (recordAt c w r .locks)) low high p
@@ -17,27 +14,21 @@ Inv-loop w c mine mode k r low high p₀ p = Run (counted mine mode k (recordAt 
 abbrev μ-loop : tie.MeasureT-loop
 μ-loop w c mine mode k r low high p₀ p = suc high - p
 
--- src/lib.rt:249:5
 loop-holds : tie.Need-loop-holds Inv-loop μ-loop
 loop-holds c = run-start _ _ _ (c .before .pre .2)
 
--- src/lib.rt:250:13
 past-requires : tie.Need-past-requires Inv-loop μ-loop
 past-requires c κs = (c .before .before .before .pre .0, c .before .before .before .pre .1, c .before .before .before .pre .3)
 
--- src/lib.rt:252:13
 returns : tie.Need-returns Inv-loop μ-loop
 returns c = run-stop _ _ _ (c .before .before .before .loop .inv) (search needs) (c .before .past .ensures) (c .if1 .taken)
 
--- src/lib.rt:249:5
 loop-less : tie.Need-loop-less Inv-loop μ-loop
 loop-less c = omega (arith, run-moves _ _ _ (c .before .before .before .loop .inv) (c .before .past .ensures) (c .if1 .left))
 
--- src/lib.rt:249:5
 loop-again : tie.Need-loop-again Inv-loop μ-loop
 loop-again c = run-on _ _ _ (c .before .before .before .loop .inv) (c .before .past .ensures)
 
--- src/lib.rt:244:1
 returns-2 : tie.Need-returns-2 Inv-loop μ-loop
 returns-2 c = run-end _ _ _ (c .before .loop .inv) (search needs)
 

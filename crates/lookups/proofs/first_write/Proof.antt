@@ -1,33 +1,26 @@
-use Prim.Native.Nat.{suc, min, max}
+-- `lookups::first_write` meets its contract: a loop that keeps the least start. Rests on Extremes and Reach.
+use Prim.Native.Nat.{suc, max}
 use mathlib.Core.Path.{_∙_}
 use mathlib.Core.List.{map}
 use native.Mathlib.Omega.{arith}
-use native.Mathlib.Numerals.{add-one}
 use denote.Ref.{now}
 use Rattle.chains.specs.Table.{link}
 use Rattle.chains.proofs.Walks.{row-of, fuel-of}
 use Rattle.chains.proofs.Loops.{Walk}
-use Rattle.meaning.specs.Limits.{LAST, SLOTS}
-use Rattle.meaning.specs.Lists.{least, greatest}
-use Rattle.meaning.specs.Points.{covers, meets, blocks, blockers, firstCovered, firstBlocked, holder, own, writes}
+use Rattle.meaning.specs.Limits.{LAST}
+use Rattle.meaning.specs.Lists.{least}
+use Rattle.meaning.specs.Points.{own, writes}
 use Rattle.meaning.specs.declared.Lock.{Lock}
 use Rattle.tables.specs.Layout.{lockTable}
 use Rattle.tables.specs.Decode.{recordAt, lockAt}
 use Rattle.tables.proofs.Loops.{locks-start}
 use Rattle.lookups.specs.Search.{ownsWrite}
-use Rattle.lookups.specs.Commit.{startsAfter, endsBefore, firstUnder, lastUnder}
+use Rattle.lookups.specs.Commit.{startsAfter, firstUnder}
 use Rattle.lookups.proofs.Extremes.{valued, least-on, least-done}
-use Rattle.lookups.proofs.Reach.{first-under-own, last-under-own}
+use Rattle.lookups.proofs.Reach.{first-under-own}
 use borrow.Author.Needs.{needs}
 use Rattle.lookups.proofs.first_write.Statement.{statement}
 use Rattle.lookups.proofs.first_write.Tie as tie
-use Rattle.lookups.proofs.first_write.Reads as reads
-use Rattle.lookups.proofs.first_write.Lts as lts
-use Rattle.chains.proofs.more.Reads as more-reads
-use Rattle.lookups.proofs.earlier.Reads as earlier-reads
-use Rattle.tables.proofs.first_lock.Reads as first-lock-reads
-use Rattle.tables.proofs.lock_at.Reads as lock-at-reads
-use Rattle.tables.proofs.next_lock.Reads as next-lock-reads
 
 abbrev Inv-loop : tie.InvT-loop
 Inv-loop w c k r low n best₀ cur₀ left₀ best cur left = Walk (link (lockTable c) w) n (λ rs. least best (valued (startsAfter low) (ownsWrite k) (λ (l : Lock). max low (l .low)) (map (lockAt c w) rs))) (firstUnder (writes (own k (recordAt c w r .locks))) low) cur left
@@ -35,47 +28,36 @@ Inv-loop w c k r low n best₀ cur₀ left₀ best cur left = Walk (link (lockTa
 abbrev μ-loop : tie.MeasureT-loop
 μ-loop w c k r low n best₀ cur₀ left₀ best cur left = left
 
--- src/lib.rt:521:20
 add-best : tie.Need-add-best Inv-loop μ-loop
 add-best c = search needs
 
--- src/lib.rt:522:9
 first-lock-requires : tie.Need-first-lock-requires Inv-loop μ-loop
 first-lock-requires c κs = (c .before .pre .0, c .before .pre .1)
 
--- src/lib.rt:524:5
 loop-holds : tie.Need-loop-holds Inv-loop μ-loop
 loop-holds c = record { same = locks-start (c .before .before .args .c) (now (c .before .before .args .w)) (c .before .before .args .r) (λ ls. least (suc LAST) (valued (startsAfter (c .before .before .args .low)) (ownsWrite (c .before .before .args .k)) (λ (l : Lock). max (c .before .before .args .low) (l .low)) ls)) (c .first-lock .ensures) .same ∙ first-under-own _ _ _ }
 
--- src/lib.rt:524:11
 more-requires : tie.Need-more-requires Inv-loop μ-loop
 more-requires c κs = tt
 
--- src/lib.rt:525:38
 lock-at-requires : tie.Need-lock-at-requires Inv-loop μ-loop
 lock-at-requires c κs = (c .before .before .before .before .before .pre .0, row-of _ _ _ (c .before .more .ensures) (c .if1 .taken))
 
--- src/lib.rt:525:9
 earlier-requires : tie.Need-earlier-requires Inv-loop μ-loop
 earlier-requires c κs = tt
 
--- src/lib.rt:526:9
 next-lock-requires : tie.Need-next-lock-requires Inv-loop μ-loop
 next-lock-requires c κs = (c .before .before .before .before .before .before .before .pre .0, row-of _ _ _ (c .before .before .before .more .ensures) (c .before .before .if1 .taken))
 
--- src/lib.rt:527:9
 sub-left : tie.Need-sub-left Inv-loop μ-loop
 sub-left c = fuel-of _ _ _ (c .before .before .before .before .more .ensures) (c .before .before .before .if1 .taken)
 
--- src/lib.rt:524:5
 loop-less : tie.Need-loop-less Inv-loop μ-loop
 loop-less c = omega (arith, fuel-of _ _ _ (c .before .before .before .before .more .ensures) (c .before .before .before .if1 .taken))
 
--- src/lib.rt:524:5
 loop-again : tie.Need-loop-again Inv-loop μ-loop
 loop-again c = least-on _ _ _ (lockAt (c .before .before .before .before .before .before .before .before .args .c) (now (c .before .before .before .before .before .before .before .before .args .w))) (c .before .before .before .before .before .loop .inv) (c .before .before .before .before .more .ensures) (c .before .before .before .if1 .taken) (c .before .earlier .ensures) (c .before .before .lock-at .ensures) (c .next-lock .ensures)
 
--- src/lib.rt:516:1
 returns : tie.Need-returns Inv-loop μ-loop
 returns c = least-done _ _ _ (lockAt (c .before .before .before .before .before .args .c) (now (c .before .before .before .before .before .args .w))) (c .before .before .loop .inv) (c .before .more .ensures) (c .if1 .left)
 

@@ -1,13 +1,9 @@
+-- `lookups::free_slot` meets its contract: no slot passed is free. Rests on Slots.
 use Prim.Native.Nat.{suc, _-_}
-use native.Mathlib.Omega.{arith}
-use denote.Ref.{now}
 use Rattle.lookups.proofs.Slots.{Passed, passed-start, passed-row, passed-on, passed-found, passed-done}
 use borrow.Author.Needs.{needs}
 use Rattle.lookups.proofs.free_slot.Statement.{statement}
 use Rattle.lookups.proofs.free_slot.Tie as tie
-use Rattle.lookups.proofs.free_slot.Reads as reads
-use Rattle.lookups.proofs.free_slot.Lts as lts
-use Rattle.tables.proofs.state_of.Reads as state-of-reads
 
 abbrev Inv-loop : tie.InvT-loop
 Inv-loop w c n k₀ k = Passed c w k
@@ -15,31 +11,24 @@ Inv-loop w c n k₀ k = Passed c w k
 abbrev μ-loop : tie.MeasureT-loop
 μ-loop w c n k₀ k = suc n - k
 
--- src/lib.rt:73:5
 loop-holds : tie.Need-loop-holds Inv-loop μ-loop
 loop-holds c = passed-start _ _
 
--- src/lib.rt:74:12
 state-of-requires : tie.Need-state-of-requires Inv-loop μ-loop
 state-of-requires c κs = (c .before .before .before .pre, passed-row (c .before .loop .inv) (search needs))
 
--- src/lib.rt:75:13
 returns : tie.Need-returns Inv-loop μ-loop
 returns c = passed-found _ (c .before .before .before .loop .inv) (search needs) (c .before .state-of .ensures) (c .if1 .taken)
 
--- src/lib.rt:77:9
 add-k : tie.Need-add-k Inv-loop μ-loop
 add-k c = search needs
 
--- src/lib.rt:73:5
 loop-less : tie.Need-loop-less Inv-loop μ-loop
 loop-less c = search needs
 
--- src/lib.rt:73:5
 loop-again : tie.Need-loop-again Inv-loop μ-loop
 loop-again c = passed-on _ (c .before .before .before .loop .inv) (search needs) (c .before .state-of .ensures) (c .if1 .left)
 
--- src/lib.rt:67:1
 returns-2 : tie.Need-returns-2 Inv-loop μ-loop
 returns-2 c = passed-done _ (c .before .loop .inv) (search needs)
 

@@ -1,26 +1,19 @@
+-- `lookups::frozen` meets its contract. Rests on Judged.
 use denote.Ref.{now}
 use Rattle.lookups.proofs.Judged.{frozen-yes, frozen-is}
 use borrow.Author.Needs.{needs}
 use Rattle.lookups.proofs.frozen.Statement.{statement}
 use Rattle.lookups.proofs.frozen.Tie as tie
-use Rattle.lookups.proofs.frozen.Reads as reads
-use Rattle.lookups.proofs.frozen.Lts as lts
-use Rattle.lookups.proofs.settled_on.Reads as settled-on-reads
-use Rattle.lookups.proofs.version_stands.Reads as version-stands-reads
 
--- src/lib.rt:355:8
 settled-on-requires : tie.Need-settled-on-requires
 settled-on-requires c κs = search needs
 
--- src/lib.rt:356:9
 returns : tie.Need-returns
 returns c = frozen-yes (c .before .before .before .args .c) (now (c .before .before .before .args .w)) (c .before .before .before .args .r) (c .before .before .before .args .mode) (c .before .before .before .args .p) (c .before .before .before .pre .1) (c .before .settled-on .ensures) (c .if1 .taken)
 
--- src/lib.rt:358:5
 version-stands-requires : tie.Need-version-stands-requires
 version-stands-requires c κs = search needs
 
--- src/lib.rt:351:1
 returns-2 : tie.Need-returns-2
 returns-2 c = frozen-is (c .before .before .before .before .args .c) (now (c .before .before .before .before .args .w)) (c .before .before .before .before .args .r) (c .before .before .before .before .args .mode) (c .before .before .before .before .args .p) (c .before .before .before .before .pre .1) (c .before .before .settled-on .ensures) (c .before .if1 .left) (c .version-stands .ensures)
 

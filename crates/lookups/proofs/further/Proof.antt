@@ -1,45 +1,31 @@
-use denote.Ref.{now}
+-- `lookups::further` meets its contract: one turn of past. Rests on Free.
 use borrow.Author.Tests.{not-true, not-false}
 use Rattle.lookups.proofs.Free.{further-other, further-off, further-on}
 use borrow.Author.Needs.{needs}
 use Rattle.lookups.proofs.further.Statement.{statement}
 use Rattle.lookups.proofs.further.Tie as tie
-use Rattle.lookups.proofs.further.Reads as reads
-use Rattle.lookups.proofs.further.Lts as lts
-use Rattle.lookups.proofs.counts.Reads as counts-reads
-use Rattle.lookups.proofs.larger.Reads as larger-reads
-use Rattle.lookups.proofs.smaller.Reads as smaller-reads
-use Rattle.meaning.proofs.covers.Reads as covers-reads
 
--- src/lib.rt:217:9
 counts-requires : tie.Need-counts-requires
 counts-requires c κs = search needs
 
--- src/lib.rt:218:9
 returns : tie.Need-returns
 returns c = further-other _ _ _ (c .before .before .args .p) (c .before .before .args .high) (c .before .before .args .best) _ (c .before .counts .ensures) (not-true _ (c .if1 .taken))
 
--- src/lib.rt:220:9
 covers-requires : tie.Need-covers-requires
 covers-requires c κs = search needs
 
--- src/lib.rt:221:9
 returns-2 : tie.Need-returns-2
 returns-2 c = further-off _ _ _ _ (c .before .before .before .before .args .high) (c .before .before .before .before .args .best) _ (c .before .before .before .counts .ensures) (not-false _ (c .before .before .if1 .left)) (c .before .covers .ensures) (not-true _ (c .if2 .taken))
 
--- src/lib.rt:223:18
 smaller-requires : tie.Need-smaller-requires
 smaller-requires c κs = search needs
 
--- src/lib.rt:223:18
 add-larger : tie.Need-add-larger
 add-larger c = search needs
 
--- src/lib.rt:223:5
 larger-requires : tie.Need-larger-requires
 larger-requires c κs = search needs
 
--- src/lib.rt:213:1
 returns-3 : tie.Need-returns-3
 returns-3 c = further-on _ _ _ _ _ _ _ (c .before .before .before .before .before .counts .ensures) (not-false _ (c .before .before .before .before .if1 .left)) (c .before .before .before .covers .ensures) (not-false _ (c .before .before .if2 .left)) (c .before .smaller .ensures) (c .larger .ensures)
 

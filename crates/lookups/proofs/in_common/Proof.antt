@@ -1,26 +1,20 @@
+-- `lookups::in_common` meets its contract. Rests on Common.
 use denote.Ref.{now}
 use Rattle.tables.specs.Decode.{recordsOf, slotAt}
 use Rattle.lookups.proofs.Common.{common-low, common-high, common-is}
 use borrow.Author.Needs.{needs}
 use Rattle.lookups.proofs.in_common.Statement.{statement}
 use Rattle.lookups.proofs.in_common.Tie as tie
-use Rattle.lookups.proofs.in_common.Reads as reads
-use Rattle.lookups.proofs.in_common.Lts as lts
-use Rattle.lookups.proofs.all_allow.Reads as all-allow-reads
 
--- src/lib.rt:483:9
 returns : tie.Need-returns
 returns c = common-low (recordsOf (c .before .before .args .c) (now (c .before .before .args .w))) (c .before .before .args .k) (slotAt (c .before .before .args .c) (now (c .before .before .args .w)) (c .before .before .args .k)) _ (c .if1 .taken)
 
--- src/lib.rt:486:9
 returns-2 : tie.Need-returns-2
 returns-2 c = common-high (recordsOf (c .before .before .before .args .c) (now (c .before .before .before .args .w))) (c .before .before .before .args .k) (slotAt (c .before .before .before .args .c) (now (c .before .before .before .args .w)) (c .before .before .before .args .k)) _ (search needs) (c .if2 .taken)
 
--- src/lib.rt:488:5
 all-allow-requires : tie.Need-all-allow-requires
 all-allow-requires c κs = search needs
 
--- src/lib.rt:478:1
 returns-3 : tie.Need-returns-3
 returns-3 c = common-is (recordsOf (c .before .before .before .before .args .c) (now (c .before .before .before .before .args .w))) (c .before .before .before .before .args .k) (slotAt (c .before .before .before .before .args .c) (now (c .before .before .before .before .args .w)) (c .before .before .before .before .args .k)) _ (search needs) (search needs) (c .all-allow .ensures)
 

@@ -1,3 +1,4 @@
+-- `lookups::lift` meets its contract: passes until none moves the point. Rests on Lifts.
 use Prim.Native.Nat.{suc, _-_}
 use native.Mathlib.Omega.{arith}
 use Rattle.meaning.specs.Limits.{LAST}
@@ -9,9 +10,6 @@ use Rattle.lookups.proofs.Lifts.{Lifting, lift-start, lift-on, lift-mov
 use borrow.Author.Needs.{needs}
 use Rattle.lookups.proofs.lift.Statement.{statement}
 use Rattle.lookups.proofs.lift.Tie as tie
-use Rattle.lookups.proofs.lift.Reads as reads
-use Rattle.lookups.proofs.lift.Lts as lts
-use Rattle.lookups.proofs.raise.Reads as raise-reads
 
 abbrev Inv-loop : tie.InvT-loop
 Inv-loop w c k p j q₀ q = Lifting (λ x. all (allows (recordsOf c w) k x) (firstAccesses c w k j)) p q
@@ -19,27 +17,21 @@ Inv-loop w c k p j q₀ q = Lifting (λ x. all (allows (recordsOf c w) k x) (fir
 abbrev μ-loop : tie.MeasureT-loop
 μ-loop w c k p j q₀ q = suc LAST - q
 
--- src/lib.rt:582:5
 loop-holds : tie.Need-loop-holds Inv-loop μ-loop
 loop-holds c = lift-start (c .before .pre .3)
 
--- src/lib.rt:583:13
 raise-requires : tie.Need-raise-requires Inv-loop μ-loop
 raise-requires c κs = (c .before .before .before .pre .0, c .before .before .before .pre .1, c .before .before .before .pre .2, c .before .loop .inv .top, c .before .before .before .pre .4)
 
--- src/lib.rt:585:13
 returns : tie.Need-returns Inv-loop μ-loop
 returns c = lift-stop (c .before .before .before .loop .inv) (c .before .raise .ensures) (c .if1 .taken)
 
--- src/lib.rt:582:5
 loop-less : tie.Need-loop-less Inv-loop μ-loop
 loop-less c = omega (arith, lift-moves (c .before .before .before .loop .inv) (c .before .raise .ensures) (c .if1 .left))
 
--- src/lib.rt:582:5
 loop-again : tie.Need-loop-again Inv-loop μ-loop
 loop-again c = lift-on (c .before .before .before .loop .inv) (c .before .raise .ensures)
 
--- src/lib.rt:577:1
 returns-2 : tie.Need-returns-2 Inv-loop μ-loop
 returns-2 c = lift-end (c .before .loop .inv) (search needs)
 

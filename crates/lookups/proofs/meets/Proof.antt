@@ -1,16 +1,12 @@
+-- `lookups::meets` meets its contract.
 use mathlib.Core.Path.{refl}
-use native.Mathlib.Omega.{arith}
 use borrow.Author.Tests.{le-leb, lt-leb}
 use Rattle.lookups.proofs.meets.Statement.{statement}
 use Rattle.lookups.proofs.meets.Tie as tie
-use Rattle.lookups.proofs.meets.Reads as reads
-use Rattle.lookups.proofs.meets.Lts as lts
 
--- src/lib.rt:270:9
 returns : tie.Need-returns
 returns c = rw (lt-leb (c .before .before .args .l .low) (c .before .before .args .high) (c .if1 .taken)) refl
 
--- src/lib.rt:266:1
 returns-2 : tie.Need-returns-2
 returns-2 c = rw (le-leb (c .before .before .before .args .l .low) (c .before .before .before .args .high) (c .before .if1 .left)) refl
 

@@ -1,49 +1,34 @@
-use Prim.Native.Nat.{suc, _≤_}
-use mathlib.Core.Path.{ap, _∙_}
+-- `lookups::next_allowed` meets its contract. Rests on Reach.
 use native.Mathlib.Omega.{arith}
 use denote.Ref.{now}
-use Rattle.meaning.specs.Limits.{LAST}
 use Rattle.meaning.specs.Points.{ownOn}
 use Rattle.tables.specs.Decode.{recordsOf}
 use Rattle.lookups.proofs.Reach.{next-late, next-hit, next-miss, read-end-top}
 use borrow.Author.Needs.{needs}
 use Rattle.lookups.proofs.next_allowed.Statement.{statement}
 use Rattle.lookups.proofs.next_allowed.Tie as tie
-use Rattle.lookups.proofs.next_allowed.Reads as reads
-use Rattle.lookups.proofs.next_allowed.Lts as lts
-use Rattle.lookups.proofs.larger.Reads as larger-reads
-use Rattle.lookups.proofs.read_end.Reads as read-end-reads
-use Rattle.lookups.proofs.up_from.Reads as up-from-reads
 
--- src/lib.rt:547:9
 larger-requires : tie.Need-larger-requires
 larger-requires c κs = search needs
 
--- src/lib.rt:549:16
 add-result : tie.Need-add-result
 add-result c = search needs
 
--- src/lib.rt:549:9
 returns : tie.Need-returns
 returns c = next-late (recordsOf (c .before .before .before .args .c) (now (c .before .before .before .args .w))) (c .before .before .before .args .k) (c .before .before .before .args .p) (c .before .before .before .args .a) (c .before .before .before .pre .2) (c .before .larger .ensures) (c .if1 .taken)
 
--- src/lib.rt:551:9
 read-end-requires : tie.Need-read-end-requires
 read-end-requires c κs = (c .before .before .before .pre .0, c .before .before .before .pre .1, omega (arith, c .before .larger .ensures, c .if1 .left))
 
--- src/lib.rt:552:9
 up-from-requires : tie.Need-up-from-requires
 up-from-requires c κs = search needs
 
--- src/lib.rt:554:9
 returns-2 : tie.Need-returns-2
 returns-2 c = next-hit (recordsOf (c .before .before .before .before .before .before .args .c) (now (c .before .before .before .before .before .before .args .w))) (c .before .before .before .before .before .before .args .k) (c .before .before .before .before .before .before .args .p) (c .before .before .before .before .before .before .args .a) (c .before .before .before .before .before .before .pre .2) (c .before .before .before .before .larger .ensures) (omega (arith, c .before .before .before .if1 .left)) (c .before .before .read-end .ensures) (c .before .up-from .ensures) (c .if2 .taken) (omega (arith, c .before .before .read-end .ensures, read-end-top (ownOn (recordsOf (c .before .before .before .before .before .before .args .c) (now (c .before .before .before .before .before .before .args .w))) (c .before .before .before .before .before .before .args .k) (c .before .before .before .before .before .before .args .a)) (c .before .before .before .before .before .before .args .a)))
 
--- src/lib.rt:556:5
 add-result-2 : tie.Need-add-result-2
 add-result-2 c = search needs
 
--- src/lib.rt:543:1
 returns-3 : tie.Need-returns-3
 returns-3 c = next-miss (recordsOf (c .before .before .before .before .before .before .args .c) (now (c .before .before .before .before .before .before .args .w))) (c .before .before .before .before .before .before .args .k) (c .before .before .before .before .before .before .args .p) (c .before .before .before .before .before .before .args .a) (c .before .before .before .before .before .before .pre .2) (c .before .before .before .before .larger .ensures) (omega (arith, c .before .before .before .if1 .left)) (c .before .before .read-end .ensures) (c .before .up-from .ensures) (c .if2 .left)
 

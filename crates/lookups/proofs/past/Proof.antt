@@ -1,3 +1,4 @@
+-- `lookups::past` meets its contract: a loop that keeps the greatest end. Rests on Extremes.
 use Prim.Native.Nat.{suc, min}
 use mathlib.Core.List.{map}
 use native.Mathlib.Omega.{arith}
@@ -11,17 +12,10 @@ use Rattle.meaning.specs.declared.Lock.{Lock}
 use Rattle.tables.specs.Layout.{lockTable}
 use Rattle.tables.specs.Decode.{recordAt, lockAt}
 use Rattle.tables.proofs.Loops.{locks-start}
-use Rattle.lookups.specs.Search.{counts, counted, endsAt, pastOf}
+use Rattle.lookups.specs.Search.{counts, counted, pastOf}
 use Rattle.lookups.proofs.Extremes.{valued, greatest-on, greatest-done}
 use Rattle.lookups.proofs.past.Statement.{statement}
 use Rattle.lookups.proofs.past.Tie as tie
-use Rattle.lookups.proofs.past.Reads as reads
-use Rattle.lookups.proofs.past.Lts as lts
-use Rattle.chains.proofs.more.Reads as more-reads
-use Rattle.lookups.proofs.further.Reads as further-reads
-use Rattle.tables.proofs.first_lock.Reads as first-lock-reads
-use Rattle.tables.proofs.lock_at.Reads as lock-at-reads
-use Rattle.tables.proofs.next_lock.Reads as next-lock-reads
 
 abbrev Inv-loop : tie.InvT-loop
 Inv-loop w c mine mode k r p high n best₀ cur₀ left₀ best cur left = Walk (link (lockTable c) w) n (λ rs. greatest best (valued (covers p) (counts mine mode k) (λ (l : Lock). suc (min high (l .high))) (map (lockAt c w) rs))) (pastOf (counted mine mode k (recordAt c w r .locks)) p high) cur left
@@ -29,44 +23,34 @@ Inv-loop w c mine mode k r p high n best₀ cur₀ left₀ best cur left = Walk 
 abbrev μ-loop : tie.MeasureT-loop
 μ-loop w c mine mode k r p high n best₀ cur₀ left₀ best cur left = left
 
--- src/lib.rt:233:9
 first-lock-requires : tie.Need-first-lock-requires Inv-loop μ-loop
 first-lock-requires c κs = (c .before .pre .0, c .before .pre .1)
 
--- src/lib.rt:235:5
 loop-holds : tie.Need-loop-holds Inv-loop μ-loop
 unfolding pastOf counted
 loop-holds c = locks-start _ _ _ (λ ls. greatest (c .before .before .args .p) (valued (covers (c .before .before .args .p)) (counts (c .before .before .args .mine) (c .before .before .args .mode) (c .before .before .args .k)) (λ (l : Lock). suc (min (c .before .before .args .high) (l .high))) ls)) (c .first-lock .ensures)
 
--- src/lib.rt:235:11
 more-requires : tie.Need-more-requires Inv-loop μ-loop
 more-requires c κs = tt
 
--- src/lib.rt:236:54
 lock-at-requires : tie.Need-lock-at-requires Inv-loop μ-loop
 lock-at-requires c κs = (c .before .before .before .before .before .pre .0, row-of _ _ _ (c .before .more .ensures) (c .if1 .taken))
 
--- src/lib.rt:236:9
 further-requires : tie.Need-further-requires Inv-loop μ-loop
 further-requires c κs = c .before .before .before .before .before .before .pre .2
 
--- src/lib.rt:237:9
 next-lock-requires : tie.Need-next-lock-requires Inv-loop μ-loop
 next-lock-requires c κs = (c .before .before .before .before .before .before .before .pre .0, row-of _ _ _ (c .before .before .before .more .ensures) (c .before .before .if1 .taken))
 
--- src/lib.rt:238:9
 sub-left : tie.Need-sub-left Inv-loop μ-loop
 sub-left c = fuel-of _ _ _ (c .before .before .before .before .more .ensures) (c .before .before .before .if1 .taken)
 
--- src/lib.rt:235:5
 loop-less : tie.Need-loop-less Inv-loop μ-loop
 loop-less c = omega (arith, fuel-of _ _ _ (c .before .before .before .before .more .ensures) (c .before .before .before .if1 .taken))
 
--- src/lib.rt:235:5
 loop-again : tie.Need-loop-again Inv-loop μ-loop
 loop-again c = greatest-on (covers (c .before .before .before .before .before .before .before .before .args .p)) (counts (c .before .before .before .before .before .before .before .before .args .mine) (c .before .before .before .before .before .before .before .before .args .mode) (c .before .before .before .before .before .before .before .before .args .k)) (λ (l : Lock). suc (min (c .before .before .before .before .before .before .before .before .args .high) (l .high))) (lockAt (c .before .before .before .before .before .before .before .before .args .c) (now (c .before .before .before .before .before .before .before .before .args .w))) (c .before .before .before .before .before .loop .inv) (c .before .before .before .before .more .ensures) (c .before .before .before .if1 .taken) (c .before .further .ensures) (c .before .before .lock-at .ensures) (c .next-lock .ensures)
 
--- src/lib.rt:227:1
 returns : tie.Need-returns Inv-loop μ-loop
 returns c = greatest-done (covers (c .before .before .before .before .before .args .p)) (counts (c .before .before .before .before .before .args .mine) (c .before .before .before .before .before .args .mode) (c .before .before .before .before .before .args .k)) (λ (l : Lock). suc (min (c .before .before .before .before .before .args .high) (l .high))) (lockAt (c .before .before .before .before .before .args .c) (now (c .before .before .before .before .before .args .w))) (c .before .before .loop .inv) (c .before .more .ensures) (c .if1 .left)
 

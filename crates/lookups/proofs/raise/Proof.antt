@@ -1,5 +1,5 @@
+-- `lookups::raise` meets its contract: one pass over the first accesses. Rests on Lifts.
 use native.Mathlib.Omega.{arith}
-use denote.Ref.{now}
 use Rattle.chains.proofs.Walks.{row-of, fuel-of}
 use Rattle.meaning.specs.Points.{allows}
 use Rattle.tables.specs.Decode.{recordsOf}
@@ -7,13 +7,6 @@ use Rattle.lookups.proofs.Common.{Named, named-front, named-rec, named-
 use Rattle.lookups.proofs.Lifts.{Raise, raise-start, raise-on, raise-done}
 use Rattle.lookups.proofs.raise.Statement.{statement}
 use Rattle.lookups.proofs.raise.Tie as tie
-use Rattle.lookups.proofs.raise.Reads as reads
-use Rattle.lookups.proofs.raise.Lts as lts
-use Rattle.chains.proofs.more.Reads as more-reads
-use Rattle.lookups.proofs.next_allowed.Reads as next-allowed-reads
-use Rattle.tables.proofs.access_at.Reads as access-at-reads
-use Rattle.tables.proofs.first_access.Reads as first-access-reads
-use Rattle.tables.proofs.next_access.Reads as next-access-reads
 
 abbrev Inv-loop : tie.InvT-loop
 Inv-loop w c k p j n q₀ cur₀ left₀ q cur left = Raise (allows (recordsOf c w) k) c w k j p q cur left × Named c w cur left
@@ -21,43 +14,33 @@ Inv-loop w c k p j n q₀ cur₀ left₀ q cur left = Raise (allows (recordsOf c
 abbrev μ-loop : tie.MeasureT-loop
 μ-loop w c k p j n q₀ cur₀ left₀ q cur left = left
 
--- src/lib.rt:566:9
 first-access-requires : tie.Need-first-access-requires Inv-loop μ-loop
 first-access-requires c κs = (c .before .pre .0, c .before .pre .1)
 
--- src/lib.rt:568:5
 loop-holds : tie.Need-loop-holds Inv-loop μ-loop
 loop-holds c = (raise-start _ _ _ _ _ _ (c .before .before .pre .3) (c .first-access .ensures), named-front _ _ _ _ (c .before .before .pre .4) (c .before .before .pre .2) (c .first-access .ensures))
 
--- src/lib.rt:568:11
 more-requires : tie.Need-more-requires Inv-loop μ-loop
 more-requires c κs = tt
 
--- src/lib.rt:569:38
 access-at-requires : tie.Need-access-at-requires Inv-loop μ-loop
 access-at-requires c κs = (c .before .before .before .before .before .pre .0, row-of _ _ _ (c .before .more .ensures) (c .if1 .taken))
 
--- src/lib.rt:569:9
 next-allowed-requires : tie.Need-next-allowed-requires Inv-loop μ-loop
 next-allowed-requires c κs = (c .before .before .before .before .before .before .pre .0, named-rec _ _ (c .before .before .before .loop .inv .1) (c .before .before .more .ensures) (c .before .if1 .taken) (c .access-at .ensures), c .before .before .before .loop .inv .0 .turn .top)
 
--- src/lib.rt:570:9
 next-access-requires : tie.Need-next-access-requires Inv-loop μ-loop
 next-access-requires c κs = (c .before .before .before .before .before .before .before .pre .0, row-of _ _ _ (c .before .before .before .more .ensures) (c .before .before .if1 .taken))
 
--- src/lib.rt:571:9
 sub-left : tie.Need-sub-left Inv-loop μ-loop
 sub-left c = fuel-of _ _ _ (c .before .before .before .before .more .ensures) (c .before .before .before .if1 .taken)
 
--- src/lib.rt:568:5
 loop-less : tie.Need-loop-less Inv-loop μ-loop
 loop-less c = omega (arith, fuel-of _ _ _ (c .before .before .before .before .more .ensures) (c .before .before .before .if1 .taken))
 
--- src/lib.rt:568:5
 loop-again : tie.Need-loop-again Inv-loop μ-loop
 loop-again c = (raise-on _ _ _ (c .before .before .before .before .before .loop .inv .0) (c .before .before .before .before .more .ensures) (c .before .before .before .if1 .taken) (c .before .before .access-at .ensures) (c .before .next-allowed .ensures) (c .next-access .ensures), named-on _ _ (c .before .before .before .before .before .loop .inv .1) (c .before .before .before .before .more .ensures) (c .before .before .before .if1 .taken) (c .next-access .ensures))
 
--- src/lib.rt:560:1
 returns : tie.Need-returns Inv-loop μ-loop
 returns c = raise-done _ _ _ (c .before .before .loop .inv .0) (c .before .more .ensures) (c .if1 .left)
 

@@ -1,3 +1,4 @@
+-- `lookups::read_end` meets its contract. Rests on Reach.
 use denote.Ref.{now}
 use Rattle.meaning.specs.Points.{ownOn}
 use Rattle.tables.specs.Decode.{recordsOf}
@@ -6,33 +7,22 @@ use Rattle.lookups.proofs.Reach.{read-end-none, read-end-is}
 use borrow.Author.Needs.{needs}
 use Rattle.lookups.proofs.read_end.Statement.{statement}
 use Rattle.lookups.proofs.read_end.Tie as tie
-use Rattle.lookups.proofs.read_end.Reads as reads
-use Rattle.lookups.proofs.read_end.Lts as lts
-use Rattle.chains.proofs.wide.Reads as wide-reads
-use Rattle.chains.proofs.word.Reads as word-reads
-use Rattle.lookups.proofs.first_free.Reads as first-free-reads
 
--- src/lib.rt:498:16
 add-result : tie.Need-add-result
 add-result c = search needs
 
--- src/lib.rt:498:9
 returns : tie.Need-returns
 returns c = read-end-none (ownOn (recordsOf (c .before .before .before .args .c) (now (c .before .before .before .args .w))) (c .before .before .before .args .k) (c .before .before .before .args .a)) (c .before .before .before .args .a) (c .if1 .taken)
 
--- src/lib.rt:500:34
 word-requires : tie.Need-word-requires
 word-requires c κs = search needs
 
--- src/lib.rt:500:51
 wide-requires : tie.Need-wide-requires
 wide-requires c κs = search needs
 
--- src/lib.rt:500:5
 first-free-requires : tie.Need-first-free-requires
 first-free-requires c κs = search needs
 
--- src/lib.rt:493:1
 returns-2 : tie.Need-returns-2
 returns-2 c = read-end-is (ownOn (recordsOf (c .before .before .before .before .before .before .args .c) (now (c .before .before .before .before .before .before .args .w))) (c .before .before .before .before .before .before .args .k) (c .before .before .before .before .before .before .args .a)) (c .before .before .before .before .before .before .args .a) (c .before .before .before .if1 .left) (own-reach (c .before .before .before .before .before .before .args .c) (now (c .before .before .before .before .before .before .args .w)) (c .before .before .before .before .before .before .args .k) (c .before .before .before .before .before .before .args .a) (c .before .before .before .before .before .before .pre .1) (c .before .before .word .ensures) (c .before .wide .ensures) _ (c .before .before .before .before .before .before .args .a .from) (c .first-free .ensures))
 

@@ -1,3 +1,4 @@
+-- `lookups::settled_on` meets its contract: some lock passes. Rests on Loops of `tables`.
 use mathlib.Core.Path.{_∙_, sym}
 use mathlib.Core.List.{map}
 use native.Mathlib.Omega.{arith}
@@ -15,13 +16,6 @@ use Rattle.lookups.proofs.Found.{of-entry}
 use borrow.Author.Needs.{needs}
 use Rattle.lookups.proofs.settled_on.Statement.{statement}
 use Rattle.lookups.proofs.settled_on.Tie as tie
-use Rattle.lookups.proofs.settled_on.Reads as reads
-use Rattle.lookups.proofs.settled_on.Lts as lts
-use Rattle.chains.proofs.more.Reads as more-reads
-use Rattle.lookups.proofs.settles.Reads as settles-reads
-use Rattle.tables.proofs.first_lock.Reads as first-lock-reads
-use Rattle.tables.proofs.lock_at.Reads as lock-at-reads
-use Rattle.tables.proofs.next_lock.Reads as next-lock-reads
 
 abbrev Inv-loop : tie.InvT-loop
 Inv-loop w c r mode p n cur₀ left₀ cur left = Walk (link (lockTable c) w) n (λ rs. any (λ l. settles mode p l) (map (lockAt c w) rs)) (any (λ l. settles mode p l) (recordAt c w r .locks)) cur left
@@ -29,47 +23,36 @@ Inv-loop w c r mode p n cur₀ left₀ cur left = Walk (link (lockTable c) w) n 
 abbrev μ-loop : tie.MeasureT-loop
 μ-loop w c r mode p n cur₀ left₀ cur left = left
 
--- src/lib.rt:321:9
 first-lock-requires : tie.Need-first-lock-requires Inv-loop μ-loop
 first-lock-requires c κs = search needs
 
--- src/lib.rt:323:5
 loop-holds : tie.Need-loop-holds Inv-loop μ-loop
 loop-holds c = locks-start _ _ _ (any (λ (l : Lock). settles (c .before .before .args .mode) (c .before .before .args .p) l)) (c .first-lock .ensures)
 
--- src/lib.rt:323:11
 more-requires : tie.Need-more-requires Inv-loop μ-loop
 more-requires c κs = tt
 
--- src/lib.rt:324:29
 lock-at-requires : tie.Need-lock-at-requires Inv-loop μ-loop
 lock-at-requires c κs = (c .before .before .before .before .before .pre .0, row-of _ _ _ (c .before .more .ensures) (c .if1 .taken))
 
--- src/lib.rt:324:12
 settles-requires : tie.Need-settles-requires Inv-loop μ-loop
 settles-requires c κs = tt
 
--- src/lib.rt:325:13
 returns : tie.Need-returns Inv-loop μ-loop
 returns c = any-out (λ (l : Lock). settles (c .before .before .before .before .before .before .before .before .args .mode) (c .before .before .before .before .before .before .before .before .args .p) l) (lockAt (c .before .before .before .before .before .before .before .before .args .c) (now (c .before .before .before .before .before .before .before .before .args .w))) (c .before .before .before .before .before .loop .inv) (c .before .before .before .before .more .ensures) (c .before .before .before .if1 .taken) (of-entry (λ (l : Lock). settles (c .before .before .before .before .before .before .before .before .args .mode) (c .before .before .before .before .before .before .before .before .args .p) l) (c .before .before .lock-at .ensures) (sym (c .before .settles .ensures) ∙ c .if2 .taken))
 
--- src/lib.rt:327:9
 next-lock-requires : tie.Need-next-lock-requires Inv-loop μ-loop
 next-lock-requires c κs = (c .before .before .before .before .before .before .before .before .pre .0, row-of _ _ _ (c .before .before .before .before .more .ensures) (c .before .before .before .if1 .taken))
 
--- src/lib.rt:328:9
 sub-left : tie.Need-sub-left Inv-loop μ-loop
 sub-left c = fuel-of _ _ _ (c .before .before .before .before .before .more .ensures) (c .before .before .before .before .if1 .taken)
 
--- src/lib.rt:323:5
 loop-less : tie.Need-loop-less Inv-loop μ-loop
 loop-less c = omega (arith, fuel-of _ _ _ (c .before .before .before .before .before .more .ensures) (c .before .before .before .before .if1 .taken))
 
--- src/lib.rt:323:5
 loop-again : tie.Need-loop-again Inv-loop μ-loop
 loop-again c = any-on (λ (l : Lock). settles (c .before .before .before .before .before .before .before .before .before .args .mode) (c .before .before .before .before .before .before .before .before .before .args .p) l) (lockAt (c .before .before .before .before .before .before .before .before .before .args .c) (now (c .before .before .before .before .before .before .before .before .before .args .w))) (c .before .before .before .before .before .before .loop .inv) (c .before .before .before .before .before .more .ensures) (c .before .before .before .before .if1 .taken) (of-entry (λ (l : Lock). settles (c .before .before .before .before .before .before .before .before .before .args .mode) (c .before .before .before .before .before .before .before .before .before .args .p) l) (c .before .before .before .lock-at .ensures) (sym (c .before .before .settles .ensures) ∙ c .before .if2 .left)) (c .next-lock .ensures)
 
--- src/lib.rt:316:1
 returns-2 : tie.Need-returns-2 Inv-loop μ-loop
 returns-2 c = any-done (λ (l : Lock). settles (c .before .before .before .before .before .args .mode) (c .before .before .before .before .before .args .p) l) (lockAt (c .before .before .before .before .before .args .c) (now (c .before .before .before .before .before .args .w))) (c .before .before .loop .inv) (c .before .more .ensures) (c .if1 .left)
 

@@ -1,30 +1,22 @@
+-- `lookups::settles` meets its contract.
 use mathlib.Core.Path.{refl, sym, _∙_}
 use borrow.Author.Tests.{eq-eqb, ne-eqb, not-true, not-false}
 use borrow.Author.Needs.{needs}
 use Rattle.lookups.proofs.settles.Statement.{statement}
 use Rattle.lookups.proofs.settles.Tie as tie
-use Rattle.lookups.proofs.settles.Reads as reads
-use Rattle.lookups.proofs.settles.Lts as lts
-use Rattle.meaning.proofs.conflicts.Reads as conflicts-reads
-use Rattle.meaning.proofs.covers.Reads as covers-reads
 
--- src/lib.rt:308:9
 returns : tie.Need-returns
 returns c = rw (ne-eqb (c .before .before .args .l .owner) 0 (c .if1 .taken)) refl
 
--- src/lib.rt:310:9
 conflicts-requires : tie.Need-conflicts-requires
 conflicts-requires c κs = search needs
 
--- src/lib.rt:311:9
 returns-2 : tie.Need-returns-2
 returns-2 c = rw (eq-eqb (c .before .before .before .before .args .l .owner) 0 (search needs), sym (c .before .conflicts .ensures) ∙ not-true _ (c .if2 .taken)) refl
 
--- src/lib.rt:313:5
 covers-requires : tie.Need-covers-requires
 covers-requires c κs = search needs
 
--- src/lib.rt:304:1
 returns-3 : tie.Need-returns-3
 returns-3 c = rw (eq-eqb (c .before .before .before .before .before .args .l .owner) 0 (search needs), sym (c .before .before .conflicts .ensures) ∙ not-false _ (c .before .if2 .left)) (c .covers .ensures)
 

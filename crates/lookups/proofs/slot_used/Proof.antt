@@ -1,39 +1,26 @@
-use mathlib.Core.Path.{_∙_, sym}
+-- `lookups::slot_used` meets its contract: slot 0, a slot past the end, a slot. Rests on Slots.
 use native.Mathlib.Omega.{arith}
 use denote.Ref.{now}
-use Rattle.chains.specs.Walk.{IsRow}
-use Rattle.meaning.specs.declared.Counts.{Counts}
 use Rattle.lookups.proofs.Slots.{used-zero, used-past, used-is}
 use borrow.Author.Needs.{needs}
 use Rattle.lookups.proofs.slot_used.Statement.{statement}
 use Rattle.lookups.proofs.slot_used.Tie as tie
-use Rattle.lookups.proofs.slot_used.Reads as reads
-use Rattle.lookups.proofs.slot_used.Lts as lts
-use Rattle.chains.proofs.wide.Reads as wide-reads
-use Rattle.chains.proofs.word.Reads as word-reads
-use Rattle.tables.proofs.state_of.Reads as state-of-reads
 
--- src/lib.rt:36:9
 returns : tie.Need-returns
 returns c = used-zero _ _ _ (c .if1 .taken)
 
--- src/lib.rt:38:8
 word-requires : tie.Need-word-requires
 word-requires c κs = search needs
 
--- src/lib.rt:39:9
 returns-2 : tie.Need-returns-2
 returns-2 c = used-past _ _ _ (omega arith)
 
--- src/lib.rt:41:28
 wide-requires : tie.Need-wide-requires
 wide-requires c κs = search needs
 
--- src/lib.rt:41:5
 state-of-requires : tie.Need-state-of-requires
 state-of-requires c κs = (c .before .before .before .before .before .pre, record { low = omega arith; high = omega arith })
 
--- src/lib.rt:31:1
 returns-3 : tie.Need-returns-3
 returns-3 c = rw (c .before .wide .ensures) at (used-is (c .before .before .before .before .before .before .args .c) (now (c .before .before .before .before .before .before .args .w)) (c .before .wide .result) (record { low = omega arith; high = omega arith }) (c .state-of .ensures))
 

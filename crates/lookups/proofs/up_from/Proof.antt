@@ -1,3 +1,4 @@
+-- `lookups::up_from` meets its contract. Rests on Reach.
 use mathlib.Core.Path.{ap, _∙_}
 use denote.Ref.{now}
 use borrow.Author.Tests.{not-true, not-false}
@@ -9,29 +10,19 @@ use Rattle.lookups.proofs.Reach.{up-stays, up-asks}
 use borrow.Author.Needs.{needs}
 use Rattle.lookups.proofs.up_from.Statement.{statement}
 use Rattle.lookups.proofs.up_from.Tie as tie
-use Rattle.lookups.proofs.up_from.Reads as reads
-use Rattle.lookups.proofs.up_from.Lts as lts
-use Rattle.chains.proofs.wide.Reads as wide-reads
-use Rattle.chains.proofs.word.Reads as word-reads
-use Rattle.lookups.proofs.first_write.Reads as first-write-reads
 
--- src/lib.rt:537:9
 returns : tie.Need-returns
 returns c = up-stays (ownOn (recordsOf (c .before .before .before .args .c) (now (c .before .before .before .args .w))) (c .before .before .before .args .k) (c .before .before .before .args .a)) (c .before .before .before .args .a) (c .before .before .before .args .low) (not-true _ (c .if1 .taken))
 
--- src/lib.rt:539:23
 word-requires : tie.Need-word-requires
 word-requires c κs = search needs
 
--- src/lib.rt:539:40
 wide-requires : tie.Need-wide-requires
 wide-requires c κs = search needs
 
--- src/lib.rt:539:5
 first-write-requires : tie.Need-first-write-requires
 first-write-requires c κs = search needs
 
--- src/lib.rt:532:1
 returns-2 : tie.Need-returns-2
 returns-2 c = up-asks (ownOn (recordsOf (c .before .before .before .before .before .before .args .c) (now (c .before .before .before .before .before .before .args .w))) (c .before .before .before .before .before .before .args .k) (c .before .before .before .before .before .before .args .a)) (c .before .before .before .before .before .before .args .a) (c .before .before .before .before .before .before .args .low) (not-false _ (c .before .before .before .if1 .left)) (c .first-write .ensures ∙ ap (λ ls. firstUnder (writes ls) (c .before .before .before .before .before .before .args .low)) (own-on (c .before .before .before .before .before .before .args .c) (now (c .before .before .before .before .before .before .args .w)) (c .before .before .before .before .before .before .args .k) (c .before .before .before .before .before .before .args .a) (c .before .before .before .before .before .before .pre .1) (c .before .before .word .ensures) (c .before .wide .ensures)))
 

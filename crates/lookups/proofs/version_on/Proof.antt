@@ -1,9 +1,10 @@
+-- `lookups::version_on` meets its contract: a search with an early exit. Rests on Found.
 use native.Mathlib.Omega.{arith}
 use mathlib.Core.Path.{_∙_}
 use mathlib.Core.List.{map}
-use lib.Dec.{ltb, eqb}
+use lib.Dec.{eqb}
 use denote.Ref.{now}
-use borrow.Author.Tests.{eq-eqb, ne-eqb, lt-ltb, le-ltb}
+use borrow.Author.Tests.{eq-eqb, ne-eqb}
 use Rattle.chains.specs.Table.{link}
 use Rattle.chains.proofs.Walks.{row-of, fuel-of}
 use Rattle.chains.proofs.Loops.{Walk}
@@ -17,12 +18,6 @@ use Rattle.lookups.proofs.Found.{of-entry}
 use borrow.Author.Needs.{needs}
 use Rattle.lookups.proofs.version_on.Statement.{statement}
 use Rattle.lookups.proofs.version_on.Tie as tie
-use Rattle.lookups.proofs.version_on.Reads as reads
-use Rattle.lookups.proofs.version_on.Lts as lts
-use Rattle.chains.proofs.more.Reads as more-reads
-use Rattle.tables.proofs.first_version.Reads as first-version-reads
-use Rattle.tables.proofs.next_version.Reads as next-version-reads
-use Rattle.tables.proofs.version_at.Reads as version-at-reads
 
 abbrev Inv-loop : tie.InvT-loop
 Inv-loop w c r p n cur₀ left₀ cur left = Walk (link (versionTable c) w) n (λ rs. find (λ v. eqb (v .point) p) first (map (versionAt c w) rs)) (versionOn (recordAt c w r .versions) p) cur left
@@ -30,44 +25,34 @@ Inv-loop w c r p n cur₀ left₀ cur left = Walk (link (versionTable c) w) n (�
 abbrev μ-loop : tie.MeasureT-loop
 μ-loop w c r p n cur₀ left₀ cur left = left
 
--- src/lib.rt:153:9
 first-version-requires : tie.Need-first-version-requires Inv-loop μ-loop
 first-version-requires c κs = search needs
 
--- src/lib.rt:155:5
 loop-holds : tie.Need-loop-holds Inv-loop μ-loop
 unfolding versionOn
 loop-holds c = versions-start _ _ _ (find (λ v. eqb (v .point) (c .before .before .args .p)) first) (c .first-version .ensures)
 
--- src/lib.rt:155:11
 more-requires : tie.Need-more-requires Inv-loop μ-loop
 more-requires c κs = tt
 
--- src/lib.rt:156:13
 version-at-requires : tie.Need-version-at-requires Inv-loop μ-loop
 version-at-requires c κs = (c .before .before .before .before .before .pre .0, row-of _ _ _ (c .before .more .ensures) (c .if1 .taken))
 
--- src/lib.rt:158:13
 returns : tie.Need-returns Inv-loop μ-loop
 returns c = c .before .before .version-at .ensures ∙ find-out (λ (v : Version). eqb (v .point) (c .before .before .before .before .before .before .before .before .args .p)) (versionAt (c .before .before .before .before .before .before .before .before .args .c) (now (c .before .before .before .before .before .before .before .before .args .w))) first (c .before .before .before .before .before .loop .inv) (c .before .before .before .before .more .ensures) (c .before .before .before .if1 .taken) (of-entry (λ (v : Version). eqb (v .point) (c .before .before .before .before .before .before .before .before .args .p)) (c .before .before .version-at .ensures) (eq-eqb _ _ (c .if2 .taken)))
 
--- src/lib.rt:160:9
 next-version-requires : tie.Need-next-version-requires Inv-loop μ-loop
 next-version-requires c κs = (c .before .before .before .before .before .before .before .before .pre .0, row-of _ _ _ (c .before .before .before .before .more .ensures) (c .before .before .before .if1 .taken))
 
--- src/lib.rt:161:9
 sub-left : tie.Need-sub-left Inv-loop μ-loop
 sub-left c = fuel-of _ _ _ (c .before .before .before .before .before .more .ensures) (c .before .before .before .before .if1 .taken)
 
--- src/lib.rt:155:5
 loop-less : tie.Need-loop-less Inv-loop μ-loop
 loop-less c = omega (arith, fuel-of _ _ _ (c .before .before .before .before .before .more .ensures) (c .before .before .before .before .if1 .taken))
 
--- src/lib.rt:155:5
 loop-again : tie.Need-loop-again Inv-loop μ-loop
 loop-again c = find-on (λ (v : Version). eqb (v .point) (c .before .before .before .before .before .before .before .before .before .args .p)) (versionAt (c .before .before .before .before .before .before .before .before .before .args .c) (now (c .before .before .before .before .before .before .before .before .before .args .w))) first (c .before .before .before .before .before .before .loop .inv) (c .before .before .before .before .before .more .ensures) (c .before .before .before .before .if1 .taken) (of-entry (λ (v : Version). eqb (v .point) (c .before .before .before .before .before .before .before .before .before .args .p)) (c .before .before .before .version-at .ensures) (ne-eqb _ _ (c .before .if2 .left))) (c .next-version .ensures)
 
--- src/lib.rt:148:1
 returns-2 : tie.Need-returns-2 Inv-loop μ-loop
 returns-2 c = find-done (λ (v : Version). eqb (v .point) (c .before .before .before .before .before .args .p)) (versionAt (c .before .before .before .before .before .args .c) (now (c .before .before .before .before .before .args .w))) first (c .before .before .loop .inv) (c .before .more .ensures) (c .if1 .left)
 

@@ -1,4 +1,4 @@
-use mathlib.Core.Path.{_∙_}
+-- `lookups::version_stands` meets its contract: some version passes. Rests on Loops of `tables`.
 use mathlib.Core.List.{map}
 use native.Mathlib.Omega.{arith}
 use lib.Dec.{eqb}
@@ -16,12 +16,6 @@ use Rattle.lookups.proofs.Found.{of-entry}
 use borrow.Author.Needs.{needs}
 use Rattle.lookups.proofs.version_stands.Statement.{statement}
 use Rattle.lookups.proofs.version_stands.Tie as tie
-use Rattle.lookups.proofs.version_stands.Reads as reads
-use Rattle.lookups.proofs.version_stands.Lts as lts
-use Rattle.chains.proofs.more.Reads as more-reads
-use Rattle.tables.proofs.first_version.Reads as first-version-reads
-use Rattle.tables.proofs.next_version.Reads as next-version-reads
-use Rattle.tables.proofs.version_at.Reads as version-at-reads
 
 abbrev Inv-loop : tie.InvT-loop
 Inv-loop w c r p n cur₀ left₀ cur left = Walk (link (versionTable c) w) n (λ rs. any (λ v. eqb (v .point) p) (map (versionAt c w) rs)) (any (λ v. eqb (v .point) p) (recordAt c w r .versions)) cur left
@@ -29,43 +23,33 @@ Inv-loop w c r p n cur₀ left₀ cur left = Walk (link (versionTable c) w) n (�
 abbrev μ-loop : tie.MeasureT-loop
 μ-loop w c r p n cur₀ left₀ cur left = left
 
--- src/lib.rt:338:9
 first-version-requires : tie.Need-first-version-requires Inv-loop μ-loop
 first-version-requires c κs = search needs
 
--- src/lib.rt:340:5
 loop-holds : tie.Need-loop-holds Inv-loop μ-loop
 loop-holds c = versions-start _ _ _ (any (λ (v : Version). eqb (v .point) (c .before .before .args .p))) (c .first-version .ensures)
 
--- src/lib.rt:340:11
 more-requires : tie.Need-more-requires Inv-loop μ-loop
 more-requires c κs = tt
 
--- src/lib.rt:341:13
 version-at-requires : tie.Need-version-at-requires Inv-loop μ-loop
 version-at-requires c κs = (c .before .before .before .before .before .pre .0, row-of _ _ _ (c .before .more .ensures) (c .if1 .taken))
 
--- src/lib.rt:343:13
 returns : tie.Need-returns Inv-loop μ-loop
 returns c = any-out (λ (v : Version). eqb (v .point) (c .before .before .before .before .before .before .before .before .args .p)) (versionAt (c .before .before .before .before .before .before .before .before .args .c) (now (c .before .before .before .before .before .before .before .before .args .w))) (c .before .before .before .before .before .loop .inv) (c .before .before .before .before .more .ensures) (c .before .before .before .if1 .taken) (of-entry (λ (v : Version). eqb (v .point) (c .before .before .before .before .before .before .before .before .args .p)) (c .before .before .version-at .ensures) (eq-eqb _ _ (c .if2 .taken)))
 
--- src/lib.rt:345:9
 next-version-requires : tie.Need-next-version-requires Inv-loop μ-loop
 next-version-requires c κs = (c .before .before .before .before .before .before .before .before .pre .0, row-of _ _ _ (c .before .before .before .before .more .ensures) (c .before .before .before .if1 .taken))
 
--- src/lib.rt:346:9
 sub-left : tie.Need-sub-left Inv-loop μ-loop
 sub-left c = fuel-of _ _ _ (c .before .before .before .before .before .more .ensures) (c .before .before .before .before .if1 .taken)
 
--- src/lib.rt:340:5
 loop-less : tie.Need-loop-less Inv-loop μ-loop
 loop-less c = omega (arith, fuel-of _ _ _ (c .before .before .before .before .before .more .ensures) (c .before .before .before .before .if1 .taken))
 
--- src/lib.rt:340:5
 loop-again : tie.Need-loop-again Inv-loop μ-loop
 loop-again c = any-on (λ (v : Version). eqb (v .point) (c .before .before .before .before .before .before .before .before .before .args .p)) (versionAt (c .before .before .before .before .before .before .before .before .before .args .c) (now (c .before .before .before .before .before .before .before .before .before .args .w))) (c .before .before .before .before .before .before .loop .inv) (c .before .before .before .before .before .more .ensures) (c .before .before .before .before .if1 .taken) (of-entry (λ (v : Version). eqb (v .point) (c .before .before .before .before .before .before .before .before .before .args .p)) (c .before .before .before .version-at .ensures) (ne-eqb _ _ (c .before .if2 .left))) (c .next-version .ensures)
 
--- src/lib.rt:333:1
 returns-2 : tie.Need-returns-2 Inv-loop μ-loop
 returns-2 c = any-done (λ (v : Version). eqb (v .point) (c .before .before .before .before .before .args .p)) (versionAt (c .before .before .before .before .before .args .c) (now (c .before .before .before .before .before .args .w))) (c .before .before .loop .inv) (c .before .more .ensures) (c .if1 .left)
 

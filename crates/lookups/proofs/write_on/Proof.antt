@@ -1,3 +1,4 @@
+-- `lookups::write_on` meets its contract: some own write lock covers the point. Rests on Free.
 use mathlib.Core.Path.{_∙_, sym}
 use mathlib.Core.Bool.{_&&_}
 use mathlib.Core.List.{map}
@@ -18,13 +19,6 @@ use Rattle.lookups.proofs.Free.{write-any}
 use borrow.Author.Needs.{needs}
 use Rattle.lookups.proofs.write_on.Statement.{statement}
 use Rattle.lookups.proofs.write_on.Tie as tie
-use Rattle.lookups.proofs.write_on.Reads as reads
-use Rattle.lookups.proofs.write_on.Lts as lts
-use Rattle.chains.proofs.more.Reads as more-reads
-use Rattle.lookups.proofs.writes_at.Reads as writes-at-reads
-use Rattle.tables.proofs.first_lock.Reads as first-lock-reads
-use Rattle.tables.proofs.lock_at.Reads as lock-at-reads
-use Rattle.tables.proofs.next_lock.Reads as next-lock-reads
 
 abbrev Inv-loop : tie.InvT-loop
 Inv-loop w c k r p n cur₀ left₀ cur left = Walk (link (lockTable c) w) n (λ rs. any (λ l. ownsWrite k l && covers p l) (map (lockAt c w) rs)) (any (λ l. ownsWrite k l && covers p l) (recordAt c w r .locks)) cur left
@@ -32,47 +26,36 @@ Inv-loop w c k r p n cur₀ left₀ cur left = Walk (link (lockTable c) w) n (λ
 abbrev μ-loop : tie.MeasureT-loop
 μ-loop w c k r p n cur₀ left₀ cur left = left
 
--- src/lib.rt:282:9
 first-lock-requires : tie.Need-first-lock-requires Inv-loop μ-loop
 first-lock-requires c κs = search needs
 
--- src/lib.rt:284:5
 loop-holds : tie.Need-loop-holds Inv-loop μ-loop
 loop-holds c = locks-start _ _ _ (any (λ (l : Lock). ownsWrite (c .before .before .args .k) l && covers (c .before .before .args .p) l)) (c .first-lock .ensures)
 
--- src/lib.rt:284:11
 more-requires : tie.Need-more-requires Inv-loop μ-loop
 more-requires c κs = tt
 
--- src/lib.rt:285:28
 lock-at-requires : tie.Need-lock-at-requires Inv-loop μ-loop
 lock-at-requires c κs = (c .before .before .before .before .before .pre .0, row-of _ _ _ (c .before .more .ensures) (c .if1 .taken))
 
--- src/lib.rt:285:12
 writes-at-requires : tie.Need-writes-at-requires Inv-loop μ-loop
 writes-at-requires c κs = tt
 
--- src/lib.rt:286:13
 returns : tie.Need-returns Inv-loop μ-loop
 returns c = any-out (λ (l : Lock). ownsWrite (c .before .before .before .before .before .before .before .before .args .k) l && covers (c .before .before .before .before .before .before .before .before .args .p) l) (lockAt (c .before .before .before .before .before .before .before .before .args .c) (now (c .before .before .before .before .before .before .before .before .args .w))) (c .before .before .before .before .before .loop .inv) (c .before .before .before .before .more .ensures) (c .before .before .before .if1 .taken) (of-entry (λ (l : Lock). ownsWrite (c .before .before .before .before .before .before .before .before .args .k) l && covers (c .before .before .before .before .before .before .before .before .args .p) l) (c .before .before .lock-at .ensures) (sym (c .before .writes-at .ensures) ∙ c .if2 .taken)) ∙ write-any _ _ _
 
--- src/lib.rt:288:9
 next-lock-requires : tie.Need-next-lock-requires Inv-loop μ-loop
 next-lock-requires c κs = (c .before .before .before .before .before .before .before .before .pre .0, row-of _ _ _ (c .before .before .before .before .more .ensures) (c .before .before .before .if1 .taken))
 
--- src/lib.rt:289:9
 sub-left : tie.Need-sub-left Inv-loop μ-loop
 sub-left c = fuel-of _ _ _ (c .before .before .before .before .before .more .ensures) (c .before .before .before .before .if1 .taken)
 
--- src/lib.rt:284:5
 loop-less : tie.Need-loop-less Inv-loop μ-loop
 loop-less c = omega (arith, fuel-of _ _ _ (c .before .before .before .before .before .more .ensures) (c .before .before .before .before .if1 .taken))
 
--- src/lib.rt:284:5
 loop-again : tie.Need-loop-again Inv-loop μ-loop
 loop-again c = any-on (λ (l : Lock). ownsWrite (c .before .before .before .before .before .before .before .before .before .args .k) l && covers (c .before .before .before .before .before .before .before .before .before .args .p) l) (lockAt (c .before .before .before .before .before .before .before .before .before .args .c) (now (c .before .before .before .before .before .before .before .before .before .args .w))) (c .before .before .before .before .before .before .loop .inv) (c .before .before .before .before .before .more .ensures) (c .before .before .before .before .if1 .taken) (of-entry (λ (l : Lock). ownsWrite (c .before .before .before .before .before .before .before .before .before .args .k) l && covers (c .before .before .before .before .before .before .before .before .before .args .p) l) (c .before .before .before .lock-at .ensures) (sym (c .before .before .writes-at .ensures) ∙ c .before .if2 .left)) (c .next-lock .ensures)
 
--- src/lib.rt:277:1
 returns-2 : tie.Need-returns-2 Inv-loop μ-loop
 returns-2 c = any-done (λ (l : Lock). ownsWrite (c .before .before .before .before .before .args .k) l && covers (c .before .before .before .before .before .args .p) l) (lockAt (c .before .before .before .before .before .args .c) (now (c .before .before .before .before .before .args .w))) (c .before .before .loop .inv) (c .before .more .ensures) (c .if1 .left) ∙ write-any _ _ _
 

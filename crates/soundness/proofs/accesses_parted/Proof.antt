@@ -1,6 +1,5 @@
 -- `soundness::accesses_parted` meets its contract.
 use mathlib.Core.Path.{sym}
-use native.Mathlib.Omega.{arith}
 use Rattle.chains.proofs.Cells.{lies, heads-lie}
 use Rattle.tables.specs.Layout.{accessTable}
 use Rattle.tables.specs.Words.{accessesParted}
@@ -8,26 +7,17 @@ use Rattle.tables.proofs.Places
 use borrow.Author.Needs.{needs}
 use Rattle.soundness.proofs.accesses_parted.Statement.{statement}
 use Rattle.soundness.proofs.accesses_parted.Tie as tie
-use Rattle.soundness.proofs.accesses_parted.Reads as reads
-use Rattle.soundness.proofs.accesses_parted.Lts as lts
-use Rattle.chains.proofs.partition_ok.Reads as partition-ok-reads
-use Rattle.tables.proofs.access_heads.Reads as access-heads-reads
-use Rattle.tables.proofs.access_table.Reads as access-table-reads
 
--- src/lib.rt:49:29
 access-table-requires : tie.Need-access-table-requires
 access-table-requires c κs = search needs
 
--- src/lib.rt:49:54
 access-heads-requires : tie.Need-access-heads-requires
 access-heads-requires c κs = search needs
 
--- src/lib.rt:49:5
 partition-ok-requires : tie.Need-partition-ok-requires
 unfolding accessTable
 partition-ok-requires c κs = rw (c .before .access-table .ensures, c .access-heads .ensures) (let l = Places.accesses-laid (c .before .before .before .pre) in (lies l, heads-lie l, c .before .before .before .pre .ranged .accesses-high))
 
--- src/lib.rt:45:1
 returns : tie.Need-returns
 unfolding accessesParted
 returns c = rw (sym (c .before .before .access-table .ensures), sym (c .before .access-heads .ensures)) (c .partition-ok .ensures)

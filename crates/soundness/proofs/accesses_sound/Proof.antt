@@ -1,5 +1,4 @@
 -- `soundness::accesses_sound` meets its contract: the invariant says what is left to test with the stamps as they are.
-use mathlib.Core.Path.{sym, _∙_}
 use mathlib.Core.List.{map}
 use native.Mathlib.Omega.{arith}
 use denote.Ref.{now}
@@ -15,15 +14,6 @@ use Rattle.soundness.specs.Clauses.{accessesSound, Stamps}
 use Rattle.soundness.proofs.Stamping.{stamped, stamp-done, stamp-none, stamp-twice, stamp-bad, stamp-on}
 use Rattle.soundness.proofs.accesses_sound.Statement.{statement}
 use Rattle.soundness.proofs.accesses_sound.Tie as tie
-use Rattle.soundness.proofs.accesses_sound.Reads as reads
-use Rattle.soundness.proofs.accesses_sound.Lts as lts
-use Rattle.chains.proofs.more.Reads as more-reads
-use Rattle.chains.proofs.wide.Reads as wide-reads
-use Rattle.chains.proofs.word.Reads as word-reads
-use Rattle.soundness.proofs.read_sound.Reads as read-sound-reads
-use Rattle.tables.proofs.access_at.Reads as access-at-reads
-use Rattle.tables.proofs.first_access.Reads as first-access-reads
-use Rattle.tables.proofs.next_access.Reads as next-access-reads
 
 abbrev Inv-loop : tie.InvT-loop
 Inv-loop w c k stamps₀ n mark cur₀ left₀ stamps cur left = Walk (link (accessTable c) w) n (λ rs. accessesSound (recordsOf c w) k stamps (map (accessAt c w) rs)) (accessesSound (recordsOf c w) k stamps₀ (slotAt c w k .accesses)) cur left × Stamps k stamps
@@ -31,75 +21,57 @@ Inv-loop w c k stamps₀ n mark cur₀ left₀ stamps cur left = Walk (link (acc
 abbrev μ-loop : tie.MeasureT-loop
 μ-loop w c k stamps₀ n mark cur₀ left₀ stamps cur left = left
 
--- src/lib.rt:380:16
 cast-mark : tie.Need-cast-mark Inv-loop μ-loop
 cast-mark c = omega (arith, c .before .pre .0 .ranged .edits-high, c .before .pre .1 .high)
 
--- src/lib.rt:381:9
 first-access-requires : tie.Need-first-access-requires Inv-loop μ-loop
 first-access-requires c κs = (c .before .pre .0, c .before .pre .1)
 
--- src/lib.rt:383:5
 loop-holds : tie.Need-loop-holds Inv-loop μ-loop
 loop-holds c = (accesses-start (c .before .before .args .c) (now (c .before .before .args .w)) (c .before .before .args .k) (accessesSound (recordsOf (c .before .before .args .c) (now (c .before .before .args .w))) (c .before .before .args .k) (now (c .before .before .args .stamps))) (c .first-access .ensures), c .before .before .pre .2)
 
--- src/lib.rt:383:11
 more-requires : tie.Need-more-requires Inv-loop μ-loop
 more-requires c κs = tt
 
--- src/lib.rt:384:13
 access-at-requires : tie.Need-access-at-requires Inv-loop μ-loop
 access-at-requires c κs = (c .before .before .before .before .before .pre .0, row-of _ _ _ (c .before .more .ensures) (c .if1 .taken))
 
--- src/lib.rt:385:12
 word-requires : tie.Need-word-requires Inv-loop μ-loop
 word-requires c κs = tt
 
--- src/lib.rt:386:13
 returns : tie.Need-returns Inv-loop μ-loop
 returns c = (stamp-none (recordsOf (c .before .before .before .before .before .before .before .before .before .args .c) (now (c .before .before .before .before .before .before .before .before .before .args .w))) (c .before .before .before .before .before .before .before .before .before .args .k) _ (accessAt (c .before .before .before .before .before .before .before .before .before .args .c) (now (c .before .before .before .before .before .before .before .before .before .args .w))) (c .before .before .before .before .before .before .loop .inv .0) (c .before .before .before .before .before .more .ensures) (c .before .before .before .before .if1 .taken) (c .before .before .before .access-at .ensures) (omega (arith, c .before .before .word .ensures, c .if2 .taken, records-length (c .before .before .before .before .before .before .before .before .before .args .c) (now (c .before .before .before .before .before .before .before .before .before .args .w)))), c .before .before .before .before .before .before .loop .inv .1)
 
--- src/lib.rt:388:13
 wide-requires : tie.Need-wide-requires Inv-loop μ-loop
 wide-requires c κs = tt
 
--- src/lib.rt:389:12
 element-copy-out-if3 : tie.Need-element-copy-out-if3 Inv-loop μ-loop
 element-copy-out-if3 c = omega (arith, c .wide .ensures, c .before .before .before .word .ensures, c .before .if2 .left, c .before .before .before .before .before .before .before .before .before .before .pre .0 .ranged .records-high, c .before .before .before .before .before .before .before .loop .inv .1 .size)
 
--- src/lib.rt:390:13
 returns-2 : tie.Need-returns-2 Inv-loop μ-loop
 returns-2 c = (stamp-twice (recordsOf (c .before .before .before .before .before .before .before .before .before .before .before .before .args .c) (now (c .before .before .before .before .before .before .before .before .before .before .before .before .args .w))) (c .before .before .before .before .before .before .before .before .before .before .before .before .args .k) _ (accessAt (c .before .before .before .before .before .before .before .before .before .before .before .before .args .c) (now (c .before .before .before .before .before .before .before .before .before .before .before .before .args .w))) (c .before .before .before .before .before .before .before .before .before .loop .inv .0) (c .before .before .before .before .before .before .before .before .more .ensures) (c .before .before .before .before .before .before .before .if1 .taken) (c .before .before .before .before .before .before .access-at .ensures) (omega (arith, c .before .before .before .before .before .word .ensures, c .before .before .before .if2 .left, records-length (c .before .before .before .before .before .before .before .before .before .before .before .before .args .c) (now (c .before .before .before .before .before .before .before .before .before .before .before .before .args .w)))) (c .before .before .wide .ensures) (c .if3 .taken), c .before .before .before .before .before .before .before .before .before .loop .inv .1)
 
--- src/lib.rt:392:9
 element-write-stamps : tie.Need-element-write-stamps Inv-loop μ-loop
 element-write-stamps c = omega (arith, c .before .before .wide .ensures, c .before .before .before .before .before .word .ensures, c .before .before .before .if2 .left, c .before .before .before .before .before .before .before .before .before .before .before .before .pre .0 .ranged .records-high, c .before .before .before .before .before .before .before .before .before .loop .inv .1 .size)
 
--- src/lib.rt:393:13
 read-sound-requires : tie.Need-read-sound-requires Inv-loop μ-loop
 read-sound-requires c κs = (c .before .before .before .before .before .before .before .before .before .before .before .before .pre .0, omega (arith, c .before .before .before .before .before .word .ensures, c .before .before .before .if2 .left))
 
--- src/lib.rt:394:13
 returns-3 : tie.Need-returns-3 Inv-loop μ-loop
 returns-3 c = (stamp-bad (recordsOf (c .before .before .before .before .before .before .before .before .before .before .before .before .before .before .args .c) (now (c .before .before .before .before .before .before .before .before .before .before .before .before .before .before .args .w))) (c .before .before .before .before .before .before .before .before .before .before .before .before .before .before .args .k) _ (accessAt (c .before .before .before .before .before .before .before .before .before .before .before .before .before .before .args .c) (now (c .before .before .before .before .before .before .before .before .before .before .before .before .before .before .args .w))) (c .before .before .before .before .before .before .before .before .before .before .before .loop .inv .0) (c .before .before .before .before .before .before .before .before .before .before .more .ensures) (c .before .before .before .before .before .before .before .before .before .if1 .taken) (c .before .before .before .before .before .before .before .before .access-at .ensures) (omega (arith, c .before .before .before .before .before .before .before .word .ensures, c .before .before .before .before .before .if2 .left, records-length (c .before .before .before .before .before .before .before .before .before .before .before .before .before .before .args .c) (now (c .before .before .before .before .before .before .before .before .before .before .before .before .before .before .args .w)))) (c .before .before .before .before .wide .ensures) (c .before .before .if3 .left) (c .before .read-sound .ensures) (not-true _ (c .if4 .taken)), stamped _ (c .before .before .before .before .before .before .before .before .before .before .before .loop .inv .1) (omega (arith, c .before .before .before .before .wide .ensures, c .before .before .before .before .before .before .before .word .ensures, c .before .before .before .before .before .if2 .left, c .before .before .before .before .before .before .before .before .before .before .before .before .before .before .pre .0 .ranged .records-high, c .before .before .before .before .before .before .before .before .before .before .before .loop .inv .1 .size)))
 
--- src/lib.rt:396:9
 next-access-requires : tie.Need-next-access-requires Inv-loop μ-loop
 next-access-requires c κs = (c .before .before .before .before .before .before .before .before .before .before .before .before .before .before .pre .0, row-of _ _ _ (c .before .before .before .before .before .before .before .before .before .before .more .ensures) (c .before .before .before .before .before .before .before .before .before .if1 .taken))
 
--- src/lib.rt:397:9
 sub-left : tie.Need-sub-left Inv-loop μ-loop
 sub-left c = fuel-of _ _ _ (c .before .before .before .before .before .before .before .before .before .before .before .more .ensures) (c .before .before .before .before .before .before .before .before .before .before .if1 .taken)
 
--- src/lib.rt:383:5
 loop-less : tie.Need-loop-less Inv-loop μ-loop
 loop-less c = omega (arith, fuel-of _ _ _ (c .before .before .before .before .before .before .before .before .before .before .before .more .ensures) (c .before .before .before .before .before .before .before .before .before .before .if1 .taken))
 
--- src/lib.rt:383:5
 loop-again : tie.Need-loop-again Inv-loop μ-loop
 loop-again c = (stamp-on (recordsOf (c .before .before .before .before .before .before .before .before .before .before .before .before .before .before .before .args .c) (now (c .before .before .before .before .before .before .before .before .before .before .before .before .before .before .before .args .w))) (c .before .before .before .before .before .before .before .before .before .before .before .before .before .before .before .args .k) _ (accessAt (c .before .before .before .before .before .before .before .before .before .before .before .before .before .before .before .args .c) (now (c .before .before .before .before .before .before .before .before .before .before .before .before .before .before .before .args .w))) (c .before .before .before .before .before .before .before .before .before .before .before .before .loop .inv .0) (c .before .before .before .before .before .before .before .before .before .before .before .more .ensures) (c .before .before .before .before .before .before .before .before .before .before .if1 .taken) (c .before .before .before .before .before .before .before .before .before .access-at .ensures) (omega (arith, c .before .before .before .before .before .before .before .before .word .ensures, c .before .before .before .before .before .before .if2 .left, records-length (c .before .before .before .before .before .before .before .before .before .before .before .before .before .before .before .args .c) (now (c .before .before .before .before .before .before .before .before .before .before .before .before .before .before .before .args .w)))) (c .before .before .before .before .before .wide .ensures) (c .before .before .before .if3 .left) (c .before .before .read-sound .ensures) (not-false _ (c .before .if4 .left)) (c .next-access .ensures), stamped _ (c .before .before .before .before .before .before .before .before .before .before .before .before .loop .inv .1) (omega (arith, c .before .before .before .before .before .wide .ensures, c .before .before .before .before .before .before .before .before .word .ensures, c .before .before .before .before .before .before .if2 .left, c .before .before .before .before .before .before .before .before .before .before .before .before .before .before .before .pre .0 .ranged .records-high, c .before .before .before .before .before .before .before .before .before .before .before .before .loop .inv .1 .size)))
 
--- src/lib.rt:375:1
 returns-4 : tie.Need-returns-4 Inv-loop μ-loop
 returns-4 c = (stamp-done (recordsOf (c .before .before .before .before .before .args .c) (now (c .before .before .before .before .before .args .w))) (c .before .before .before .before .before .args .k) _ (accessAt (c .before .before .before .before .before .args .c) (now (c .before .before .before .before .before .args .w))) (c .before .before .loop .inv .0) (c .before .more .ensures) (c .if1 .left), c .before .before .loop .inv .1)
 

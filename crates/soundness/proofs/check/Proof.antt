@@ -1,10 +1,9 @@
 -- `soundness::check` meets its contract. Rests on Whole.
 use mathlib.Core.Path.{sym, _∙_}
-use native.Mathlib.Omega.{arith}
 use denote.Ref.{now}
 use borrow.Author.Tests.{not-true, not-false}
 use Rattle.soundness.proofs.Steps.{and-no, and-on}
-use Rattle.soundness.proofs.Whole.{header-long, unfit, fits-read, unformed, checked}
+use Rattle.soundness.proofs.Whole.{locks-first, header-long, unfit, fits-read, unformed, checked}
 use borrow.Author.Needs.{needs}
 use Rattle.soundness.proofs.check.Statement.{statement}
 use Rattle.soundness.proofs.check.Tie as tie
@@ -31,7 +30,7 @@ returns-3 : tie.Need-returns-3
 returns-3 c = and-no _ (sym (c .before .slots-sound .ensures) ∙ not-true _ (c .if3 .taken)) ∙ checked (now (c .before .before .before .before .before .before .before .before .args .words)) (c .before .before .before .before .before .before .header-ok .ensures) (not-false _ (c .before .before .before .before .before .if1 .left)) (c .before .before .before .before .counts-of .ensures) (c .before .before .before .formed-at .ensures) (not-false _ (c .before .before .if2 .left))
 
 records-sound-requires : tie.Need-records-sound-requires
-records-sound-requires c κs = fits-read (now (c .before .before .before .before .before .before .before .before .args .words)) (c .before .before .before .before .before .before .header-ok .ensures) (not-false _ (c .before .before .before .before .before .if1 .left)) (c .before .before .before .before .counts-of .ensures)
+records-sound-requires c κs = (fits-read (now (c .before .before .before .before .before .before .before .before .args .words)) (c .before .before .before .before .before .before .header-ok .ensures) (not-false _ (c .before .before .before .before .before .if1 .left)) (c .before .before .before .before .counts-of .ensures), locks-first _ (now (c .before .before .before .before .before .before .before .before .args .words)) (c .before .before .before .formed-at .ensures) (not-false _ (c .before .before .if2 .left)), sym (c .before .slots-sound .ensures) ∙ not-false _ (c .if3 .left))
 
 returns-4 : tie.Need-returns-4
 returns-4 c = and-on (sym (c .before .before .slots-sound .ensures) ∙ not-false _ (c .before .if3 .left)) (c .records-sound .ensures) ∙ checked (now (c .before .before .before .before .before .before .before .before .before .args .words)) (c .before .before .before .before .before .before .before .header-ok .ensures) (not-false _ (c .before .before .before .before .before .before .if1 .left)) (c .before .before .before .before .before .counts-of .ensures) (c .before .before .before .before .formed-at .ensures) (not-false _ (c .before .before .before .if2 .left))

@@ -4,14 +4,10 @@ use borrow.Author.Tests.{eq-eqb, ne-eqb}
 use Rattle.soundness.proofs.Steps.{or-yes, or-on}
 use Rattle.soundness.proofs.ends_at.Statement.{statement}
 use Rattle.soundness.proofs.ends_at.Tie as tie
-use Rattle.soundness.proofs.ends_at.Reads as reads
-use Rattle.soundness.proofs.ends_at.Lts as lts
 
--- src/lib.rt:207:9
 returns : tie.Need-returns
 returns c = or-yes _ (eq-eqb (c .before .args .floor) 0 (c .if1 .taken))
 
--- src/lib.rt:203:1
 returns-2 : tie.Need-returns-2
 returns-2 c = or-on (ne-eqb (c .before .args .floor) 0 (c .if1 .left)) refl
 

@@ -6,20 +6,15 @@ use Rattle.soundness.specs.Clauses.{fallsBelow}
 use Rattle.soundness.proofs.Steps.{and-no, and-on}
 use Rattle.soundness.proofs.falls_below.Statement.{statement}
 use Rattle.soundness.proofs.falls_below.Tie as tie
-use Rattle.soundness.proofs.falls_below.Reads as reads
-use Rattle.soundness.proofs.falls_below.Lts as lts
 
--- src/lib.rt:195:9
 returns : tie.Need-returns
 unfolding fallsBelow
 returns c = and-no _ (le-ltb (c .before .args .p) (c .before .args .top) (c .if1 .taken))
 
--- src/lib.rt:198:9
 returns-2 : tie.Need-returns-2
 unfolding fallsBelow
 returns-2 c = and-on (lt-ltb (c .before .before .args .p) (c .before .before .args .top) (omega arith)) (and-no _ (lt-leb (c .before .before .args .floor) (c .before .before .args .p) (c .if2 .taken)))
 
--- src/lib.rt:191:1
 returns-3 : tie.Need-returns-3
 unfolding fallsBelow
 returns-3 c = and-on (lt-ltb (c .before .before .args .p) (c .before .before .args .top) (omega arith)) (and-on (le-leb (c .before .before .args .floor) (c .before .before .args .p) (omega arith)) refl)

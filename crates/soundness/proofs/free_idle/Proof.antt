@@ -1,33 +1,22 @@
 -- `soundness::free_idle` meets its contract.
-use native.Mathlib.Omega.{arith}
 use denote.Ref.{now}
 use Rattle.soundness.proofs.Slots.{idle-used, idle-free}
 use borrow.Author.Needs.{needs}
 use Rattle.soundness.proofs.free_idle.Statement.{statement}
 use Rattle.soundness.proofs.free_idle.Tie as tie
-use Rattle.soundness.proofs.free_idle.Reads as reads
-use Rattle.soundness.proofs.free_idle.Lts as lts
-use Rattle.chains.proofs.more.Reads as more-reads
-use Rattle.tables.proofs.first_access.Reads as first-access-reads
-use Rattle.tables.proofs.state_of.Reads as state-of-reads
 
--- src/lib.rt:541:8
 state-of-requires : tie.Need-state-of-requires
 state-of-requires c κs = search needs
 
--- src/lib.rt:542:9
 returns : tie.Need-returns
 returns c = idle-used (c .before .before .before .args .c) (now (c .before .before .before .args .w)) (c .before .before .before .args .k) (c .before .state-of .ensures) (c .if1 .taken)
 
--- src/lib.rt:545:25
 first-access-requires : tie.Need-first-access-requires
 first-access-requires c κs = search needs
 
--- src/lib.rt:545:6
 more-requires : tie.Need-more-requires
 more-requires c κs = search needs
 
--- src/lib.rt:537:1
 returns-2 : tie.Need-returns-2
 returns-2 c = idle-free (c .before .before .before .before .before .args .c) (now (c .before .before .before .before .before .args .w)) (c .before .before .before .before .before .args .k) (c .before .before .before .before .before .pre .0 .ranged .accesses-low) (c .before .before .before .state-of .ensures) (c .before .before .if1 .left) (c .before .first-access .ensures) (c .more .ensures)
 

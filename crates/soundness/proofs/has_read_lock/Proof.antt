@@ -3,7 +3,6 @@ use mathlib.Core.Path.{sym, _∙_}
 use mathlib.Core.List.{map}
 use native.Mathlib.Omega.{arith}
 use denote.Ref.{now}
-use borrow.Author.Tests.{not-true, not-false}
 use Rattle.chains.specs.Table.{link}
 use Rattle.chains.proofs.Walks.{row-of, fuel-of}
 use Rattle.chains.proofs.Loops.{Walk}
@@ -15,12 +14,6 @@ use Rattle.meaning.specs.Sound.{startsRead}
 use borrow.Author.Needs.{needs}
 use Rattle.soundness.proofs.has_read_lock.Statement.{statement}
 use Rattle.soundness.proofs.has_read_lock.Tie as tie
-use Rattle.soundness.proofs.has_read_lock.Reads as reads
-use Rattle.soundness.proofs.has_read_lock.Lts as lts
-use Rattle.chains.proofs.more.Reads as more-reads
-use Rattle.soundness.proofs.row_starts.Reads as row-starts-reads
-use Rattle.tables.proofs.first_lock.Reads as first-lock-reads
-use Rattle.tables.proofs.next_lock.Reads as next-lock-reads
 
 abbrev Inv-loop : tie.InvT-loop
 Inv-loop w c r k from n cur₀ left₀ cur left = Walk (link (lockTable c) w) n (λ rs. any (startsRead k from) (map (lockAt c w) rs)) (any (startsRead k from) (recordAt c w r .locks)) cur left
@@ -28,43 +21,33 @@ Inv-loop w c r k from n cur₀ left₀ cur left = Walk (link (lockTable c) w) n 
 abbrev μ-loop : tie.MeasureT-loop
 μ-loop w c r k from n cur₀ left₀ cur left = left
 
--- src/lib.rt:302:9
 first-lock-requires : tie.Need-first-lock-requires Inv-loop μ-loop
 first-lock-requires c κs = search needs
 
--- src/lib.rt:304:5
 loop-holds : tie.Need-loop-holds Inv-loop μ-loop
 loop-holds c = locks-start (c .before .before .args .c) (now (c .before .before .args .w)) (c .before .before .args .r) (any (startsRead (c .before .before .args .k) (c .before .before .args .from))) (c .first-lock .ensures)
 
--- src/lib.rt:304:11
 more-requires : tie.Need-more-requires Inv-loop μ-loop
 more-requires c κs = tt
 
--- src/lib.rt:305:12
 row-starts-requires : tie.Need-row-starts-requires Inv-loop μ-loop
 row-starts-requires c κs = (c .before .before .before .before .before .pre .0, row-of _ _ _ (c .before .more .ensures) (c .if1 .taken))
 
--- src/lib.rt:306:13
 returns : tie.Need-returns Inv-loop μ-loop
 returns c = any-out (startsRead (c .before .before .before .before .before .before .before .args .k) (c .before .before .before .before .before .before .before .args .from)) (lockAt (c .before .before .before .before .before .before .before .args .c) (now (c .before .before .before .before .before .before .before .args .w))) (c .before .before .before .before .loop .inv) (c .before .before .before .more .ensures) (c .before .before .if1 .taken) (sym (c .before .row-starts .ensures) ∙ c .if2 .taken)
 
--- src/lib.rt:308:9
 next-lock-requires : tie.Need-next-lock-requires Inv-loop μ-loop
 next-lock-requires c κs = (c .before .before .before .before .before .before .before .pre .0, row-of _ _ _ (c .before .before .before .more .ensures) (c .before .before .if1 .taken))
 
--- src/lib.rt:309:9
 sub-left : tie.Need-sub-left Inv-loop μ-loop
 sub-left c = fuel-of _ _ _ (c .before .before .before .before .more .ensures) (c .before .before .before .if1 .taken)
 
--- src/lib.rt:304:5
 loop-less : tie.Need-loop-less Inv-loop μ-loop
 loop-less c = omega (arith, fuel-of _ _ _ (c .before .before .before .before .more .ensures) (c .before .before .before .if1 .taken))
 
--- src/lib.rt:304:5
 loop-again : tie.Need-loop-again Inv-loop μ-loop
 loop-again c = any-on (startsRead (c .before .before .before .before .before .before .before .before .args .k) (c .before .before .before .before .before .before .before .before .args .from)) (lockAt (c .before .before .before .before .before .before .before .before .args .c) (now (c .before .before .before .before .before .before .before .before .args .w))) (c .before .before .before .before .before .loop .inv) (c .before .before .before .before .more .ensures) (c .before .before .before .if1 .taken) (sym (c .before .before .row-starts .ensures) ∙ c .before .if2 .left) (c .next-lock .ensures)
 
--- src/lib.rt:297:1
 returns-2 : tie.Need-returns-2 Inv-loop μ-loop
 returns-2 c = any-done (startsRead (c .before .before .before .before .before .args .k) (c .before .before .before .before .before .args .from)) (lockAt (c .before .before .before .before .before .args .c) (now (c .before .before .before .before .before .args .w))) (c .before .before .loop .inv) (c .before .more .ensures) (c .if1 .left)
 

@@ -3,7 +3,6 @@ use mathlib.Core.Path.{sym, _∙_}
 use mathlib.Core.List.{map}
 use native.Mathlib.Omega.{arith}
 use denote.Ref.{now}
-use borrow.Author.Tests.{not-true, not-false}
 use Rattle.chains.specs.Table.{link}
 use Rattle.chains.proofs.Walks.{row-of, fuel-of}
 use Rattle.chains.proofs.Loops.{Walk}
@@ -15,12 +14,6 @@ use Rattle.soundness.specs.Clauses.{standsBefore}
 use borrow.Author.Needs.{needs}
 use Rattle.soundness.proofs.has_version.Statement.{statement}
 use Rattle.soundness.proofs.has_version.Tie as tie
-use Rattle.soundness.proofs.has_version.Reads as reads
-use Rattle.soundness.proofs.has_version.Lts as lts
-use Rattle.chains.proofs.more.Reads as more-reads
-use Rattle.soundness.proofs.row_stands.Reads as row-stands-reads
-use Rattle.tables.proofs.first_version.Reads as first-version-reads
-use Rattle.tables.proofs.next_version.Reads as next-version-reads
 
 abbrev Inv-loop : tie.InvT-loop
 Inv-loop w c r from n cur₀ left₀ cur left = Walk (link (versionTable c) w) n (λ rs. any (standsBefore from) (map (versionAt c w) rs)) (any (standsBefore from) (recordAt c w r .versions)) cur left
@@ -28,43 +21,33 @@ Inv-loop w c r from n cur₀ left₀ cur left = Walk (link (versionTable c) w) n
 abbrev μ-loop : tie.MeasureT-loop
 μ-loop w c r from n cur₀ left₀ cur left = left
 
--- src/lib.rt:331:9
 first-version-requires : tie.Need-first-version-requires Inv-loop μ-loop
 first-version-requires c κs = search needs
 
--- src/lib.rt:333:5
 loop-holds : tie.Need-loop-holds Inv-loop μ-loop
 loop-holds c = versions-start (c .before .before .args .c) (now (c .before .before .args .w)) (c .before .before .args .r) (any (standsBefore (c .before .before .args .from))) (c .first-version .ensures)
 
--- src/lib.rt:333:11
 more-requires : tie.Need-more-requires Inv-loop μ-loop
 more-requires c κs = tt
 
--- src/lib.rt:334:12
 row-stands-requires : tie.Need-row-stands-requires Inv-loop μ-loop
 row-stands-requires c κs = (c .before .before .before .before .before .pre .0, row-of _ _ _ (c .before .more .ensures) (c .if1 .taken))
 
--- src/lib.rt:335:13
 returns : tie.Need-returns Inv-loop μ-loop
 returns c = any-out (standsBefore (c .before .before .before .before .before .before .before .args .from)) (versionAt (c .before .before .before .before .before .before .before .args .c) (now (c .before .before .before .before .before .before .before .args .w))) (c .before .before .before .before .loop .inv) (c .before .before .before .more .ensures) (c .before .before .if1 .taken) (sym (c .before .row-stands .ensures) ∙ c .if2 .taken)
 
--- src/lib.rt:337:9
 next-version-requires : tie.Need-next-version-requires Inv-loop μ-loop
 next-version-requires c κs = (c .before .before .before .before .before .before .before .pre .0, row-of _ _ _ (c .before .before .before .more .ensures) (c .before .before .if1 .taken))
 
--- src/lib.rt:338:9
 sub-left : tie.Need-sub-left Inv-loop μ-loop
 sub-left c = fuel-of _ _ _ (c .before .before .before .before .more .ensures) (c .before .before .before .if1 .taken)
 
--- src/lib.rt:333:5
 loop-less : tie.Need-loop-less Inv-loop μ-loop
 loop-less c = omega (arith, fuel-of _ _ _ (c .before .before .before .before .more .ensures) (c .before .before .before .if1 .taken))
 
--- src/lib.rt:333:5
 loop-again : tie.Need-loop-again Inv-loop μ-loop
 loop-again c = any-on (standsBefore (c .before .before .before .before .before .before .before .before .args .from)) (versionAt (c .before .before .before .before .before .before .before .before .args .c) (now (c .before .before .before .before .before .before .before .before .args .w))) (c .before .before .before .before .before .loop .inv) (c .before .before .before .before .more .ensures) (c .before .before .before .if1 .taken) (sym (c .before .before .row-stands .ensures) ∙ c .before .if2 .left) (c .next-version .ensures)
 
--- src/lib.rt:326:1
 returns-2 : tie.Need-returns-2 Inv-loop μ-loop
 returns-2 c = any-done (standsBefore (c .before .before .before .before .before .args .from)) (versionAt (c .before .before .before .before .before .args .c) (now (c .before .before .before .before .before .args .w))) (c .before .before .loop .inv) (c .before .more .ensures) (c .if1 .left)
 

@@ -5,28 +5,19 @@ use Rattle.soundness.proofs.Reading.{present-found, present-later, pres
 use borrow.Author.Needs.{needs}
 use Rattle.soundness.proofs.is_present.Statement.{statement}
 use Rattle.soundness.proofs.is_present.Tie as tie
-use Rattle.soundness.proofs.is_present.Reads as reads
-use Rattle.soundness.proofs.is_present.Lts as lts
-use Rattle.soundness.proofs.has_version.Reads as has-version-reads
-use Rattle.tables.proofs.floor_of.Reads as floor-of-reads
 
--- src/lib.rt:349:8
 has-version-requires : tie.Need-has-version-requires
 has-version-requires c κs = search needs
 
--- src/lib.rt:350:9
 returns : tie.Need-returns
 returns c = present-found (recordAt (c .before .before .before .args .c) (now (c .before .before .before .args .w)) (c .before .before .before .args .r)) (c .before .before .before .args .from) (c .before .has-version .ensures) (c .if1 .taken)
 
--- src/lib.rt:353:9
 returns-2 : tie.Need-returns-2
 returns-2 c = present-later (recordAt (c .before .before .before .before .args .c) (now (c .before .before .before .before .args .w)) (c .before .before .before .before .args .r)) (c .before .before .before .before .args .from) (c .before .before .has-version .ensures) (c .before .if1 .left) (c .if2 .taken)
 
--- src/lib.rt:355:5
 floor-of-requires : tie.Need-floor-of-requires
 floor-of-requires c κs = search needs
 
--- src/lib.rt:345:1
 returns-3 : tie.Need-returns-3
 returns-3 c = present-first (recordAt (c .before .before .before .before .before .args .c) (now (c .before .before .before .before .before .args .w)) (c .before .before .before .before .before .args .r)) (c .before .before .before .before .before .args .from) (c .before .before .before .has-version .ensures) (c .before .before .if1 .left) (c .before .if2 .left) (c .floor-of .ensures)
 

@@ -6,40 +6,27 @@ use Rattle.soundness.proofs.Steps.{and-no, and-on}
 use borrow.Author.Needs.{needs}
 use Rattle.soundness.proofs.lock_sound.Statement.{statement}
 use Rattle.soundness.proofs.lock_sound.Tie as tie
-use Rattle.soundness.proofs.lock_sound.Reads as reads
-use Rattle.soundness.proofs.lock_sound.Lts as lts
-use Rattle.soundness.proofs.mode_listed.Reads as mode-listed-reads
-use Rattle.soundness.proofs.owner_used.Reads as owner-used-reads
-use Rattle.soundness.proofs.span_lies.Reads as span-lies-reads
-use Rattle.tables.proofs.lock_at.Reads as lock-at-reads
 
--- src/lib.rt:161:9
 lock-at-requires : tie.Need-lock-at-requires
 lock-at-requires c κs = search needs
 
--- src/lib.rt:162:9
 span-lies-requires : tie.Need-span-lies-requires
 span-lies-requires c κs = search needs
 
--- src/lib.rt:163:9
 returns : tie.Need-returns
 unfolding lockSound
 returns c = rw (sym (c .before .before .lock-at .ensures)) (and-no _ (sym (c .before .span-lies .ensures) ∙ not-true _ (c .if1 .taken)))
 
--- src/lib.rt:165:9
 mode-listed-requires : tie.Need-mode-listed-requires
 mode-listed-requires c κs = search needs
 
--- src/lib.rt:166:9
 returns-2 : tie.Need-returns-2
 unfolding lockSound
 returns-2 c = rw (sym (c .before .before .before .before .lock-at .ensures)) (and-on (sym (c .before .before .before .span-lies .ensures) ∙ not-false _ (c .before .before .if1 .left)) (and-no _ (sym (c .before .mode-listed .ensures) ∙ not-true _ (c .if2 .taken))))
 
--- src/lib.rt:168:5
 owner-used-requires : tie.Need-owner-used-requires
 owner-used-requires c κs = search needs
 
--- src/lib.rt:157:1
 returns-3 : tie.Need-returns-3
 unfolding lockSound
 returns-3 c = rw (sym (c .before .before .before .before .before .lock-at .ensures)) (and-on (sym (c .before .before .before .before .span-lies .ensures) ∙ not-false _ (c .before .before .before .if1 .left)) (and-on (sym (c .before .before .mode-listed .ensures) ∙ not-false _ (c .before .if2 .left)) (c .owner-used .ensures)))

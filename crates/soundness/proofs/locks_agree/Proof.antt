@@ -14,13 +14,6 @@ use Rattle.tables.proofs.Loops.{locks-start, pair-on, pair-out, pair-done}
 use borrow.Author.Needs.{needs}
 use Rattle.soundness.proofs.locks_agree.Statement.{statement}
 use Rattle.soundness.proofs.locks_agree.Tie as tie
-use Rattle.soundness.proofs.locks_agree.Reads as reads
-use Rattle.soundness.proofs.locks_agree.Lts as lts
-use Rattle.chains.proofs.more.Reads as more-reads
-use Rattle.soundness.proofs.agrees_after.Reads as agrees-after-reads
-use Rattle.tables.proofs.first_lock.Reads as first-lock-reads
-use Rattle.tables.proofs.lock_at.Reads as lock-at-reads
-use Rattle.tables.proofs.next_lock.Reads as next-lock-reads
 
 abbrev Inv-loop : tie.InvT-loop
 Inv-loop w c r n cur₀ left₀ cur left = Walk (link (lockTable c) w) n (λ rs. pairwise agree (map (lockAt c w) rs)) (pairwise agree (recordAt c w r .locks)) cur left
@@ -28,51 +21,39 @@ Inv-loop w c r n cur₀ left₀ cur left = Walk (link (lockTable c) w) n (λ rs.
 abbrev μ-loop : tie.MeasureT-loop
 μ-loop w c r n cur₀ left₀ cur left = left
 
--- src/lib.rt:274:9
 first-lock-requires : tie.Need-first-lock-requires Inv-loop μ-loop
 first-lock-requires c κs = search needs
 
--- src/lib.rt:276:5
 loop-holds : tie.Need-loop-holds Inv-loop μ-loop
 loop-holds c = locks-start (c .before .before .args .c) (now (c .before .before .args .w)) (c .before .before .args .r) (pairwise agree) (c .first-lock .ensures)
 
--- src/lib.rt:276:11
 more-requires : tie.Need-more-requires Inv-loop μ-loop
 more-requires c κs = tt
 
--- src/lib.rt:277:13
 next-lock-requires : tie.Need-next-lock-requires Inv-loop μ-loop
 next-lock-requires c κs = (c .before .before .before .before .before .pre .0, row-of _ _ _ (c .before .more .ensures) (c .if1 .taken))
 
--- src/lib.rt:278:13
 lock-at-requires : tie.Need-lock-at-requires Inv-loop μ-loop
 lock-at-requires c κs = (c .before .before .before .before .before .before .pre .0, row-of _ _ _ (c .before .before .more .ensures) (c .before .if1 .taken))
 
--- src/lib.rt:279:40
 sub-agrees-after : tie.Need-sub-agrees-after Inv-loop μ-loop
 sub-agrees-after c = fuel-of _ _ _ (c .before .before .before .more .ensures) (c .before .before .if1 .taken)
 
--- src/lib.rt:279:13
 agrees-after-requires : tie.Need-agrees-after-requires Inv-loop μ-loop
 agrees-after-requires c κs = c .before .before .before .before .before .before .before .pre .0
 
--- src/lib.rt:280:13
 returns : tie.Need-returns Inv-loop μ-loop
 returns c = pair-out agree (lockAt (c .before .before .before .before .before .before .before .before .before .args .c) (now (c .before .before .before .before .before .before .before .before .before .args .w))) (c .before .before .before .before .before .before .loop .inv) (c .before .before .before .before .before .more .ensures) (c .before .before .before .before .if1 .taken) (c .before .before .lock-at .ensures) (c .before .before .before .next-lock .ensures) (c .before .agrees-after .ensures) (not-true _ (c .if2 .taken))
 
--- src/lib.rt:283:9
 sub-left : tie.Need-sub-left Inv-loop μ-loop
 sub-left c = fuel-of _ _ _ (c .before .before .before .before .before .more .ensures) (c .before .before .before .before .if1 .taken)
 
--- src/lib.rt:276:5
 loop-less : tie.Need-loop-less Inv-loop μ-loop
 loop-less c = omega (arith, fuel-of _ _ _ (c .before .before .before .before .before .more .ensures) (c .before .before .before .before .if1 .taken))
 
--- src/lib.rt:276:5
 loop-again : tie.Need-loop-again Inv-loop μ-loop
 loop-again c = pair-on agree (lockAt (c .before .before .before .before .before .before .before .before .before .args .c) (now (c .before .before .before .before .before .before .before .before .before .args .w))) (c .before .before .before .before .before .before .loop .inv) (c .before .before .before .before .before .more .ensures) (c .before .before .before .before .if1 .taken) (c .before .before .lock-at .ensures) (c .before .before .before .next-lock .ensures) (c .before .agrees-after .ensures) (not-false _ (c .if2 .left))
 
--- src/lib.rt:269:1
 returns-2 : tie.Need-returns-2 Inv-loop μ-loop
 returns-2 c = pair-done agree (lockAt (c .before .before .before .before .before .args .c) (now (c .before .before .before .before .before .args .w))) (c .before .before .loop .inv) (c .before .more .ensures) (c .if1 .left)
 

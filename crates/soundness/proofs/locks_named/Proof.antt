@@ -8,9 +8,6 @@ use Rattle.tables.specs.Words.{namesRecord, locksNamed}
 use Rattle.soundness.proofs.Counting.{UpTo, up-start, up-again, up-fail, up-end}
 use Rattle.soundness.proofs.locks_named.Statement.{statement}
 use Rattle.soundness.proofs.locks_named.Tie as tie
-use Rattle.soundness.proofs.locks_named.Reads as reads
-use Rattle.soundness.proofs.locks_named.Lts as lts
-use Rattle.soundness.proofs.record_named.Reads as record-named-reads
 
 abbrev Inv-loop : tie.InvT-loop
 Inv-loop w c n r₀ r = UpTo (λ j. allOf (namesRecord c w j) (lockRows c w j)) n r
@@ -18,32 +15,25 @@ Inv-loop w c n r₀ r = UpTo (λ j. allOf (namesRecord c w j) (lockRows c w j)) 
 abbrev μ-loop : tie.MeasureT-loop
 μ-loop w c n r₀ r = n - r
 
--- src/lib.rt:81:5
 loop-holds : tie.Need-loop-holds Inv-loop μ-loop
 loop-holds c = up-start
 
--- src/lib.rt:82:13
 record-named-requires : tie.Need-record-named-requires Inv-loop μ-loop
 record-named-requires c κs = (c .before .before .before .pre, omega arith)
 
--- src/lib.rt:83:13
 returns : tie.Need-returns Inv-loop μ-loop
 unfolding locksNamed
 returns c = up-fail (c .before .before .before .loop .inv) (omega arith) (c .before .record-named .ensures) (not-true _ (c .if1 .taken))
 
--- src/lib.rt:85:9
 add-r : tie.Need-add-r Inv-loop μ-loop
 add-r c = omega (arith, c .before .before .before .before .before .pre .ranged .records-high)
 
--- src/lib.rt:81:5
 loop-less : tie.Need-loop-less Inv-loop μ-loop
 loop-less c = omega arith
 
--- src/lib.rt:81:5
 loop-again : tie.Need-loop-again Inv-loop μ-loop
 loop-again c = up-again (c .before .before .before .loop .inv) (omega arith) (c .before .record-named .ensures) (not-false _ (c .if1 .left))
 
--- src/lib.rt:75:1
 returns-2 : tie.Need-returns-2 Inv-loop μ-loop
 unfolding locksNamed
 returns-2 c = up-end (c .before .loop .inv) (omega arith)

@@ -1,6 +1,5 @@
 -- `soundness::locks_parted` meets its contract.
 use mathlib.Core.Path.{sym}
-use native.Mathlib.Omega.{arith}
 use Rattle.chains.proofs.Cells.{lies, heads-lie}
 use Rattle.tables.specs.Layout.{lockTable}
 use Rattle.tables.specs.Words.{locksParted}
@@ -8,26 +7,17 @@ use Rattle.tables.proofs.Places
 use borrow.Author.Needs.{needs}
 use Rattle.soundness.proofs.locks_parted.Statement.{statement}
 use Rattle.soundness.proofs.locks_parted.Tie as tie
-use Rattle.soundness.proofs.locks_parted.Reads as reads
-use Rattle.soundness.proofs.locks_parted.Lts as lts
-use Rattle.chains.proofs.partition_ok.Reads as partition-ok-reads
-use Rattle.tables.proofs.lock_heads.Reads as lock-heads-reads
-use Rattle.tables.proofs.lock_table.Reads as lock-table-reads
 
--- src/lib.rt:42:29
 lock-table-requires : tie.Need-lock-table-requires
 lock-table-requires c κs = search needs
 
--- src/lib.rt:42:52
 lock-heads-requires : tie.Need-lock-heads-requires
 lock-heads-requires c κs = search needs
 
--- src/lib.rt:42:5
 partition-ok-requires : tie.Need-partition-ok-requires
 unfolding lockTable
 partition-ok-requires c κs = rw (c .before .lock-table .ensures, c .lock-heads .ensures) (let l = Places.locks-laid (c .before .before .before .pre) in (lies l, heads-lie l, c .before .before .before .pre .ranged .locks-high))
 
--- src/lib.rt:38:1
 returns : tie.Need-returns
 unfolding locksParted
 returns c = rw (sym (c .before .before .lock-table .ensures), sym (c .before .lock-heads .ensures)) (c .partition-ok .ensures)

@@ -15,13 +15,6 @@ use Rattle.soundness.specs.Clauses.{lockSound}
 use borrow.Author.Needs.{needs}
 use Rattle.soundness.proofs.locks_sound.Statement.{statement}
 use Rattle.soundness.proofs.locks_sound.Tie as tie
-use Rattle.soundness.proofs.locks_sound.Reads as reads
-use Rattle.soundness.proofs.locks_sound.Lts as lts
-use Rattle.chains.proofs.more.Reads as more-reads
-use Rattle.soundness.proofs.lock_sound.Reads as lock-sound-reads
-use Rattle.tables.proofs.first_lock.Reads as first-lock-reads
-use Rattle.tables.proofs.floor_of.Reads as floor-of-reads
-use Rattle.tables.proofs.next_lock.Reads as next-lock-reads
 
 abbrev Inv-loop : tie.InvT-loop
 Inv-loop w c r n floor cur₀ left₀ cur left = Walk (link (lockTable c) w) n (λ rs. all (lockSound (editsOf c w) floor) (map (lockAt c w) rs)) (all (lockSound (editsOf c w) (recordAt c w r .floor)) (recordAt c w r .locks)) cur left
@@ -29,47 +22,36 @@ Inv-loop w c r n floor cur₀ left₀ cur left = Walk (link (lockTable c) w) n (
 abbrev μ-loop : tie.MeasureT-loop
 μ-loop w c r n floor cur₀ left₀ cur left = left
 
--- src/lib.rt:176:9
 floor-of-requires : tie.Need-floor-of-requires Inv-loop μ-loop
 floor-of-requires c κs = search needs
 
--- src/lib.rt:177:9
 first-lock-requires : tie.Need-first-lock-requires Inv-loop μ-loop
 first-lock-requires c κs = search needs
 
--- src/lib.rt:179:5
 loop-holds : tie.Need-loop-holds Inv-loop μ-loop
 loop-holds c = rw (c .before .floor-of .ensures) (locks-start (c .before .before .before .args .c) (now (c .before .before .before .args .w)) (c .before .before .before .args .r) (all (lockSound (editsOf (c .before .before .before .args .c) (now (c .before .before .before .args .w))) (recordAt (c .before .before .before .args .c) (now (c .before .before .before .args .w)) (c .before .before .before .args .r) .floor))) (c .first-lock .ensures))
 
--- src/lib.rt:179:11
 more-requires : tie.Need-more-requires Inv-loop μ-loop
 more-requires c κs = tt
 
--- src/lib.rt:180:13
 lock-sound-requires : tie.Need-lock-sound-requires Inv-loop μ-loop
 lock-sound-requires c κs = (c .before .before .before .before .before .before .pre .0, row-of _ _ _ (c .before .more .ensures) (c .if1 .taken))
 
--- src/lib.rt:181:13
 returns : tie.Need-returns Inv-loop μ-loop
 returns c = all-out (lockSound (editsOf (c .before .before .before .before .before .before .before .before .args .c) (now (c .before .before .before .before .before .before .before .before .args .w))) (c .before .before .before .before .before .before .floor-of .result)) (lockAt (c .before .before .before .before .before .before .before .before .args .c) (now (c .before .before .before .before .before .before .before .before .args .w))) (c .before .before .before .before .loop .inv) (c .before .before .before .more .ensures) (c .before .before .if1 .taken) (sym (c .before .lock-sound .ensures) ∙ not-true _ (c .if2 .taken))
 
--- src/lib.rt:183:9
 next-lock-requires : tie.Need-next-lock-requires Inv-loop μ-loop
 next-lock-requires c κs = (c .before .before .before .before .before .before .before .before .pre .0, row-of _ _ _ (c .before .before .before .more .ensures) (c .before .before .if1 .taken))
 
--- src/lib.rt:184:9
 sub-left : tie.Need-sub-left Inv-loop μ-loop
 sub-left c = fuel-of _ _ _ (c .before .before .before .before .more .ensures) (c .before .before .before .if1 .taken)
 
--- src/lib.rt:179:5
 loop-less : tie.Need-loop-less Inv-loop μ-loop
 loop-less c = omega (arith, fuel-of _ _ _ (c .before .before .before .before .more .ensures) (c .before .before .before .if1 .taken))
 
--- src/lib.rt:179:5
 loop-again : tie.Need-loop-again Inv-loop μ-loop
 loop-again c = all-on (lockSound (editsOf (c .before .before .before .before .before .before .before .before .before .args .c) (now (c .before .before .before .before .before .before .before .before .before .args .w))) (c .before .before .before .before .before .before .before .floor-of .result)) (lockAt (c .before .before .before .before .before .before .before .before .before .args .c) (now (c .before .before .before .before .before .before .before .before .before .args .w))) (c .before .before .before .before .before .loop .inv) (c .before .before .before .before .more .ensures) (c .before .before .before .if1 .taken) (sym (c .before .before .lock-sound .ensures) ∙ not-false _ (c .before .if2 .left)) (c .next-lock .ensures)
 
--- src/lib.rt:171:1
 returns-2 : tie.Need-returns-2 Inv-loop μ-loop
 returns-2 c = all-done (lockSound (editsOf (c .before .before .before .before .before .before .args .c) (now (c .before .before .before .before .before .before .args .w))) (c .before .before .before .before .floor-of .result)) (lockAt (c .before .before .before .before .before .before .args .c) (now (c .before .before .before .before .before .before .args .w))) (c .before .before .loop .inv) (c .before .more .ensures) (c .if1 .left)
 

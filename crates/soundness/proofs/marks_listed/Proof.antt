@@ -9,9 +9,6 @@ use Rattle.tables.specs.Words.{marked, marksListed}
 use Rattle.soundness.proofs.Counting.{UpTo, up-start, up-again, up-fail, up-end}
 use Rattle.soundness.proofs.marks_listed.Statement.{statement}
 use Rattle.soundness.proofs.marks_listed.Tie as tie
-use Rattle.soundness.proofs.marks_listed.Reads as reads
-use Rattle.soundness.proofs.marks_listed.Lts as lts
-use Rattle.soundness.proofs.slot_marked.Reads as slot-marked-reads
 
 abbrev Inv-loop : tie.InvT-loop
 Inv-loop w c n k₀ k = UpTo (λ j. allOf (marked c w) (accessRows c w (suc j))) n k
@@ -19,36 +16,28 @@ Inv-loop w c n k₀ k = UpTo (λ j. allOf (marked c w) (accessRows c w (suc j)))
 abbrev μ-loop : tie.MeasureT-loop
 μ-loop w c n k₀ k = n - k
 
--- src/lib.rt:115:5
 loop-holds : tie.Need-loop-holds Inv-loop μ-loop
 loop-holds c = up-start
 
--- src/lib.rt:116:31
 add-slot-marked : tie.Need-add-slot-marked Inv-loop μ-loop
 add-slot-marked c = omega (arith, c .before .before .before .pre .ranged .edits-high)
 
--- src/lib.rt:116:13
 slot-marked-requires : tie.Need-slot-marked-requires Inv-loop μ-loop
 slot-marked-requires c κs = (c .before .before .before .pre, record { low = omega arith; high = omega arith })
 
--- src/lib.rt:117:13
 returns : tie.Need-returns Inv-loop μ-loop
 unfolding marksListed
 returns c = up-fail (c .before .before .before .loop .inv) (omega arith) (rw add-one at (c .before .slot-marked .ensures)) (not-true _ (c .if1 .taken))
 
--- src/lib.rt:119:9
 add-k : tie.Need-add-k Inv-loop μ-loop
 add-k c = omega (arith, c .before .before .before .before .before .pre .ranged .edits-high)
 
--- src/lib.rt:115:5
 loop-less : tie.Need-loop-less Inv-loop μ-loop
 loop-less c = omega arith
 
--- src/lib.rt:115:5
 loop-again : tie.Need-loop-again Inv-loop μ-loop
 loop-again c = up-again (c .before .before .before .loop .inv) (omega arith) (rw add-one at (c .before .slot-marked .ensures)) (not-false _ (c .if1 .left))
 
--- src/lib.rt:109:1
 returns-2 : tie.Need-returns-2 Inv-loop μ-loop
 unfolding marksListed
 returns-2 c = up-end (c .before .loop .inv) (omega arith)

@@ -5,14 +5,10 @@ use Rattle.meaning.specs.Limits.{READ}
 use Rattle.soundness.proofs.Steps.{or-yes, or-on}
 use Rattle.soundness.proofs.mode_listed.Statement.{statement}
 use Rattle.soundness.proofs.mode_listed.Tie as tie
-use Rattle.soundness.proofs.mode_listed.Reads as reads
-use Rattle.soundness.proofs.mode_listed.Lts as lts
 
--- src/lib.rt:142:9
 returns : tie.Need-returns
 returns c = or-yes _ (eq-eqb (c .before .before .args .l .mode) READ (c .if1 .taken))
 
--- src/lib.rt:138:1
 returns-2 : tie.Need-returns-2
 returns-2 c = or-on (ne-eqb (c .before .before .before .args .l .mode) READ (c .before .if1 .left)) refl
 

@@ -5,19 +5,13 @@ use Rattle.soundness.proofs.Steps.{or-yes, or-on}
 use borrow.Author.Needs.{needs}
 use Rattle.soundness.proofs.owner_used.Statement.{statement}
 use Rattle.soundness.proofs.owner_used.Tie as tie
-use Rattle.soundness.proofs.owner_used.Reads as reads
-use Rattle.soundness.proofs.owner_used.Lts as lts
-use Rattle.lookups.proofs.slot_used.Reads as slot-used-reads
 
--- src/lib.rt:152:9
 returns : tie.Need-returns
 returns c = or-yes _ (eq-eqb (c .before .before .before .args .l .owner) SETTLED (c .if1 .taken))
 
--- src/lib.rt:154:5
 slot-used-requires : tie.Need-slot-used-requires
 slot-used-requires c κs = search needs
 
--- src/lib.rt:147:1
 returns-2 : tie.Need-returns-2
 returns-2 c = or-on (ne-eqb (c .before .before .before .before .args .l .owner) SETTLED (c .before .if1 .left)) (c .slot-used .ensures)
 

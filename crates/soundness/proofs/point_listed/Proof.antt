@@ -5,14 +5,10 @@ use Rattle.meaning.specs.Limits.{COMMITTED}
 use Rattle.soundness.proofs.Steps.{or-yes, or-on}
 use Rattle.soundness.proofs.point_listed.Statement.{statement}
 use Rattle.soundness.proofs.point_listed.Tie as tie
-use Rattle.soundness.proofs.point_listed.Reads as reads
-use Rattle.soundness.proofs.point_listed.Lts as lts
 
--- src/lib.rt:532:9
 returns : tie.Need-returns
 returns c = or-yes _ (eq-eqb (c .before .args .state) COMMITTED (c .if1 .taken))
 
--- src/lib.rt:528:1
 returns-2 : tie.Need-returns-2
 returns-2 c = or-on (ne-eqb (c .before .args .state) COMMITTED (c .if1 .left)) refl
 

@@ -6,38 +6,25 @@ use Rattle.soundness.proofs.Reading.{unread, read-unlocked, read-locked
 use borrow.Author.Needs.{needs}
 use Rattle.soundness.proofs.read_sound.Statement.{statement}
 use Rattle.soundness.proofs.read_sound.Tie as tie
-use Rattle.soundness.proofs.read_sound.Reads as reads
-use Rattle.soundness.proofs.read_sound.Lts as lts
-use Rattle.chains.proofs.wide.Reads as wide-reads
-use Rattle.chains.proofs.word.Reads as word-reads
-use Rattle.soundness.proofs.has_read_lock.Reads as has-read-lock-reads
-use Rattle.soundness.proofs.is_present.Reads as is-present-reads
 
--- src/lib.rt:363:9
 returns : tie.Need-returns
 returns c = unread (c .before .before .before .args .c) (now (c .before .before .before .args .w)) (c .before .before .before .args .k) (c .before .before .before .args .a) (c .before .before .before .pre .1) (c .if1 .taken)
 
--- src/lib.rt:365:9
 wide-requires : tie.Need-wide-requires
 wide-requires c κs = search needs
 
--- src/lib.rt:366:32
 word-requires : tie.Need-word-requires
 word-requires c κs = search needs
 
--- src/lib.rt:366:9
 has-read-lock-requires : tie.Need-has-read-lock-requires
 has-read-lock-requires c κs = (c .before .before .before .before .before .pre .0, omega (arith, c .before .wide .ensures, c .before .before .before .before .before .pre .1))
 
--- src/lib.rt:367:9
 returns-2 : tie.Need-returns-2
 returns-2 c = read-unlocked (c .before .before .before .before .before .before .before .args .c) (now (c .before .before .before .before .before .before .before .args .w)) (c .before .before .before .before .before .before .before .args .k) (c .before .before .before .before .before .before .before .args .a) (c .before .before .before .before .before .before .before .pre .1) (c .before .before .before .before .if1 .left) (c .before .before .before .wide .ensures) (c .before .before .word .ensures) (c .before .has-read-lock .ensures) (not-true _ (c .if2 .taken))
 
--- src/lib.rt:369:5
 is-present-requires : tie.Need-is-present-requires
 is-present-requires c κs = (c .before .before .before .before .before .before .before .pre .0, omega (arith, c .before .before .before .wide .ensures, c .before .before .before .before .before .before .before .pre .1))
 
--- src/lib.rt:358:1
 returns-3 : tie.Need-returns-3
 returns-3 c = read-locked (c .before .before .before .before .before .before .before .before .args .c) (now (c .before .before .before .before .before .before .before .before .args .w)) (c .before .before .before .before .before .before .before .before .args .k) (c .before .before .before .before .before .before .before .before .args .a) (c .before .before .before .before .before .before .before .before .pre .1) (c .before .before .before .before .before .if1 .left) (c .before .before .before .before .wide .ensures) (c .before .before .before .word .ensures) (c .before .before .has-read-lock .ensures) (not-false _ (c .before .if2 .left)) (c .is-present .ensures)
 

@@ -14,13 +14,6 @@ use Rattle.tables.proofs.Loops.{lock-rows-start}
 use borrow.Author.Needs.{needs}
 use Rattle.soundness.proofs.record_named.Statement.{statement}
 use Rattle.soundness.proofs.record_named.Tie as tie
-use Rattle.soundness.proofs.record_named.Reads as reads
-use Rattle.soundness.proofs.record_named.Lts as lts
-use Rattle.chains.proofs.more.Reads as more-reads
-use Rattle.chains.proofs.word.Reads as word-reads
-use Rattle.tables.proofs.first_lock.Reads as first-lock-reads
-use Rattle.tables.proofs.lock_record.Reads as lock-record-reads
-use Rattle.tables.proofs.next_lock.Reads as next-lock-reads
 
 abbrev Inv-loop : tie.InvT-loop
 Inv-loop w c r n cur₀ left₀ cur left = AllInv (link (lockTable c) w) n (namesRecord c w r) (allOf (namesRecord c w r) (lockRows c w r)) cur left
@@ -28,47 +21,36 @@ Inv-loop w c r n cur₀ left₀ cur left = AllInv (link (lockTable c) w) n (name
 abbrev μ-loop : tie.MeasureT-loop
 μ-loop w c r n cur₀ left₀ cur left = left
 
--- src/lib.rt:59:9
 first-lock-requires : tie.Need-first-lock-requires Inv-loop μ-loop
 first-lock-requires c κs = search needs
 
--- src/lib.rt:61:5
 loop-holds : tie.Need-loop-holds Inv-loop μ-loop
 loop-holds c = record { walk = lock-rows-start (c .before .before .args .c) (now (c .before .before .args .w)) (c .before .before .args .r) (allOf (namesRecord (c .before .before .args .c) (now (c .before .before .args .w)) (c .before .before .args .r))) (c .first-lock .ensures) }
 
--- src/lib.rt:61:11
 more-requires : tie.Need-more-requires Inv-loop μ-loop
 more-requires c κs = tt
 
--- src/lib.rt:62:12
 lock-record-requires : tie.Need-lock-record-requires Inv-loop μ-loop
 lock-record-requires c κs = (c .before .before .before .before .before .pre .0, row-of _ _ _ (c .before .more .ensures) (c .if1 .taken))
 
--- src/lib.rt:62:46
 word-requires : tie.Need-word-requires Inv-loop μ-loop
 word-requires c κs = tt
 
--- src/lib.rt:63:13
 returns : tie.Need-returns Inv-loop μ-loop
 returns c = all-fail (c .before .before .before .before .before .loop .inv) (c .before .before .before .before .more .ensures) (c .before .before .before .if1 .taken) (ne-eqb _ _ (λ z. c .if2 .taken (c .before .before .lock-record .ensures ∙ z ∙ sym (c .before .word .ensures))))
 
--- src/lib.rt:65:9
 next-lock-requires : tie.Need-next-lock-requires Inv-loop μ-loop
 next-lock-requires c κs = (c .before .before .before .before .before .before .before .before .pre .0, row-of _ _ _ (c .before .before .before .before .more .ensures) (c .before .before .before .if1 .taken))
 
--- src/lib.rt:66:9
 sub-left : tie.Need-sub-left Inv-loop μ-loop
 sub-left c = fuel-of _ _ _ (c .before .before .before .before .before .more .ensures) (c .before .before .before .before .if1 .taken)
 
--- src/lib.rt:61:5
 loop-less : tie.Need-loop-less Inv-loop μ-loop
 loop-less c = omega (arith, fuel-of _ _ _ (c .before .before .before .before .before .more .ensures) (c .before .before .before .before .if1 .taken))
 
--- src/lib.rt:61:5
 loop-again : tie.Need-loop-again Inv-loop μ-loop
 loop-again c = all-again (c .before .before .before .before .before .before .loop .inv) (c .before .before .before .before .before .more .ensures) (c .before .before .before .before .if1 .taken) (eq-eqb _ _ (sym (c .before .before .before .lock-record .ensures) ∙ c .before .if2 .left ∙ c .before .before .word .ensures)) (c .next-lock .ensures)
 
--- src/lib.rt:54:1
 returns-2 : tie.Need-returns-2 Inv-loop μ-loop
 returns-2 c = all-end (c .before .before .loop .inv) (c .before .more .ensures) (c .if1 .left)
 

@@ -3,35 +3,23 @@ use native.Mathlib.Omega.{arith}
 use denote.Ref.{now}
 use Rattle.tables.specs.Decode.{recordAt, editsOf}
 use Rattle.soundness.proofs.Backing.{backed-old, backed-new}
-use borrow.Author.Needs.{needs}
 use Rattle.soundness.proofs.row_backed.Statement.{statement}
 use Rattle.soundness.proofs.row_backed.Tie as tie
-use Rattle.soundness.proofs.row_backed.Reads as reads
-use Rattle.soundness.proofs.row_backed.Lts as lts
-use Rattle.soundness.proofs.any_backs.Reads as any-backs-reads
-use Rattle.tables.proofs.floor_of.Reads as floor-of-reads
-use Rattle.tables.proofs.version_at.Reads as version-at-reads
 
--- src/lib.rt:463:9
 version-at-requires : tie.Need-version-at-requires
-version-at-requires c κs = search needs
+version-at-requires c κs = (c .before .pre .0, c .before .pre .2)
 
--- src/lib.rt:464:19
 floor-of-requires : tie.Need-floor-of-requires
-floor-of-requires c κs = search needs
+floor-of-requires c κs = (c .before .before .pre .0, c .before .before .pre .1)
 
--- src/lib.rt:465:9
 returns : tie.Need-returns
 returns c = backed-old (editsOf (c .before .before .before .before .before .args .c) (now (c .before .before .before .before .before .args .w))) (c .before .before .before .before .before .args .r) (recordAt (c .before .before .before .before .before .args .c) (now (c .before .before .before .before .before .args .w)) (c .before .before .before .before .before .args .r)) (c .before .before .before .version-at .ensures) (c .before .before .floor-of .ensures) (c .if1 .taken)
 
--- src/lib.rt:467:5
 any-backs-requires : tie.Need-any-backs-requires
-any-backs-requires c κs = search needs
+any-backs-requires c κs = (c .before .before .before .before .before .pre .0, c .before .before .before .before .before .pre .1, c .before .before .before .before .before .pre .3)
 
--- src/lib.rt:459:1
 returns-2 : tie.Need-returns-2
 returns-2 c = backed-new (editsOf (c .before .before .before .before .before .before .args .c) (now (c .before .before .before .before .before .before .args .w))) (c .before .before .before .before .before .before .args .r) (recordAt (c .before .before .before .before .before .before .args .c) (now (c .before .before .before .before .before .before .args .w)) (c .before .before .before .before .before .before .args .r)) (c .before .before .before .before .version-at .ensures) (c .before .before .before .floor-of .ensures) (omega arith) (c .any-backs .ensures)
 
 pub row-backed-spec : {M : Type 1} → statement M
-row-backed-spec =
-    tie.close (tie.spec version-at-requires floor-of-requires returns any-backs-requires returns-2)
+row-backed-spec = tie.close (tie.spec version-at-requires floor-of-requires returns any-backs-requires returns-2)

@@ -4,20 +4,13 @@ use Rattle.meaning.specs.Sound.{agree}
 use borrow.Author.Needs.{needs}
 use Rattle.soundness.proofs.rows_agree.Statement.{statement}
 use Rattle.soundness.proofs.rows_agree.Tie as tie
-use Rattle.soundness.proofs.rows_agree.Reads as reads
-use Rattle.soundness.proofs.rows_agree.Lts as lts
-use Rattle.meaning.proofs.agree.Reads as agree-reads
-use Rattle.tables.proofs.lock_at.Reads as lock-at-reads
 
--- src/lib.rt:249:23
 lock-at-requires : tie.Need-lock-at-requires
 lock-at-requires c κs = search needs
 
--- src/lib.rt:249:5
 agree-requires : tie.Need-agree-requires
 agree-requires c κs = search needs
 
--- src/lib.rt:245:1
 returns : tie.Need-returns
 returns c = c .agree .ensures ∙ ap (agree (c .before .before .before .args .l)) (c .before .lock-at .ensures)
 

@@ -10,50 +10,34 @@ use Rattle.soundness.proofs.Counting.{most-yes, most-no, less-yes, less
 use borrow.Author.Needs.{needs}
 use Rattle.soundness.proofs.slot_listed.Statement.{statement}
 use Rattle.soundness.proofs.slot_listed.Tie as tie
-use Rattle.soundness.proofs.slot_listed.Reads as reads
-use Rattle.soundness.proofs.slot_listed.Lts as lts
-use Rattle.soundness.proofs.free_idle.Reads as free-idle-reads
-use Rattle.soundness.proofs.point_listed.Reads as point-listed-reads
-use Rattle.tables.proofs.generation_of.Reads as generation-of-reads
-use Rattle.tables.proofs.point_of.Reads as point-of-reads
-use Rattle.tables.proofs.state_of.Reads as state-of-reads
 
--- src/lib.rt:552:9
 state-of-requires : tie.Need-state-of-requires
 state-of-requires c κs = search needs
 
--- src/lib.rt:554:9
 returns : tie.Need-returns
 unfolding slotListed stateListed
 returns c = and-no _ (most-no ABORTED (c .before .state-of .ensures) (c .if1 .taken))
 
--- src/lib.rt:556:23
 generation-of-requires : tie.Need-generation-of-requires
 generation-of-requires c κs = search needs
 
--- src/lib.rt:557:9
 returns-2 : tie.Need-returns-2
 unfolding slotListed stateListed generationListed
 returns-2 c = and-on (most-yes ABORTED (c .before .before .before .state-of .ensures) (omega arith)) (and-no _ (less-no GENERATIONS (c .before .generation-of .ensures) (c .if2 .taken)))
 
--- src/lib.rt:559:29
 point-of-requires : tie.Need-point-of-requires
 point-of-requires c κs = search needs
 
--- src/lib.rt:559:9
 point-listed-requires : tie.Need-point-listed-requires
 point-listed-requires c κs = search needs
 
--- src/lib.rt:560:9
 returns-3 : tie.Need-returns-3
 unfolding slotListed stateListed generationListed pointListed
 returns-3 c = and-on (most-yes ABORTED (c .before .before .before .before .before .before .state-of .ensures) (omega arith)) (and-on (less-yes GENERATIONS (c .before .before .before .before .generation-of .ensures) (omega arith)) (and-no _ (sym (rw (c .before .before .before .before .before .before .state-of .ensures, c .before .before .point-of .ensures) at (c .before .point-listed .ensures)) ∙ not-true _ (c .if3 .taken))))
 
--- src/lib.rt:562:5
 free-idle-requires : tie.Need-free-idle-requires
 free-idle-requires c κs = search needs
 
--- src/lib.rt:548:1
 returns-4 : tie.Need-returns-4
 unfolding slotListed stateListed generationListed pointListed
 returns-4 c = and-on (most-yes ABORTED (c .before .before .before .before .before .before .before .state-of .ensures) (omega arith)) (and-on (less-yes GENERATIONS (c .before .before .before .before .before .generation-of .ensures) (omega arith)) (and-on (sym (rw (c .before .before .before .before .before .before .before .state-of .ensures, c .before .before .before .point-of .ensures) at (c .before .before .point-listed .ensures)) ∙ not-false _ (c .before .if3 .left)) (c .free-idle .ensures)))

@@ -1,5 +1,4 @@
 -- `soundness::slot_marked` meets its contract: a test of every row of the chain.
-use mathlib.Core.Path.{sym, _∙_}
 use native.Mathlib.Omega.{arith}
 use denote.Ref.{now}
 use Rattle.soundness.proofs.Counting.{most-yes, most-no}
@@ -14,12 +13,6 @@ use Rattle.tables.proofs.Loops.{access-rows-start}
 use borrow.Author.Needs.{needs}
 use Rattle.soundness.proofs.slot_marked.Statement.{statement}
 use Rattle.soundness.proofs.slot_marked.Tie as tie
-use Rattle.soundness.proofs.slot_marked.Reads as reads
-use Rattle.soundness.proofs.slot_marked.Lts as lts
-use Rattle.chains.proofs.more.Reads as more-reads
-use Rattle.tables.proofs.access_mark.Reads as access-mark-reads
-use Rattle.tables.proofs.first_access.Reads as first-access-reads
-use Rattle.tables.proofs.next_access.Reads as next-access-reads
 
 abbrev Inv-loop : tie.InvT-loop
 Inv-loop w c k n cur₀ left₀ cur left = AllInv (link (accessTable c) w) n (marked c w) (allOf (marked c w) (accessRows c w k)) cur left
@@ -27,43 +20,33 @@ Inv-loop w c k n cur₀ left₀ cur left = AllInv (link (accessTable c) w) n (ma
 abbrev μ-loop : tie.MeasureT-loop
 μ-loop w c k n cur₀ left₀ cur left = left
 
--- src/lib.rt:93:9
 first-access-requires : tie.Need-first-access-requires Inv-loop μ-loop
 first-access-requires c κs = search needs
 
--- src/lib.rt:95:5
 loop-holds : tie.Need-loop-holds Inv-loop μ-loop
 loop-holds c = record { walk = access-rows-start (c .before .before .args .c) (now (c .before .before .args .w)) (c .before .before .args .k) (allOf (marked (c .before .before .args .c) (now (c .before .before .args .w)))) (c .first-access .ensures) }
 
--- src/lib.rt:95:11
 more-requires : tie.Need-more-requires Inv-loop μ-loop
 more-requires c κs = tt
 
--- src/lib.rt:96:16
 access-mark-requires : tie.Need-access-mark-requires Inv-loop μ-loop
 access-mark-requires c κs = (c .before .before .before .before .before .pre .0, row-of _ _ _ (c .before .more .ensures) (c .if1 .taken))
 
--- src/lib.rt:97:13
 returns : tie.Need-returns Inv-loop μ-loop
 returns c = all-fail (c .before .before .before .before .loop .inv) (c .before .before .before .more .ensures) (c .before .before .if1 .taken) (most-no 1 (c .before .access-mark .ensures) (c .if2 .taken))
 
--- src/lib.rt:99:9
 next-access-requires : tie.Need-next-access-requires Inv-loop μ-loop
 next-access-requires c κs = (c .before .before .before .before .before .before .before .pre .0, row-of _ _ _ (c .before .before .before .more .ensures) (c .before .before .if1 .taken))
 
--- src/lib.rt:100:9
 sub-left : tie.Need-sub-left Inv-loop μ-loop
 sub-left c = fuel-of _ _ _ (c .before .before .before .before .more .ensures) (c .before .before .before .if1 .taken)
 
--- src/lib.rt:95:5
 loop-less : tie.Need-loop-less Inv-loop μ-loop
 loop-less c = omega (arith, fuel-of _ _ _ (c .before .before .before .before .more .ensures) (c .before .before .before .if1 .taken))
 
--- src/lib.rt:95:5
 loop-again : tie.Need-loop-again Inv-loop μ-loop
 loop-again c = all-again (c .before .before .before .before .before .loop .inv) (c .before .before .before .before .more .ensures) (c .before .before .before .if1 .taken) (most-yes 1 (c .before .before .access-mark .ensures) (omega arith)) (c .next-access .ensures)
 
--- src/lib.rt:88:1
 returns-2 : tie.Need-returns-2 Inv-loop μ-loop
 returns-2 c = all-end (c .before .before .loop .inv) (c .before .more .ensures) (c .if1 .left)
 

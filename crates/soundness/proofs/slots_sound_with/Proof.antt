@@ -1,6 +1,6 @@
 -- `soundness::slots_sound_with` meets its contract: one slot after the other.
-use Prim.Native.Nat.{suc, _+_, _-_}
-use mathlib.Core.Path.{_≡_, _∙_}
+use Prim.Native.Nat.{suc, _-_}
+use mathlib.Core.Path.{_∙_}
 use native.Mathlib.Omega.{arith}
 use native.Mathlib.Numerals.{add-one}
 use denote.Ref.{now}
@@ -10,7 +10,6 @@ use Rattle.tables.specs.Decode.{slotAt, recordsOf}
 use Rattle.soundness.specs.Clauses.{Stamps}
 use Rattle.soundness.proofs.Counting.{UpTo, up-start, up-again, up-fail, up-end}
 use Rattle.soundness.proofs.Slots.{slots-all, stamps-before}
-use borrow.Author.Needs.{needs}
 use Rattle.soundness.proofs.slots_sound_with.Statement.{statement}
 use Rattle.soundness.proofs.slots_sound_with.Tie as tie
 

@@ -5,18 +5,13 @@ use borrow.Author.Tests.{le-leb, lt-leb, le-ltb, lt-ltb}
 use Rattle.soundness.proofs.Steps.{and-no, and-on}
 use Rattle.soundness.proofs.span_lies.Statement.{statement}
 use Rattle.soundness.proofs.span_lies.Tie as tie
-use Rattle.soundness.proofs.span_lies.Reads as reads
-use Rattle.soundness.proofs.span_lies.Lts as lts
 
--- src/lib.rt:130:9
 returns : tie.Need-returns
 returns c = and-no _ (le-ltb (c .before .before .args .floor) (c .before .before .args .l .low) (c .if1 .taken))
 
--- src/lib.rt:133:9
 returns-2 : tie.Need-returns-2
 returns-2 c = and-on (lt-ltb (c .before .before .before .before .args .floor) (c .before .before .before .before .args .l .low) (omega arith)) (and-no _ (lt-leb (c .before .before .before .before .args .l .low) (c .before .before .before .before .args .l .high) (c .if2 .taken)))
 
--- src/lib.rt:126:1
 returns-3 : tie.Need-returns-3
 returns-3 c = and-on (lt-ltb (c .before .before .before .before .before .args .floor) (c .before .before .before .before .before .args .l .low) (omega arith)) (and-on (le-leb (c .before .before .before .before .before .args .l .low) (c .before .before .before .before .before .args .l .high) (omega arith)) refl)
 

@@ -1,9 +1,8 @@
 -- `soundness::versions_fall` meets its contract: the invariant says what is left to test below the last point met.
 use Prim.Native.Nat.{suc}
-use mathlib.Core.Path.{sym, ap, _∙_}
+use mathlib.Core.Path.{_∙_}
 use mathlib.Core.List.{map}
 use native.Mathlib.Omega.{arith}
-use native.Mathlib.Numerals.{add-one}
 use denote.Ref.{now}
 use borrow.Author.Tests.{not-true, not-false}
 use Rattle.chains.specs.Table.{link}
@@ -18,14 +17,6 @@ use Rattle.soundness.proofs.Falling.{fall-on, fall-out, fall-done}
 use borrow.Author.Needs.{needs}
 use Rattle.soundness.proofs.versions_fall.Statement.{statement}
 use Rattle.soundness.proofs.versions_fall.Tie as tie
-use Rattle.soundness.proofs.versions_fall.Reads as reads
-use Rattle.soundness.proofs.versions_fall.Lts as lts
-use Rattle.chains.proofs.more.Reads as more-reads
-use Rattle.soundness.proofs.ends_at.Reads as ends-at-reads
-use Rattle.soundness.proofs.falls_below.Reads as falls-below-reads
-use Rattle.tables.proofs.first_version.Reads as first-version-reads
-use Rattle.tables.proofs.next_version.Reads as next-version-reads
-use Rattle.tables.proofs.version_at.Reads as version-at-reads
 
 abbrev Inv-loop : tie.InvT-loop
 Inv-loop w c r floor n top₀ cur₀ left₀ top cur left = Walk (link (versionTable c) w) n (λ rs. fallsTo floor top (map (versionAt c w) rs)) (fallsTo floor (suc LAST) (recordAt c w r .versions)) cur left
@@ -33,55 +24,42 @@ Inv-loop w c r floor n top₀ cur₀ left₀ top cur left = Walk (link (versionT
 abbrev μ-loop : tie.MeasureT-loop
 μ-loop w c r floor n top₀ cur₀ left₀ top cur left = left
 
--- src/lib.rt:217:19
 add-top : tie.Need-add-top Inv-loop μ-loop
 add-top c = search needs
 
--- src/lib.rt:218:9
 first-version-requires : tie.Need-first-version-requires Inv-loop μ-loop
 first-version-requires c κs = search needs
 
--- src/lib.rt:220:5
 loop-holds : tie.Need-loop-holds Inv-loop μ-loop
 loop-holds c = versions-start (c .before .before .args .c) (now (c .before .before .args .w)) (c .before .before .args .r) (fallsTo (c .before .before .args .floor) (suc LAST)) (c .first-version .ensures)
 
--- src/lib.rt:220:11
 more-requires : tie.Need-more-requires Inv-loop μ-loop
 more-requires c κs = tt
 
--- src/lib.rt:221:13
 version-at-requires : tie.Need-version-at-requires Inv-loop μ-loop
 version-at-requires c κs = (c .before .before .before .before .before .pre .0, row-of _ _ _ (c .before .more .ensures) (c .if1 .taken))
 
--- src/lib.rt:222:13
 falls-below-requires : tie.Need-falls-below-requires Inv-loop μ-loop
 falls-below-requires c κs = tt
 
--- src/lib.rt:223:13
 returns : tie.Need-returns Inv-loop μ-loop
 returns c = fall-out (c .before .before .before .before .before .before .before .before .args .floor) (c .before .before .before .before .before .loop .top) (versionAt (c .before .before .before .before .before .before .before .before .args .c) (now (c .before .before .before .before .before .before .before .before .args .w))) (c .before .before .before .before .before .loop .inv) (c .before .before .before .before .more .ensures) (c .before .before .before .if1 .taken) (c .before .before .version-at .ensures) (c .before .falls-below .ensures) (not-true _ (c .if2 .taken))
 
--- src/lib.rt:226:9
 next-version-requires : tie.Need-next-version-requires Inv-loop μ-loop
 next-version-requires c κs = (c .before .before .before .before .before .before .before .before .pre .0, row-of _ _ _ (c .before .before .before .before .more .ensures) (c .before .before .before .if1 .taken))
 
--- src/lib.rt:227:9
 sub-left : tie.Need-sub-left Inv-loop μ-loop
 sub-left c = fuel-of _ _ _ (c .before .before .before .before .before .more .ensures) (c .before .before .before .before .if1 .taken)
 
--- src/lib.rt:220:5
 loop-less : tie.Need-loop-less Inv-loop μ-loop
 loop-less c = omega (arith, fuel-of _ _ _ (c .before .before .before .before .before .more .ensures) (c .before .before .before .before .if1 .taken))
 
--- src/lib.rt:220:5
 loop-again : tie.Need-loop-again Inv-loop μ-loop
 loop-again c = fall-on (c .before .before .before .before .before .before .before .before .before .args .floor) (c .before .before .before .before .before .before .loop .top) (versionAt (c .before .before .before .before .before .before .before .before .before .args .c) (now (c .before .before .before .before .before .before .before .before .before .args .w))) (c .before .before .before .before .before .before .loop .inv) (c .before .before .before .before .before .more .ensures) (c .before .before .before .before .if1 .taken) (c .before .before .before .version-at .ensures) (c .before .before .falls-below .ensures) (not-false _ (c .before .if2 .left)) (c .next-version .ensures)
 
--- src/lib.rt:229:5
 ends-at-requires : tie.Need-ends-at-requires Inv-loop μ-loop
 ends-at-requires c κs = tt
 
--- src/lib.rt:212:1
 returns-2 : tie.Need-returns-2 Inv-loop μ-loop
 returns-2 c = c .ends-at .ensures ∙ fall-done (c .before .before .before .before .before .before .args .floor) (c .before .before .before .loop .top) (versionAt (c .before .before .before .before .before .before .args .c) (now (c .before .before .before .before .before .before .args .w))) (c .before .before .before .loop .inv) (c .before .before .more .ensures) (c .before .if1 .left)
 

@@ -1,0 +1,16 @@
+-- Laws of the calls. `endings` rests on Acting (how a contract is met) and Verdicts (how the tests of a call come out).
+pub mod Answers
+pub mod Verdicts
+pub mod Acting
+pub mod Handles
+pub mod Exits
+pub mod Viewing
+pub mod Beginning
+pub mod Rooms
+pub mod Writing
+pub mod Judged
+pub mod Granting
+pub mod LockExits
+pub mod Locking
+pub mod ReadExits
+pub mod Reading

@@ -1,0 +1,95 @@
+-- The ways that Lock ends, one law for each return of the code. Rests on Verdicts and Granting.
+use Prim.Native.Nat.{ℕ}
+use mathlib.Core.Path.{_≡_, sym, ap, _∙_}
+use mathlib.Core.Bool.{Bool, true, false, _&&_}
+use mathlib.Core.List.{List, []}
+use lib.Dec.{leb, ltb}
+use Rattle.meaning.specs.Limits.{LAST, WRITE}
+use Rattle.meaning.specs.Store.{Store, slotOf, recAt}
+use Rattle.meaning.specs.Points.{firstBlocked}
+use Rattle.meaning.specs.Replies.{locked, refusing}
+use Rattle.meaning.specs.Outcomes.{Outcome, replies, Verdict, pass, refuse, needs, unless, knows, isOpen, hasRecord, judge, lockRoom}
+use Rattle.meaning.specs.Locking.{lockFrom, lockEnd, lockGranted, withLock, lockVerdict, lockChecks, lockWanted, locking}
+use Rattle.meaning.specs.declared.Extent.{Extent}
+use Rattle.calls.specs.declared.Grant.the-variants.{Taken, Blocked}
+use Rattle.calls.specs.Grants.{lockGrant}
+use Rattle.calls.proofs.Verdicts.{needs-fails, needs-holds, else-fails, else-holds, no-edit, edit-ended, edit-open}
+use Rattle.calls.proofs.Granting.{grant-blocked, grant-taken}
+
+module _ (s : Store) (h r low high : ℕ) (w : Extent) where
+  abbrev lock-order : Bool
+  lock-order = leb low high && leb high LAST
+
+  abbrev lock-above : Verdict
+  lock-above = needs (ltb (recAt s r .floor) low) 7 pass
+
+  abbrev lock-rest : Verdict
+  lock-rest = needs (hasRecord s r) 5 (needs lock-order 6 lock-above)
+
+  abbrev lock-next : Outcome
+  lock-next = lockWanted s (slotOf h) r low high w
+
+  pub lock-no-edit : knows s h ≡ false → locking h r low high w s ≡ replies s (refusing 2 [])
+  unfolding locking lockChecks
+  lock-no-edit e = no-edit s lock-next h lock-rest e
+
+  pub lock-ended : knows s h ≡ true → isOpen s h ≡ false → locking h r low high w s ≡ replies s (refusing 3 [])
+  unfolding locking lockChecks
+  lock-ended e f = edit-ended s lock-next h lock-rest e f
+
+  pub lock-no-record : knows s h ≡ true → isOpen s h ≡ true → hasRecord s r ≡ false → locking h r low high w s ≡ replies s (refusing 5 [])
+  unfolding locking lockChecks
+  lock-no-record e f g = edit-open s lock-next h lock-rest e f ∙ needs-fails s lock-next (hasRecord s r) 5 (needs lock-order 6 lock-above) g
+
+  module _ (e : knows s h ≡ true) (f : isOpen s h ≡ true) (g : hasRecord s r ≡ true) where
+    lock-edit : locking h r low high w s ≡ unless s (needs lock-order 6 lock-above) lock-next
+    unfolding locking lockChecks
+    lock-edit = edit-open s lock-next h lock-rest e f ∙ needs-holds s lock-next (hasRecord s r) 5 (needs lock-order 6 lock-above) g
+
+    pub lock-bad-point : lock-order ≡ false → locking h r low high w s ≡ replies s (refusing 6 [])
+    lock-bad-point o = lock-edit ∙ needs-fails s lock-next lock-order 6 lock-above o
+
+    pub lock-below : lock-order ≡ true → ltb (recAt s r .floor) low ≡ false → locking h r low high w s ≡ replies s (refusing 7 [])
+    lock-below o b = lock-edit ∙ needs-holds s lock-next lock-order 6 lock-above o ∙ needs-fails s lock-next (ltb (recAt s r .floor) low) 7 pass b
+
+    pub lock-passes : lock-order ≡ true → ltb (recAt s r .floor) low ≡ true → locking h r low high w s ≡ lock-next
+    lock-passes o b = lock-edit ∙ needs-holds s lock-next lock-order 6 lock-above o ∙ needs-holds s lock-next (ltb (recAt s r .floor) low) 7 pass b
+
+-- the points wanted, by the open edit of slot k
+module _ (s : Store) (k r low high : ℕ) (w : Extent) where
+  abbrev lock-granted : Bool
+  lock-granted = lockGranted w k (recAt s r) low high
+
+  abbrev lock-from : ℕ
+  lock-from = lockFrom w k (recAt s r) low high
+
+  abbrev lock-end : ℕ
+  lock-end = lockEnd w k (recAt s r) low high
+
+  abbrev lock-first : ℕ
+  lock-first = firstBlocked WRITE k (recAt s r) low high
+
+  abbrev lock-made : Outcome
+  lock-made = replies (withLock s r WRITE k lock-from lock-end) (locked lock-from lock-end)
+
+  pub lock-blocked : (p n : ℕ) (more : List ℕ) → Blocked p ≡ lockGrant w k (recAt s r) low high → refuse n more ≡ judge s r WRITE k p
+      → lockWanted s k r low high w ≡ replies s (refusing n more)
+  unfolding lockGrant lockWanted lockVerdict
+  lock-blocked p n more e f =
+      let g = grant-blocked lock-granted lock-from lock-end lock-first p (sym e) in
+      else-fails s lock-made lock-granted n more (judge s r WRITE k lock-first) (needs (lockRoom s) 11 pass) (g .0) (f ∙ ap (judge s r WRITE k) (sym (g .1)))
+
+  module _ (from end : ℕ) (e : Taken from end ≡ lockGrant w k (recAt s r) low high) where
+    lock-taken : lockWanted s k r low high w ≡ unless s (needs (lockRoom s) 11 pass) (replies (withLock s r WRITE k from end) (locked from end))
+    unfolding lockGrant lockWanted lockVerdict
+    lock-taken =
+        let g = grant-taken lock-granted lock-from lock-end lock-first from end (sym e) in
+        else-holds s lock-made lock-granted (judge s r WRITE k lock-first) (needs (lockRoom s) 11 pass) (g .0)
+        ∙ ap (λ (x : ℕ). unless s (needs (lockRoom s) 11 pass) (replies (withLock s r WRITE k x lock-end) (locked x lock-end))) (g .1)
+        ∙ ap (λ (x : ℕ). unless s (needs (lockRoom s) 11 pass) (replies (withLock s r WRITE k from x) (locked from x))) (g .2)
+
+    pub lock-no-room : lockRoom s ≡ false → lockWanted s k r low high w ≡ replies s (refusing 11 [])
+    lock-no-room f = lock-taken ∙ needs-fails s (replies (withLock s r WRITE k from end) (locked from end)) (lockRoom s) 11 pass f
+
+    pub lock-done : lockRoom s ≡ true → lockWanted s k r low high w ≡ replies (withLock s r WRITE k from end) (locked from end)
+    lock-done f = lock-taken ∙ needs-holds s (replies (withLock s r WRITE k from end) (locked from end)) (lockRoom s) 11 pass f

@@ -1,0 +1,67 @@
+-- `calls::read_new` meets its contract: below the floor, blocked, or what `read_taken` makes. Rests on Reading.
+use native.Mathlib.Omega.{arith}
+use Rattle.calls.proofs.Reading.{new-below, version-below, new-blocked, new-taken}
+use borrow.Author.Needs.{needs}
+use Rattle.calls.proofs.read_new.Statement.{statement}
+use Rattle.calls.proofs.read_new.Tie as tie
+
+floor-of-requires : tie.Need-floor-of-requires
+floor-of-requires c κs = (c .before .before .pre .0 .well .fits, c .before .before .pre .2)
+
+same-length : tie.Need-same-length
+same-length c = search needs
+
+returns : tie.Need-returns
+returns c = new-below _ _ (c .before .before .before .before .pre .0) _ _ _ _ (c .before .before .before .before .pre .2) _ (c .before .floor-of .ensures) (c .if1 .taken)
+
+newest-below-requires : tie.Need-newest-below-requires
+newest-below-requires c κs = (c .before .before .before .before .before .pre .0 .well .fits, c .before .before .before .before .before .pre .2)
+
+add-read-grant : tie.Need-add-read-grant
+add-read-grant c = let l = version-below _ _ (c .before .before .before .before .before .before .before .before .pre .0) (c .before .before .before .before .before .before .before .before .args .k) _ _ (c .before .before .before .before .before .before .before .before .args .extent) (c .before .before .before .before .before .before .before .before .pre .2) _ (c .before .before .before .before .before .floor-of .ensures) (c .before .before .before .before .if1 .left) _ (c .before .before .newest-below .ensures) in omega (arith, c .before .before .before .before .before .before .before .before .pre .3)
+
+read-grant-requires : tie.Need-read-grant-requires
+read-grant-requires c κs = (c .before .before .before .before .before .before .before .before .pre .0 .well .fits, c .before .before .before .before .before .before .before .before .pre .2, omega arith, version-below _ _ (c .before .before .before .before .before .before .before .before .pre .0) (c .before .before .before .before .before .before .before .before .args .k) _ _ (c .before .before .before .before .before .before .before .before .args .extent) (c .before .before .before .before .before .before .before .before .pre .2) _ (c .before .before .before .before .before .floor-of .ensures) (c .before .before .before .before .if1 .left) _ (c .before .before .newest-below .ensures), c .before .before .before .before .before .before .before .before .pre .3)
+
+enum-known-p : tie.Need-enum-known-p
+enum-known-p c = search needs
+
+judge-requires : tie.Need-judge-requires
+judge-requires c κs = (c .before .before .before .before .before .before .before .before .before .before .before .before .before .pre .0, c .before .before .before .before .before .before .before .before .before .before .before .before .before .pre .2)
+
+enum-known-from : tie.Need-enum-known-from
+enum-known-from c = search needs
+
+read-taken-requires : tie.Need-read-taken-requires
+read-taken-requires c κs = (c .before .before .before .before .before .before .before .before .before .before .before .before .before .pre .0, c .before .before .before .before .before .before .before .before .before .before .before .before .before .pre .1, c .before .before .before .before .before .before .before .before .before .before .before .before .before .pre .2)
+
+same-length-2 : tie.Need-same-length-2
+same-length-2 c = search needs
+
+returns-2 : tie.Need-returns-2
+returns-2 c = new-blocked _ _ (c .before .before .before .before .before .before .before .before .before .before .before .before .before .before .pre .0) _ _ _ _ (c .before .before .before .before .before .before .before .before .before .before .before .before .before .before .pre .2) _ (c .before .before .before .before .before .before .before .before .before .before .before .floor-of .ensures) (c .before .before .before .before .before .before .before .before .before .before .if1 .left) _ (c .before .before .before .before .before .before .before .before .newest-below .ensures) _ (c .before .before .before .before .before .read-grant .ensures) _ _ _ (c .before .before .before .p .given .1) (c .judge .ensures)
+
+same-length-3 : tie.Need-same-length-3
+same-length-3 c = search needs
+
+returns-3 : tie.Need-returns-3
+returns-3 c = new-taken _ _ (c .before .before .before .before .before .before .before .before .before .before .before .before .before .before .before .before .pre .0) _ _ _ _ (c .before .before .before .before .before .before .before .before .before .before .before .before .before .before .before .before .pre .2) _ (c .before .before .before .before .before .before .before .before .before .before .before .before .before .floor-of .ensures) (c .before .before .before .before .before .before .before .before .before .before .before .before .if1 .left) _ (c .before .before .before .before .before .before .before .before .before .before .newest-below .ensures) _ (c .before .before .before .before .before .before .before .read-grant .ensures) _ _ _ _ (c .before .before .before .before .before .from .given .1) (c .before .before .read-taken .ensures)
+
+pub read-new-spec : {M : Type 1} → statement M
+read-new-spec =
+    tie.close
+    (tie.spec
+    floor-of-requires
+    same-length
+    returns
+    newest-below-requires
+    add-read-grant
+    read-grant-requires
+    enum-known-p
+    judge-requires
+    enum-known-from
+    read-taken-requires
+    same-length-2
+    returns-2
+    same-length-3
+    returns-3)

@@ -1,0 +1,392 @@
+// The calls of document 01 on sound words: each equal to its definition in the crate `meaning`, and each leaving sound words.
+//
+// They are for callers who prove the words sound (`requires soundWords`), once for many calls: no call here looks at more than the chains it
+// touches. The crate `store` has the same calls for everybody, with the check first.
+ghost use mathlib.Core.Path.{_≡_};
+ghost use mathlib.Core.Bool.{true};
+ghost use Prim.Native.Nat.{_≤_, _<_};
+ghost use lib.Dec.{ltb};
+ghost use Rattle.chains.specs.Walk.{IsRow};
+ghost use Rattle.meaning.specs.Edits.{beginning, writing};
+ghost use Rattle.meaning.specs.Limits.{LAST, SLOTS, GENERATIONS};
+ghost use Rattle.meaning.specs.Locking.{lockWanted, locking, readNew, readOpen, reading};
+ghost use Rattle.meaning.specs.Outcomes.{refuse, handleAt, judge};
+ghost use Rattle.meaning.specs.Records.{viewing};
+ghost use Rattle.meaning.specs.Replies.{number, details, ofBegin, ofWrite, ofLock, ofRead, ofView};
+ghost use Rattle.meaning.specs.Store.{slotOf, editAt};
+ghost use Rattle.tables.specs.Decode.{recordAt, decodeAt};
+ghost use Rattle.tables.specs.Layout.{headerOk, Fits};
+ghost use Rattle.tables.specs.Words.{lent, decode, soundWords};
+ghost use Rattle.calls.specs.Contract.{Acts, Ready, Makes};
+ghost use Rattle.calls.specs.Grants.{lockGrant, readGrant};
+ghost use Rattle.calls.specs.Parts.{writeOpen, readTaken};
+use meaning::Access;
+use meaning::BeginReply;
+use meaning::Counts;
+use meaning::Extent;
+use meaning::Handle;
+use meaning::LAST;
+use meaning::Lock;
+use meaning::LockReply;
+use meaning::Point;
+use meaning::READ;
+use meaning::ReadReply;
+use meaning::Refusal;
+use meaning::Version;
+use meaning::ViewReply;
+use meaning::WRITE;
+use meaning::WriteReply;
+
+// What Lock and Read get of the points that they want: a run of points, or the point at which they are judged.
+pub enum Grant {
+    Taken(u64, u64),
+    Blocked(u64),
+}
+
+// Reads that several calls share.
+
+pub fn has_record(c: Counts, r: u64) -> bool
+    ensures { λ q. ⌜ q ≡ ltb r (c .records) ⌝ }
+{
+    (r as usize) < c.records
+}
+
+// The slot that a handle names.
+pub fn slot(h: Handle) -> usize
+    ensures { λ k. ⌜ k ≡ slotOf (h .0) ⌝ }
+{
+    meaning::slot_of(h) as usize
+}
+
+// The handle of slot k's edit. Slot 0 and slots past the end read as never begun.
+pub fn handle_at(w: &[u64], c: Counts, k: usize) -> Handle
+    requires { ⌜ Fits c (now w) × (k ≤ SLOTS) × (editAt (decodeAt c (now w)) k .generation < GENERATIONS) ⌝ }
+    ensures { λ h. ⌜ h .0 ≡ handleAt (decodeAt c (now (w .entry))) k ⌝ }
+{
+    if k < 1 {
+        return meaning::make_handle(0, 0);
+    }
+    if c.edits < k {
+        return meaning::make_handle(0, k as u8);
+    }
+    let g = tables::generation_of(w, c, k);
+    meaning::make_handle(g as u16, k as u8)
+}
+
+// Why slot k cannot have point p of record r: it is frozen, or held by the lowest slot.
+pub fn judge(w: &[u64], c: Counts, r: usize, mode: u64, k: u64, p: u64) -> Refusal
+    requires { ⌜ Ready c (now w) × (r < c .records) ⌝ }
+    ensures { λ q. ⌜ refuse (number q) (details q) ≡ judge (decodeAt c (now (w .entry))) r mode k p ⌝ }
+{
+    if lookups::frozen(w, c, r, mode, p) {
+        return Refusal::Frozen;
+    }
+    let o = lookups::holder(w, c, mode, k, r, p);
+    Refusal::Held(handle_at(w, c, o as usize))
+}
+
+fn lock_grant(w: &[u64], c: Counts, extent: Extent, k: u64, r: usize, low: u64, high: u64) -> Grant
+    requires { ⌜ Fits c (now w) × (r < c .records) × (1 ≤ low) × (low ≤ high) × (high ≤ LAST) ⌝ }
+    ensures { λ q. ⌜ q ≡ lockGrant extent k (recordAt c (now (w .entry)) r) low high ⌝ }
+{
+    match extent {
+        Extent::All => {
+            let p = lookups::first_blocked(w, c, WRITE, k, r, low, high);
+            if high < p {
+                Grant::Taken(low, high)
+            } else {
+                Grant::Blocked(p)
+            }
+        }
+        Extent::Part => {
+            let from = lookups::first_free(w, c, false, WRITE, k, r, low, high);
+            if high < from {
+                Grant::Blocked(lookups::first_blocked(w, c, WRITE, k, r, low, high))
+            } else {
+                Grant::Taken(
+                    from,
+                    lookups::first_blocked(w, c, WRITE, k, r, from, high) - 1,
+                )
+            }
+        }
+    }
+}
+
+fn read_grant(w: &[u64], c: Counts, extent: Extent, k: u64, r: usize, low: u64, high: u64) -> Grant
+    requires { ⌜ Fits c (now w) × (r < c .records) × (1 ≤ low) × (low ≤ high) × (high ≤ LAST) ⌝ }
+    ensures { λ q. ⌜ q ≡ readGrant extent k (recordAt c (now (w .entry)) r) low high ⌝ }
+{
+    let p = lookups::first_blocked(w, c, READ, k, r, low, high);
+    match extent {
+        Extent::All => {
+            if high < p {
+                Grant::Taken(low, high)
+            } else {
+                Grant::Blocked(p)
+            }
+        }
+        Extent::Part => {
+            if low < p {
+                Grant::Taken(low, p - 1)
+            } else {
+                Grant::Blocked(p)
+            }
+        }
+    }
+}
+
+// The call Begin.
+pub fn begin(w: &mut [u64]) -> BeginReply
+    requires { ⌜ soundWords (lent (now w)) ≡ true ⌝ }
+    ensures { λ r. ⌜ Acts beginning (lent (now (w .entry))) (lent (now (w .exit))) (ofBegin r) ⌝ }
+{
+    let c = tables::counts_of(w);
+    let k = lookups::free_slot(w, c);
+    if c.edits < k {
+        return BeginReply::Refused(Refusal::NoSlot);
+    }
+    changes::open_slot(w, c, k);
+    BeginReply::Edit(handle_at(w, c, k))
+}
+
+// Write, once the edit is open and the record there: one access row for a record new to the edit.
+fn write_open(w: &mut [u64], c: Counts, k: usize, rec: u64, pending: u64) -> WriteReply
+    requires { ⌜ Ready c (now w) × IsRow (c .edits) k ⌝ }
+    ensures { λ r. ⌜ Makes c (writeOpen (decodeAt c (now (w .entry))) k rec pending) (now (w .entry)) (now (w .exit)) (ofWrite r) ⌝ }
+{
+    if !lookups::access_room(w, c, k, rec) {
+        return WriteReply::Refused(Refusal::NoAccessRow);
+    }
+    let a = lookups::access_of(w, c, k, rec);
+    let from = a.from;
+    changes::set_access(
+        w,
+        c,
+        k,
+        Access {
+            rec,
+            from,
+            written: true,
+            value: pending,
+        },
+    );
+    WriteReply::Done
+}
+
+// The call Write.
+pub fn write(w: &mut [u64], h: Handle, rec: u64, value: u64) -> WriteReply
+    requires { ⌜ soundWords (lent (now w)) ≡ true ⌝ }
+    ensures { λ r. ⌜ Acts (writing (h .0) rec value) (lent (now (w .entry))) (lent (now (w .exit))) (ofWrite r) ⌝ }
+{
+    let c = tables::counts_of(w);
+    if !lookups::known(w, c, h) {
+        return WriteReply::Refused(Refusal::NoEdit);
+    }
+    if !lookups::is_open(w, c, h) {
+        return WriteReply::Refused(Refusal::EditEnded);
+    }
+    if !has_record(c, rec) {
+        return WriteReply::Refused(Refusal::NoRecord);
+    }
+    write_open(w, c, slot(h), rec, value)
+}
+
+// Lock, once its first tests have passed: one lock row for the points granted.
+fn lock_wanted(
+    w: &mut [u64],
+    c: Counts,
+    k: usize,
+    r: usize,
+    low: u64,
+    high: u64,
+    extent: Extent,
+) -> LockReply
+    requires { ⌜ Ready c (now w) × IsRow (c .edits) k × (r < c .records) × (1 ≤ low) × (low ≤ high) × (high ≤ LAST) ⌝ }
+    ensures { λ q. ⌜ Makes c (lockWanted (decodeAt c (now (w .entry))) k r low high extent) (now (w .entry)) (now (w .exit)) (ofLock q) ⌝ }
+{
+    match lock_grant(w, c, extent, k as u64, r, low, high) {
+        Grant::Blocked(p) => LockReply::Refused(judge(w, c, r, WRITE, k as u64, p)),
+        Grant::Taken(from, end) => {
+            if !lookups::lock_room(w, c) {
+                return LockReply::Refused(Refusal::NoLockRow);
+            }
+            changes::add_lock(
+                w,
+                c,
+                r,
+                Lock {
+                    low: from,
+                    high: end,
+                    mode: WRITE,
+                    owner: k as u64,
+                },
+            );
+            LockReply::Locked(meaning::point_of_word(from), meaning::point_of_word(end))
+        }
+    }
+}
+
+// The call Lock.
+pub fn lock(
+    w: &mut [u64],
+    h: Handle,
+    rec: u64,
+    low: Point,
+    high: Point,
+    extent: Extent,
+) -> LockReply
+    requires { ⌜ soundWords (lent (now w)) ≡ true ⌝ }
+    ensures { λ r. ⌜ Acts (locking (h .0) rec (low .0) (high .0) extent) (lent (now (w .entry))) (lent (now (w .exit))) (ofLock r) ⌝ }
+{
+    let c = tables::counts_of(w);
+    if !lookups::known(w, c, h) {
+        return LockReply::Refused(Refusal::NoEdit);
+    }
+    if !lookups::is_open(w, c, h) {
+        return LockReply::Refused(Refusal::EditEnded);
+    }
+    if !has_record(c, rec) {
+        return LockReply::Refused(Refusal::NoRecord);
+    }
+    let from = meaning::word_of_point(low);
+    let to = meaning::word_of_point(high);
+    if to < from {
+        return LockReply::Refused(Refusal::BadPoint);
+    }
+    if LAST < to {
+        return LockReply::Refused(Refusal::BadPoint);
+    }
+    if from <= tables::floor_of(w, c, rec as usize) {
+        return LockReply::Refused(Refusal::BelowFloor);
+    }
+    lock_wanted(w, c, slot(h), rec as usize, from, to, extent)
+}
+
+// Read, once the points are granted: one access row for a record new to the edit, one lock row for the points.
+fn read_taken(
+    w: &mut [u64],
+    c: Counts,
+    k: usize,
+    r: usize,
+    from: u64,
+    end: u64,
+    v: Version,
+) -> ReadReply
+    requires { ⌜ Ready c (now w) × IsRow (c .edits) k × (r < c .records) ⌝ }
+    ensures { λ q. ⌜ Makes c (readTaken (decodeAt c (now (w .entry))) k r from end v) (now (w .entry)) (now (w .exit)) (ofRead q) ⌝ }
+{
+    if !lookups::access_room(w, c, k, r as u64) {
+        return ReadReply::Refused(Refusal::NoAccessRow);
+    }
+    if !lookups::lock_room(w, c) {
+        return ReadReply::Refused(Refusal::NoLockRow);
+    }
+    changes::add_lock(
+        w,
+        c,
+        r,
+        Lock {
+            low: from,
+            high: end,
+            mode: READ,
+            owner: k as u64,
+        },
+    );
+    changes::set_access(
+        w,
+        c,
+        k,
+        Access {
+            rec: r as u64,
+            from,
+            written: false,
+            value: 0,
+        },
+    );
+    let value = v.value;
+    ReadReply::Read(
+        meaning::point_of_word(v.point),
+        meaning::point_of_word(end),
+        value,
+    )
+}
+
+// Read, of a record that the edit has neither written nor read.
+fn read_new(w: &mut [u64], c: Counts, k: usize, r: usize, m: u64, extent: Extent) -> ReadReply
+    requires { ⌜ Ready c (now w) × IsRow (c .edits) k × (r < c .records) × (m ≤ LAST) ⌝ }
+    ensures { λ q. ⌜ Makes c (readNew (decodeAt c (now (w .entry))) k r m extent) (now (w .entry)) (now (w .exit)) (ofRead q) ⌝ }
+{
+    if m <= tables::floor_of(w, c, r) {
+        return ReadReply::Refused(Refusal::BelowFloor);
+    }
+    let v = lookups::newest_below(w, c, r, m);
+    match read_grant(w, c, extent, k as u64, r, v.point + 1, m) {
+        Grant::Blocked(p) => ReadReply::Refused(judge(w, c, r, READ, k as u64, p)),
+        Grant::Taken(from, end) => read_taken(w, c, k, r, from, end, v),
+    }
+}
+
+// Read, once its first tests have passed: an own pending value, the version read before, or a new read.
+fn read_open(w: &mut [u64], c: Counts, k: usize, r: usize, m: u64, extent: Extent) -> ReadReply
+    requires { ⌜ Ready c (now w) × IsRow (c .edits) k × (r < c .records) × (m ≤ LAST) ⌝ }
+    ensures { λ q. ⌜ Makes c (readOpen (decodeAt c (now (w .entry))) k r m extent) (now (w .entry)) (now (w .exit)) (ofRead q) ⌝ }
+{
+    let a = lookups::access_of(w, c, k, r as u64);
+    if a.written {
+        return ReadReply::Own(a.value);
+    }
+    if 0 < a.from {
+        let v = lookups::version_on(w, c, r, a.from - 1);
+        let value = v.value;
+        return ReadReply::Again(meaning::point_of_word(a.from - 1), value);
+    }
+    read_new(w, c, k, r, m, extent)
+}
+
+// The call Read.
+pub fn read(w: &mut [u64], h: Handle, rec: u64, m: Point, extent: Extent) -> ReadReply
+    requires { ⌜ soundWords (lent (now w)) ≡ true ⌝ }
+    ensures { λ r. ⌜ Acts (reading (h .0) rec (m .0) extent) (lent (now (w .entry))) (lent (now (w .exit))) (ofRead r) ⌝ }
+{
+    let c = tables::counts_of(w);
+    if !lookups::known(w, c, h) {
+        return ReadReply::Refused(Refusal::NoEdit);
+    }
+    if !lookups::is_open(w, c, h) {
+        return ReadReply::Refused(Refusal::EditEnded);
+    }
+    if !has_record(c, rec) {
+        return ReadReply::Refused(Refusal::NoRecord);
+    }
+    let n = meaning::word_of_point(m);
+    if n < 1 {
+        return ReadReply::Refused(Refusal::BadPoint);
+    }
+    if LAST < n {
+        return ReadReply::Refused(Refusal::BadPoint);
+    }
+    read_open(w, c, slot(h), rec as usize, n, extent)
+}
+
+// The call View. It looks at one record's floor and versions, so words with a good header are enough.
+pub fn view(w: &[u64], rec: u64, p: Point) -> ViewReply
+    requires { ⌜ headerOk (now w) ≡ true ⌝ }
+    ensures { λ r. ⌜ ofView r ≡ viewing rec (p .0) (decode (lent (now (w .entry)))) .reply ⌝ }
+{
+    let c = tables::counts_of(w);
+    if !has_record(c, rec) {
+        return ViewReply::Refused(Refusal::NoRecord);
+    }
+    let q = meaning::word_of_point(p);
+    if LAST < q {
+        return ViewReply::Refused(Refusal::BadPoint);
+    }
+    let r = rec as usize;
+    let floor = tables::floor_of(w, c, r);
+    if q < floor {
+        return ViewReply::Refused(Refusal::BelowFloor);
+    }
+    let v = lookups::newest_at(w, c, r, q);
+    let value = v.value;
+    ViewReply::At(meaning::point_of_word(v.point), value)
+}

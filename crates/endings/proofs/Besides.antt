@@ -1,0 +1,120 @@
+-- Changes of one record's locks or versions, one after the other, beside a walk along accesses. Rests on Folds.
+use Prim.Native.Nat.{ℕ, suc, _+_, _≤_, _<_}
+use native.Mathlib.Omega.{arith}
+use mathlib.Core.Path.{_≡_, refl, sym, ap, _∙_}
+use mathlib.Core.Bool.{Bool, true, false, cond}
+use mathlib.Core.List.{List, [], _∷_, List·Memᴰ·head, List·Memᴰ·eq-of-singleton}
+use lib.ListN.{length, set}
+use lib.Seq.{set-set}
+use Rattle.meaning.specs.Lists.{_∈_}
+use Rattle.meaning.specs.Limits.{READ, WRITE}
+use Rattle.meaning.specs.declared.Access.{Access}
+use Rattle.meaning.specs.declared.Lock.{Lock}
+use Rattle.meaning.specs.declared.Counts.{Counts}
+use Rattle.meaning.specs.Store.{Rec, Store, recAt, withRec, withRecords, withLocks, hasRead, locksUsed}
+use Rattle.meaning.specs.Points.{leaveSettled}
+use Rattle.meaning.proofs.Stores.{rec-same}
+use Rattle.meaning.proofs.StoresMore.{locks-set}
+use Rattle.tables.specs.Layout.{MODES}
+use Rattle.tables.specs.Decode.{accessAt, decodeAt}
+use Rattle.tables.specs.Words.{Well}
+use Rattle.tables.proofs.Decoded.{decoded-records, records-length}
+use Rattle.changes.specs.Becomes.{Becomes, AccessesKept, Beside, onLocks}
+use Rattle.endings.specs.Steps.{changed, leftRec, mark, LeaveNeed}
+use Rattle.endings.proofs.Folds.{rec-again}
+use Rattle.endings.proofs.Leaving.{leave-length}
+
+module _ {c : Counts} where
+  pub beside-none : {w : List ℕ} → Well c w → Beside c w w (decodeAt c w)
+  beside-none W =
+      record { becomes = record { well = W; means = refl }; accesses = record { entry = λ i q. refl; next = λ i q. refl } }
+
+  pub kept-trans : {u v w : List ℕ} → AccessesKept c u v → AccessesKept c v w → AccessesKept c u w
+  kept-trans a b =
+      record { entry = λ i q. b .entry i q ∙ a .entry i q; next = λ i q. b .next i q ∙ a .next i q }
+
+module _ (c : Counts) (w : List ℕ) where
+  pub lock-rows : decodeAt c w .lockRows ≡ c .locks
+  unfolding decodeAt
+  lock-rows = refl
+
+  pub version-rows : decodeAt c w .versionRows ≡ c .versions
+  unfolding decodeAt
+  version-rows = refl
+
+  pub records-count : length (decodeAt c w .records) ≡ c .records
+  records-count = rw decoded-records (records-length c w)
+
+-- one record changed twice
+pub rec-twice : (s : Store) (r : ℕ) (x y : Rec) → withRec (withRec s r x) r y ≡ withRec s r y
+unfolding withRecords
+rec-twice s r x y = rw (set-set (s .records) r x y) refl
+
+pub rec-changed : (s : Store) (r : ℕ) (x : Rec) → r < length (s .records) → recAt (withRec s r x) r ≡ x
+unfolding withRecords
+rec-changed s r x h = rec-same (s .records) r x h
+
+pub room-one : {b : Bool} {n m : ℕ} → b ≡ true → n + mark b ≤ m → n < m
+room-one {b} {n} {m} e h = let k : n + 1 ≤ m = rw e at h in omega arith
+
+-- settled locks of one record
+module _ (c : Counts) (w : List ℕ) (r mode low high : ℕ) where
+  pub left-none : Well c w → Beside c w w (onLocks (decodeAt c w) r (leaveSettled false mode low high))
+  unfolding leaveSettled
+  left-none W = rw (rec-again (decodeAt c w) r) (beside-none W)
+
+-- the read lock of an access, then its write lock
+module _ (c : Counts) (w w₁ : List ℕ) (a : Access) (r t : ℕ) (e : r ≡ a .rec) (here : r < c .records)
+    (B : Beside c w w₁ (onLocks (decodeAt c w) r (leaveSettled (hasRead a) READ (a .from) t))) where
+  abbrev s : Store
+  s = decodeAt c w
+
+  abbrev x : Rec
+  x = withLocks (recAt s r) (leaveSettled (hasRead a) READ (a .from) t (recAt s r .locks))
+
+  inside : r < length (s .records)
+  inside = omega (arith, records-count c w)
+
+  pub left-room : locksUsed s + (mark (hasRead a) + mark (a .written)) ≤ c .locks → locksUsed (decodeAt c w₁) + mark (a .written) ≤ c .locks
+  left-room h =
+      omega (arith, ap locksUsed (B .becomes .means), locks-set s r x inside, leave-length (hasRead a) READ (a .from) t (recAt s r .locks))
+
+  then-write : onLocks (withRec s r x) r (leaveSettled (a .written) WRITE t t) ≡ changed (leftRec t) a s
+  unfolding changed leftRec
+  then-write =
+      rw (rec-changed s r x inside, rec-twice s r x (withLocks x (leaveSettled (a .written) WRITE t t (x .locks))), ← e) refl
+
+  pub left-both : (w₂ : List ℕ) → Beside c w₁ w₂ (onLocks (decodeAt c w₁) r (leaveSettled (a .written) WRITE t t))
+      → Beside c w w₂ (changed (leftRec t) a s)
+  left-both w₂ D =
+      record {
+        becomes =
+            record {
+              well = D .becomes .well;
+              means = D .becomes .means ∙ ap (λ (y : Store). onLocks y r (leaveSettled (a .written) WRITE t t)) (B .becomes .means) ∙ then-write;
+            };
+        accesses = kept-trans (B .accesses) (D .accesses);
+      }
+
+-- what access row i leaves: a is its access, r its record
+module _ (c : Counts) (w : List ℕ) (i : ℕ) (a : Access) (r t : ℕ) (W : Well c w) (n : LeaveNeed (accessAt c w i ∷ []) (decodeAt c w))
+    (ea : a ≡ accessAt c w i) (er : r ≡ a .rec) where
+  need : LeaveNeed (a ∷ []) (decodeAt c w)
+  need = rw ea n
+
+  row-here : r < c .records
+  row-here = omega (arith, need .existing a (List·Memᴰ·head refl), records-count c w, er)
+
+  row-room : locksUsed (decodeAt c w) + (mark (hasRead a) + mark (a .written)) ≤ c .locks
+  row-room = omega (arith, need .room, lock-rows c w)
+
+  pub read-needs : Well c w × (r < c .records) × (READ < MODES) × (locksUsed (decodeAt c w) + mark (hasRead a) ≤ c .locks)
+  read-needs = (W, row-here, omega arith, omega (arith, row-room))
+
+  module _ (w₁ : List ℕ) (B : Beside c w w₁ (onLocks (decodeAt c w) r (leaveSettled (hasRead a) READ (a .from) t))) where
+    pub write-needs : Well c w₁ × (r < c .records) × (WRITE < MODES) × (locksUsed (decodeAt c w₁) + mark (a .written) ≤ c .locks)
+    write-needs = (B .becomes .well, row-here, omega arith, left-room c w w₁ a r t er row-here B row-room)
+
+    pub row-left : (w₂ : List ℕ) → Beside c w₁ w₂ (onLocks (decodeAt c w₁) r (leaveSettled (a .written) WRITE t t))
+        → Beside c w w₂ (changed (leftRec t) (accessAt c w i) (decodeAt c w))
+    row-left w₂ D = rw (← ea) (left-both c w w₁ a r t er row-here B w₂ D)

@@ -1,0 +1,164 @@
+-- Purge meets its contract: versions are cut, locks trimmed and the floor set, and the rows are counted before and after. Rests on PurgeExits,
+-- Besides and Acting of `calls`.
+use Prim.Native.Nat.{ℕ, zero, _-_, _≤_, _<_}
+use native.Mathlib.Omega.{arith}
+use mathlib.Core.Path.{_≡_, refl, sym, ap, _∙_}
+use mathlib.Core.Logic.{_⊎_, inl, inr}
+use mathlib.Core.Bool.{Bool, true, false, not}
+use mathlib.Core.List.{List, [], map}
+use lib.Dec.{leb, ltb}
+use lib.ListN.{length, length-map}
+use borrow.Author.Tests.{leb-true, ltb-true}
+use Rattle.meaning.specs.Lists.{_∈_, any, keep, find}
+use Rattle.meaning.specs.Limits.{LAST}
+use Rattle.meaning.specs.declared.Counts.{Counts}
+use Rattle.meaning.specs.declared.Version.{Version}
+use Rattle.meaning.specs.declared.Lock.{Lock}
+use Rattle.meaning.specs.Store.{Rec, Store, first, recAt, withRec, withLocks, newestAt}
+use Rattle.meaning.specs.Points.{emptied, trimmed, trimTo}
+use Rattle.meaning.specs.Replies.{Reply, purged, refusing}
+use Rattle.meaning.specs.Outcomes.{Outcome, replies, hasRecord}
+use Rattle.meaning.specs.Records.{purgedRec, purgeTo, purging}
+use Rattle.meaning.proofs.Lists.{length-keep, find-out}
+use Rattle.meaning.proofs.EndingSound.{purge-keeps}
+use Rattle.tables.specs.Layout.{countsOf}
+use Rattle.tables.specs.Decode.{recordAt, decodeAt}
+use Rattle.tables.specs.Words.{lent, soundWords, Well}
+use Rattle.tables.proofs.Decoded.{rec-at}
+use Rattle.changes.specs.Becomes.{Becomes, withVersions, withFloor, onVersions, onLocks}
+use Rattle.calls.specs.Contract.{Acts, Makes}
+use Rattle.calls.proofs.Acting.{ready, makes-refused, makes-done, makes-as, acts}
+use Rattle.endings.specs.Parts.{lockedBelow, purgedTo, purgeAll}
+use Rattle.endings.proofs.Besides.{records-count, rec-twice, rec-changed}
+use Rattle.endings.proofs.PurgeExits
+use Rattle.endings.proofs.EndActs.{acts-refused}
+
+-- one record changed, and changed again
+again : (s : Store) (r : ℕ) (x : Rec) (g : Rec → Rec) → r < length (s .records) → withRec (withRec s r x) r (g (recAt (withRec s r x) r)) ≡ withRec s r (g x)
+again s r x g h = rw (rec-changed s r x h) (rec-twice s r x (g x))
+
+trim-few : (v : ℕ) (ls : List Lock) → length (trimTo v ls) ≤ length ls
+unfolding trimTo
+trim-few v ls =
+    omega (arith, length-map (keep (λ l. not (emptied v l)) ls) (trimmed v), length-keep (λ l. not (emptied v l)) ls)
+
+module _ (c : Counts) (w : List ℕ) (r v : ℕ) (W : Well c w) (here : r < c .records) where
+  abbrev s : Store
+  s = decodeAt c w
+
+  abbrev x : Rec
+  x = recAt s r
+
+  inside : r < length (s .records)
+  inside = omega (arith, records-count c w)
+
+  -- the record is cut, trimmed and gets its floor
+  module _ (w₁ w₂ w₃ : List ℕ) (A : Becomes c w₁ (onVersions s r (keep (λ y. leb v (y .point))))) (B : Becomes c w₂ (onLocks (decodeAt c w₁) r (trimTo v)))
+      (D : Becomes c w₃ (withRec (decodeAt c w₂) r (withFloor (recAt (decodeAt c w₂) r) v))) where
+    abbrev x₁ : Rec
+    x₁ = withVersions x (keep (λ y. leb v (y .point)) (x .versions))
+
+    abbrev x₂ : Rec
+    x₂ = withLocks x₁ (trimTo v (x₁ .locks))
+
+    trimmed-means : decodeAt c w₂ ≡ withRec s r x₂
+    trimmed-means =
+        B .means ∙ ap (λ (y : Store). onLocks y r (trimTo v)) (A .means) ∙ again s r x₁ (λ y. withLocks y (trimTo v (y .locks))) inside
+
+    purged-means : decodeAt c w₃ ≡ purgedTo s r v
+    unfolding purgedTo purgedRec
+    purged-means =
+        D .means ∙ ap (λ (y : Store). withRec y r (withFloor (recAt y r) v)) trimmed-means ∙ again s r x₂ (λ y. withFloor y v) inside
+
+    record-after : recordAt c w₃ r ≡ purgedRec x v
+    unfolding purgedTo
+    record-after = sym (rec-at c w₃ r here) ∙ ap (λ (y : Store). recAt y r) purged-means ∙ rec-changed s r (purgedRec x v) inside
+
+    -- the rows counted
+    module _ (n m : ℕ) (en : n ≡ length (recordAt c w r .versions)) (em : m ≡ length (recordAt c w₃ r .versions)) where
+      versions-before : n ≡ length (x .versions)
+      versions-before = en ∙ ap (λ (y : Rec). length (y .versions)) (sym (rec-at c w r here))
+
+      versions-after : m ≡ length (purgedRec x v .versions)
+      versions-after = em ∙ ap (λ (y : Rec). length (y .versions)) record-after
+
+      pub versions-fewer : m ≤ n
+      unfolding purgedRec
+      versions-fewer = omega (arith, versions-before, versions-after, length-keep (λ y. leb v (y .point)) (x .versions))
+
+      module _ (i j : ℕ) (ei : i ≡ length (recordAt c w r .locks)) (ej : j ≡ length (recordAt c w₃ r .locks)) where
+        locks-before : i ≡ length (x .locks)
+        locks-before = ei ∙ ap (λ (y : Rec). length (y .locks)) (sym (rec-at c w r here))
+
+        locks-after : j ≡ length (purgedRec x v .locks)
+        locks-after = ej ∙ ap (λ (y : Rec). length (y .locks)) record-after
+
+        pub locks-fewer : j ≤ i
+        unfolding purgedRec
+        locks-fewer = omega (arith, locks-before, locks-after, trim-few v (x .locks))
+
+        pub record-purged : (a b : ℕ) → a ≡ n - m → b ≡ i - j → Makes c (purgeAll s r v) w w₃ (purged a b)
+        unfolding purgeAll
+        record-purged a b ea eb =
+            makes-done c w (purgeAll s r v) w₃ (purgedTo s r v) (purged a b) (D .well) purged-means
+            (rw (ea, eb, versions-before, versions-after, locks-before, locks-after) refl) refl
+
+  -- before that
+  module _ (f : ℕ) (ef : f ≡ recordAt c w r .floor) where
+    floor-is : f ≡ x .floor
+    floor-is = ef ∙ ap (λ (y : Rec). y .floor) (sym (rec-at c w r here))
+
+    pub at-floor : v ≤ f → Makes c (purgeTo s r v) w w (purged 0 0)
+    at-floor l = makes-done c w (purgeTo s r v) w s (purged 0 0) W refl (PurgeExits.purge-at-floor s r v (rw floor-is at l)) refl
+
+    module _ (l : f < v) (q : Bool) (eq : q ≡ lockedBelow v (recordAt c w r .locks)) where
+      locked-is : (b : Bool) → q ≡ b → lockedBelow v (x .locks) ≡ b
+      locked-is b z = rw (rec-at c w r here) (sym eq ∙ z)
+
+      pub locked : q ≡ true → Makes c (purgeTo s r v) w w (refusing 15 [])
+      locked z = makes-refused c w (purgeTo s r v) 15 [] W (PurgeExits.purge-locked s r v (rw floor-is at l) (locked-is true z))
+
+      pub unlocked : q ≡ false → (w′ : List ℕ) (t : Reply) → Makes c (purgeAll s r v) w w′ t → Makes c (purgeTo s r v) w w′ t
+      unlocked z w′ t M = makes-as c w (PurgeExits.purge-done s r v (rw floor-is at l) (locked-is false z)) M
+
+-- the newest version at or below p is not above p
+newest-below : (vs : List Version) (p : ℕ) → newestAt vs p .point ≤ p
+unfolding newestAt
+newest-below vs p = go (find-out (λ v. leb (v .point) p) first vs)
+  where
+    go : ((find (λ v. leb (v .point) p) first vs ≡ first) × (any (λ v. leb (v .point) p) vs ≡ false))
+        ⊎ ((find (λ v. leb (v .point) p) first vs ∈ vs) × (leb (find (λ v. leb (v .point) p) first vs .point) p ≡ true))
+        → find (λ v. leb (v .point) p) first vs .point ≤ p
+    go (inl z) = omega (arith, ap (λ (v : Version). v .point) (z .0))
+    go (inr z) = leb-true (find (λ v. leb (v .point) p) first vs .point) p (z .1)
+
+-- the call
+module _ (w : List ℕ) (c : Counts) (P : soundWords (lent w) ≡ true) (E : c ≡ countsOf w) (rec : ℕ) (q : Bool) (eq : q ≡ ltb rec (c .records)) where
+  has-is : (b : Bool) → q ≡ b → hasRecord (decodeAt c w) rec ≡ b
+  unfolding hasRecord
+  has-is b z = rw (records-count c w) (sym eq ∙ z)
+
+  pub purge-refused : (b : ℕ) → q ≡ false → Acts (purging rec b) (lent w) (lent w) (refusing 5 [])
+  purge-refused b z = acts-refused (purging rec b) (purge-keeps rec b) w c P E 5 (PurgeExits.purge-no-record (decodeAt c w) rec b (has-is false z))
+
+  module _ (z : q ≡ true) (b p : ℕ) (ep : p ≡ b) where
+    pub purge-bad-point : LAST < p → Acts (purging rec b) (lent w) (lent w) (refusing 6 [])
+    purge-bad-point l =
+        acts-refused (purging rec b) (purge-keeps rec b) w c P E 6 (PurgeExits.purge-bad-point (decodeAt c w) rec b (has-is true z) (rw ep at l))
+
+    module _ (l : p ≤ LAST) (r : ℕ) (er : r ≡ rec) where
+      pub purge-row : r < c .records
+      purge-row = rw er (ltb-true rec (c .records) (sym eq ∙ z))
+
+      module _ (v : Version) (ev : v ≡ newestAt (recordAt c w r .versions) p) where
+        pub purge-needs : Well c w × (r < c .records) × (v .point ≤ LAST)
+        purge-needs = (ready w P c E .well, purge-row, omega (arith, ap (λ (y : Version). y .point) ev, newest-below (recordAt c w r .versions) p))
+
+        newest-is : v .point ≡ newestAt (recAt (decodeAt c w) rec .versions) b .point
+        newest-is =
+            ap (λ (y : Version). y .point) ev ∙ rw (er, ep) (ap (λ (y : Rec). newestAt (y .versions) b .point) (sym (rec-at c w rec (rw er at purge-row))))
+
+        pub purge-acts : (w′ : List ℕ) (t : Reply) → Makes c (purgeTo (decodeAt c w) r (v .point)) w w′ t → Acts (purging rec b) (lent w) (lent w′) t
+        purge-acts w′ t M =
+            acts (purging rec b) (purge-keeps rec b) c w w′ t P E
+            (makes-as c w (PurgeExits.purge-passes (decodeAt c w) rec b (has-is true z) (rw ep at l)) (rw (er, newest-is) at M))

@@ -1,0 +1,8 @@
+pub mod Digits
+pub mod Scans
+pub mod Numbers
+pub mod Found
+pub mod Writes
+pub mod Decimal
+pub mod Examples
+pub mod Laws
