@@ -13,7 +13,7 @@ use Rattle.chains.specs.Table.{field, rowsOf}
 use Rattle.chains.specs.Change.{Ready, Elsewhere, Changed, Moved, Taken}
 use Rattle.chains.proofs.Occurs.{occ-here}
 use Rattle.chains.proofs.Words.{on-chain}
-use Rattle.chains.proofs.Frames.{only-elsewhere, field-kept}
+use Rattle.chains.proofs.Frames.{only-elsewhere, field-kept, apart-kept}
 use Rattle.chains.proofs.Entries.{Filled, filled-start, pushed-entries, other-entries, entries-kept, entries-drop}
 use Rattle.meaning.specs.Store.{withRec, withLocks, recAt, locksUsed}
 use Rattle.meaning.specs.Points.{addLock}
@@ -25,8 +25,9 @@ use Rattle.tables.specs.Rows.{lockStored}
 use Rattle.tables.specs.Words.{Well, namesRecord}
 use Rattle.tables.proofs.Places.{locks-laid}
 use Rattle.tables.proofs.Decoded.{rec-at}
-use Rattle.changes.specs.Becomes.{Becomes}
-use Rattle.changes.proofs.Parts.{all-same}
+use Rattle.changes.specs.Becomes.{AccessesKept, Becomes}
+use Rattle.changes.proofs.Apart.{locks-accesses}
+use Rattle.changes.proofs.Parts.{accesses-kept, all-same}
 use Rattle.changes.proofs.OneTable.{locks-become, locks-fit}
 use Rattle.tables.proofs.Rooms.{free-lock}
 use Rattle.changes.proofs.Stored.{lock-stored-at, lock-stored-record, lock-filled, lock-rest}
@@ -99,6 +100,9 @@ module _ {c : Counts} {w : List ℕ} (W : Well c w) {r : ℕ} (l : r < c .record
       unfolding addLock
       add-lock-law m e =
           rw e (locks-become W (pushed .only) r l (pushed .parted) pushed-named pushed-others (pushed-here m ∙ ap (λ y. x ∷ y) (sym (locks-at c w r l))))
+
+      pub add-lock-kept : {w₂ : List ℕ} → w₂ ≡ lockStored c w₁ i r x → AccessesKept c w w₂
+      add-lock-kept e = rw e (accesses-kept (apart-kept (locks-accesses c) (pushed .only)))
 
   -- rows that pass a test of their entry were sent to the free chain
   module _ {w′ : List ℕ} (p : Lock → Bool) (unlinked : Changed (lockTable c) (lockHeads c) w w′ (suc r) 0 (dropIf (λ i. p (lockAt c w i)) (rowsOf (lockTable c) (lockHeads c) w (suc r)))

@@ -15,10 +15,11 @@ use Rattle.chains.proofs.Entries.{same-entries, entries-all}
 use Rattle.chains.proofs.Frames.{Kept, kept-same}
 use Rattle.meaning.specs.Store.{Rec, Edit, Store, withEdit, setEdit, withRec, withRecords}
 use Rattle.meaning.specs.declared.Counts.{Counts}
-use Rattle.tables.specs.Layout.{recordTable, slotTable, lockTable, lockHeads, versionTable, versionHeads, accessTable, accessHeads, R-FLOOR, SLOT, S-STATE, S-GENERATION, S-ACCESS, S-POINT, L-LOW, L-HIGH, L-MODE, L-RECORD, V-POINT, V-VALUE, V-SPARE, A-RECORD, A-FROM, A-WRITTEN, A-VALUE}
+use Rattle.tables.specs.Layout.{recordTable, slotTable, lockTable, lockHeads, versionTable, versionHeads, accessTable, accessHeads, R-FLOOR, SLOT, S-STATE, S-GENERATION, S-ACCESS, S-POINT, L-LOW, L-HIGH, L-MODE, L-RECORD, V-POINT, V-VALUE, V-SPARE, A-RECORD, A-FROM, A-WRITTEN, A-VALUE, A-NEXT}
 use Rattle.tables.specs.Decode.{build, versionAt, lockAt, accessAt, versionRows, lockRows, accessRows, versionsOf, locksOf, accessesOf, floorOf, recordAt, slotAt, recordsOf, editsOf, decodeAt}
 use Rattle.tables.specs.Words.{Well, namesRecord, marked}
 use Rattle.tables.proofs.Builds.{build-ext, build-set}
+use Rattle.changes.specs.Becomes.{AccessesKept}
 
 -- Kept tables
 pub record VersionsSame (c : Counts) (w w′ : List ℕ) : Type 0 where
@@ -75,6 +76,14 @@ module _ {c : Counts} {w w′ : List ℕ} (W : Well c w) where
             (same-entries (marked c w′) (marked c w) (W .accesses-parted) S (λ i q. ap (λ x. leb x 1) (K .words i A-WRITTEN q (omega arith))) k l)
             (W .marks k p l);
       }
+
+-- a walk along accesses goes on as before
+pub accesses-kept : {c : Counts} {w w′ : List ℕ} → Kept (accessTable c) (accessHeads c) w w′ → AccessesKept c w w′
+unfolding accessAt accessTable
+accesses-kept K = record {
+  entry = λ i q. rw (K .words i A-RECORD q (omega arith), K .words i A-FROM q (omega arith), K .words i A-WRITTEN q (omega arith), K .words i A-VALUE q (omega arith)) refl;
+  next = λ i q. K .words i A-NEXT q (omega arith);
+}
 
 -- Kept floors and slots: all words of slots but the heads of their chains
 abbrev pub FloorsSame : Counts → List ℕ → List ℕ → Type 0

@@ -12,7 +12,7 @@ use Rattle.chains.specs.Change.{Ready, Changed, InsertedSorted, Taken}
 use Rattle.chains.proofs.Occurs.{occ-here}
 use Rattle.chains.proofs.Places.{take-drop}
 use Rattle.chains.proofs.Words.{on-chain}
-use Rattle.chains.proofs.Frames.{only-elsewhere, field-kept}
+use Rattle.chains.proofs.Frames.{only-elsewhere, field-kept, apart-kept}
 use Rattle.chains.proofs.Entries.{Filled, filled-start, inserted-entries, other-entries, entries-kept, entries-drop, entries-take, entries-beyond}
 use Rattle.meaning.specs.Store.{withRec, recAt, versionsUsed}
 use Rattle.meaning.specs.Ending.{insert}
@@ -24,7 +24,9 @@ use Rattle.tables.specs.Rows.{versionStored}
 use Rattle.tables.specs.Words.{Well}
 use Rattle.tables.proofs.Places.{versions-laid}
 use Rattle.tables.proofs.Decoded.{rec-at}
-use Rattle.changes.specs.Becomes.{Becomes, withVersions, versionOf}
+use Rattle.changes.specs.Becomes.{AccessesKept, Becomes, withVersions, versionOf}
+use Rattle.changes.proofs.Apart.{versions-accesses}
+use Rattle.changes.proofs.Parts.{accesses-kept}
 use Rattle.changes.proofs.OneTable.{versions-become, versions-fit}
 use Rattle.tables.proofs.Rooms.{free-version}
 use Rattle.changes.proofs.Stored.{version-stored-at, version-filled, version-rest}
@@ -85,6 +87,9 @@ module _ {c : Counts} {w : List ℕ} (W : Well c w) {r : ℕ} (l : r < c .record
       pub add-version-law : {w₂ : List ℕ} → point ≡ suc q → w₂ ≡ versionStored c w₁ i point value
           → Becomes c w₂ (withRec (decodeAt c w) r (withVersions (recAt (decodeAt c w) r) (insert (versionOf point value) (recAt (decodeAt c w) r .versions))))
       add-version-law e z = rw z (versions-become W (inserted .only) r l (inserted .parted) inserted-others (inserted-here e ∙ ap (insert (versionOf point value)) (sym (versions-at c w r l))))
+
+      pub add-version-kept : {w₂ : List ℕ} → w₂ ≡ versionStored c w₁ i point value → AccessesKept c w w₂
+      add-version-kept z = rw z (accesses-kept (apart-kept (versions-accesses c) (inserted .only)))
 
   -- rows that pass a test of their entry were sent to the free chain
   module _ {w′ : List ℕ} (p : Version → Bool) (unlinked : Changed (versionTable c) (versionHeads c) w w′ (suc r) 0 (dropIf (λ i. p (versionAt c w i)) (rowsOf (versionTable c) (versionHeads c) w (suc r)))

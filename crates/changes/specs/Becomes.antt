@@ -8,7 +8,10 @@ use Rattle.meaning.specs.declared.Value.the-variants.{Written}
 use Rattle.meaning.specs.declared.Version.{Version}
 use Rattle.meaning.specs.declared.Access.{Access}
 use Rattle.meaning.specs.declared.Counts.{Counts}
-use Rattle.tables.specs.Decode.{decodeAt}
+use Rattle.chains.specs.Walk.{IsRow}
+use Rattle.chains.specs.Table.{link}
+use Rattle.tables.specs.Layout.{accessTable}
+use Rattle.tables.specs.Decode.{accessAt, decodeAt}
 use Rattle.tables.specs.Words.{Well}
 
 pub record Becomes (c : Counts) (w : List ℕ) (s : Store) : Type 0 where
@@ -47,3 +50,13 @@ onLocks s r f = withRec s r (withLocks (recAt s r) (f (recAt s r .locks)))
 
 abbrev pub onEdit : Store → ℕ → (Edit → Edit) → Store
 onEdit s k f = withEdit s k (f (editAt s k))
+
+-- the access rows of w are those of w′, with their links: a walk along a chain of accesses goes on as before
+pub record AccessesKept (c : Counts) (w w′ : List ℕ) : Type 0 where
+  pub entry : (i : ℕ) → IsRow (c .accesses) i → accessAt c w′ i ≡ accessAt c w i
+  pub next : (i : ℕ) → IsRow (c .accesses) i → link (accessTable c) w′ i ≡ link (accessTable c) w i
+
+-- a change of versions or locks, made beside such a walk
+pub record Beside (c : Counts) (w w′ : List ℕ) (s : Store) : Type 0 where
+  pub becomes : Becomes c w′ s
+  pub accesses : AccessesKept c w w′

@@ -21,7 +21,7 @@ ghost use lib.Dec.{leb, ltb};
 ghost use Rattle.tables.specs.Layout.{MODES, L-LOW, Fits, lockTable, lockHeads, versionTable, versionHeads, accessTable, accessHeads};
 ghost use Rattle.tables.specs.Decode.{lockAt, versionAt, accessAt, accessRows, decodeAt};
 ghost use Rattle.tables.specs.Words.{Well};
-ghost use Rattle.changes.specs.Becomes.{Becomes, versionOf, withFloor, withGeneration, withAccesses, onVersions, onLocks, onEdit};
+ghost use Rattle.changes.specs.Becomes.{Becomes, Beside, versionOf, withFloor, withGeneration, withAccesses, onVersions, onLocks, onEdit};
 use meaning::Access;
 use meaning::Counts;
 use meaning::FREE;
@@ -91,11 +91,13 @@ pub fn add_lock(w: &mut [u64], c: Counts, r: usize, l: Lock)
 // A settled lock more on record r.
 pub fn leave_settled(w: &mut [u64], c: Counts, r: usize, mode: u64, low: u64, high: u64)
     requires { ⌜ Well c (now w) × (r < c .records) × (mode < MODES) × (locksUsed (decodeAt c (now w)) < c .locks) ⌝ }
-    ensures { λ _. ⌜ Becomes c (now (w .exit)) (onLocks (decodeAt c (now (w .entry))) r (leaveSettled true mode low high)) ⌝ }
+    ensures { λ _. ⌜ Beside c (now (w .entry)) (now (w .exit)) (onLocks (decodeAt c (now (w .entry))) r (leaveSettled true mode low high)) ⌝ }
 {
-    add_lock(
+    let i = take_lock(w, c, r);
+    tables::put_lock(
         w,
         c,
+        i,
         r,
         Lock {
             low,
@@ -235,7 +237,7 @@ pub fn trim_locks(w: &mut [u64], c: Counts, r: usize, v: u64)
 // A version more on record r, where its point belongs.
 pub fn add_version(w: &mut [u64], c: Counts, r: usize, point: u64, value: u64)
     requires { ⌜ Well c (now w) × (r < c .records) × (1 ≤ point) × (versionsUsed (decodeAt c (now w)) < c .versions) ⌝ }
-    ensures { λ _. ⌜ Becomes c (now (w .exit)) (onVersions (decodeAt c (now (w .entry))) r (insert (versionOf point value))) ⌝ }
+    ensures { λ _. ⌜ Beside c (now (w .entry)) (now (w .exit)) (onVersions (decodeAt c (now (w .entry))) r (insert (versionOf point value))) ⌝ }
 {
     let i = tables::insert_version(w, c, r, point - 1);
     tables::put_version(w, c, i, point, value);

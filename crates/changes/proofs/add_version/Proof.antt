@@ -1,6 +1,6 @@
 -- `changes::add_version` meets its contract.
 use native.Mathlib.Omega.{arith}
-use Rattle.changes.proofs.Versions.{version-ready, version-row, version-inserted-fits, add-version-law}
+use Rattle.changes.proofs.Versions.{version-ready, version-row, version-inserted-fits, add-version-law, add-version-kept}
 use borrow.Author.Needs.{needs}
 use Rattle.changes.proofs.add_version.Statement.{statement}
 use Rattle.changes.proofs.add_version.Tie as tie
@@ -18,7 +18,13 @@ same-length : tie.Need-same-length
 same-length c = search needs
 
 returns : tie.Need-returns
-returns c = add-version-law (c .before .before .before .before .before .before .before .before .before .pre .0) (c .before .before .before .before .before .before .before .before .before .pre .1) (c .before .before .before .before .before .before .insert-version .ensures) (c .before .before .before .before .before .before .before .before .before .pre .3) _ _ (omega (arith, c .before .before .before .before .before .before .before .before .before .pre .2)) (c .before .before .put-version .ensures)
+returns c =
+    let P = c .before .before .before .before .before .before .before .before .before .pre in
+    let K = c .before .before .before .before .before .before .insert-version .ensures in
+    record {
+      becomes = add-version-law (P .0) (P .1) K (P .3) _ _ (omega (arith, P .2)) (c .before .before .put-version .ensures);
+      accesses = add-version-kept (P .0) (P .1) K (P .3) _ _ (c .before .before .put-version .ensures);
+    }
 
 pub add-version-spec : {M : Type 1} → statement M
 add-version-spec =
