@@ -1,0 +1,159 @@
+// The public calls of the store, on lent words. Each checks the words first (refusal 1) and then does what its definition says; none has a
+// `requires`. The contract of each settles its reply and what the words mean afterwards, for every slice and argument.
+ghost use Rattle.meaning.specs.Replies.{ofBegin, ofWrite, ofLock, ofRead, ofCommit, ofAbort, ofSettle, ofPurge, ofView};
+ghost use Rattle.meaning.specs.Edits.{beginning, writing};
+ghost use Rattle.meaning.specs.Locking.{locking, reading};
+ghost use Rattle.meaning.specs.Ending.{committing, aborting, settling};
+ghost use Rattle.meaning.specs.Records.{purging, viewing};
+ghost use Rattle.meaning.specs.Calls.{act};
+ghost use Rattle.store.specs.Answers.{Does, Shows, ofAnswer};
+use meaning::AbortReply;
+use meaning::BeginReply;
+use meaning::Call;
+use meaning::CommitReply;
+use meaning::Extent;
+use meaning::Finish;
+use meaning::Handle;
+use meaning::LockReply;
+use meaning::Pick;
+use meaning::Point;
+use meaning::PurgeReply;
+use meaning::ReadReply;
+use meaning::Refusal;
+use meaning::SettleReply;
+use meaning::ViewReply;
+use meaning::WriteReply;
+
+// The answer of a call of any kind.
+pub enum Answer {
+    Begin(BeginReply),
+    Write(WriteReply),
+    Lock(LockReply),
+    Read(ReadReply),
+    Commit(CommitReply),
+    Abort(AbortReply),
+    Settle(SettleReply),
+    Purge(PurgeReply),
+    View(ViewReply),
+}
+
+pub fn begin(words: &mut [u64]) -> BeginReply
+    ensures { λ r. ⌜ Does beginning (now (words .entry)) (now (words .exit)) (ofBegin r) ⌝ }
+{
+    if soundness::check(words) {
+        calls::begin(words)
+    } else {
+        BeginReply::Refused(Refusal::Unsound)
+    }
+}
+
+pub fn write(words: &mut [u64], h: Handle, rec: u64, value: u64) -> WriteReply
+    ensures { λ r. ⌜ Does (writing (h .0) rec value) (now (words .entry)) (now (words .exit)) (ofWrite r) ⌝ }
+{
+    if soundness::check(words) {
+        calls::write(words, h, rec, value)
+    } else {
+        WriteReply::Refused(Refusal::Unsound)
+    }
+}
+
+pub fn lock(
+    words: &mut [u64],
+    h: Handle,
+    rec: u64,
+    low: Point,
+    high: Point,
+    extent: Extent,
+) -> LockReply
+    ensures { λ r. ⌜ Does (locking (h .0) rec (low .0) (high .0) extent) (now (words .entry)) (now (words .exit)) (ofLock r) ⌝ }
+{
+    if soundness::check(words) {
+        calls::lock(words, h, rec, low, high, extent)
+    } else {
+        LockReply::Refused(Refusal::Unsound)
+    }
+}
+
+pub fn read(words: &mut [u64], h: Handle, rec: u64, m: Point, extent: Extent) -> ReadReply
+    ensures { λ r. ⌜ Does (reading (h .0) rec (m .0) extent) (now (words .entry)) (now (words .exit)) (ofRead r) ⌝ }
+{
+    if soundness::check(words) {
+        calls::read(words, h, rec, m, extent)
+    } else {
+        ReadReply::Refused(Refusal::Unsound)
+    }
+}
+
+pub fn commit(words: &mut [u64], h: Handle, pick: Pick, finish: Finish) -> CommitReply
+    ensures { λ r. ⌜ Does (committing (h .0) pick finish) (now (words .entry)) (now (words .exit)) (ofCommit r) ⌝ }
+{
+    if soundness::check(words) {
+        endings::commit(words, h, pick, finish)
+    } else {
+        CommitReply::Refused(Refusal::Unsound)
+    }
+}
+
+pub fn abort(words: &mut [u64], h: Handle, finish: Finish) -> AbortReply
+    ensures { λ r. ⌜ Does (aborting (h .0) finish) (now (words .entry)) (now (words .exit)) (ofAbort r) ⌝ }
+{
+    if soundness::check(words) {
+        endings::abort(words, h, finish)
+    } else {
+        AbortReply::Refused(Refusal::Unsound)
+    }
+}
+
+pub fn settle(words: &mut [u64], h: Handle) -> SettleReply
+    ensures { λ r. ⌜ Does (settling (h .0)) (now (words .entry)) (now (words .exit)) (ofSettle r) ⌝ }
+{
+    if soundness::check(words) {
+        endings::settle(words, h)
+    } else {
+        SettleReply::Refused(Refusal::Unsound)
+    }
+}
+
+pub fn purge(words: &mut [u64], rec: u64, b: Point) -> PurgeReply
+    ensures { λ r. ⌜ Does (purging rec (b .0)) (now (words .entry)) (now (words .exit)) (ofPurge r) ⌝ }
+{
+    if soundness::check(words) {
+        endings::purge(words, rec, b)
+    } else {
+        PurgeReply::Refused(Refusal::Unsound)
+    }
+}
+
+pub fn view(words: &[u64], rec: u64, p: Point) -> ViewReply
+    ensures { λ r. ⌜ Shows (viewing rec (p .0)) (now (words .entry)) (ofView r) ⌝ }
+{
+    if soundness::check(words) {
+        calls::view(words, rec, p)
+    } else {
+        ViewReply::Refused(Refusal::Unsound)
+    }
+}
+
+// A call of any kind.
+pub fn perform(words: &mut [u64], call: Call) -> Answer
+    ensures { λ r. ⌜ Does (act call) (now (words .entry)) (now (words .exit)) (ofAnswer r) ⌝ }
+{
+    match call {
+        Call::Begin => Answer::Begin(begin(words)),
+        Call::Write(h, rec, value) => Answer::Write(write(words, h, rec, value)),
+        Call::Lock(h, rec, low, high, extent) => Answer::Lock(lock(
+            words,
+            h,
+            rec,
+            low,
+            high,
+            extent,
+        )),
+        Call::Read(h, rec, m, extent) => Answer::Read(read(words, h, rec, m, extent)),
+        Call::Commit(h, pick, finish) => Answer::Commit(commit(words, h, pick, finish)),
+        Call::Abort(h, finish) => Answer::Abort(abort(words, h, finish)),
+        Call::Settle(h) => Answer::Settle(settle(words, h)),
+        Call::Purge(rec, b) => Answer::Purge(purge(words, rec, b)),
+        Call::View(rec, p) => Answer::View(view(words, rec, p)),
+    }
+}
