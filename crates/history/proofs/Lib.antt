@@ -14,3 +14,4 @@ pub mod Contracts
 pub mod CommitList
 pub mod Examples
 pub mod Handles
+pub mod OverStore

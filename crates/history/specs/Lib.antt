@@ -4,3 +4,4 @@ pub mod Statement
 pub mod Words
 pub mod Examples
 pub mod Handles
+pub mod StoreWords
