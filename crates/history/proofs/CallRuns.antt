@@ -11,7 +11,7 @@ use Rattle.meaning.specs.SoundFacts.{SoundStore}
 use Rattle.meaning.specs.declared.Call.{Call}
 use Rattle.meaning.proofs.SoundParts.{sound-out}
 use Rattle.meaning.proofs.Verdicts.{PassedOpen}
-use Rattle.serial.specs.History.{_▸_, History}
+use Rattle.serial.specs.Serializable.{_▸_, History}
 use Rattle.serial.proofs.Slots.{SoundSlots, OpenSlot, passes, SlotRun, then}
 use Rattle.history.specs.Heard.{heard}
 use Rattle.history.proofs.StoreSlots.{Valued, slots, sound-slots}

@@ -7,8 +7,8 @@ use mathlib.Core.Logic.{_⊎_, inl, inr, _↔_}
 use mathlib.Core.Bool.{Bool, true, false, cond}
 use lib.Dec.{eqb}
 use borrow.Author.Tests.{eq-eqb}
-use Rattle.serial.specs.History.{ε, _▸_, _∈_, Operation, wrote, read, commits, begun, call, other, History, editOf, callsOf, Commits}
-use Rattle.serial.specs.Claim.{CommitOrder}
+use Rattle.serial.specs.Serializable.{ε, _▸_, _∈_, Operation, wrote, read, commits, begun, call, other, History, editOf, callsOf, Commits}
+use Rattle.serial.specs.Serializable.{CommitOrder}
 use Rattle.serial.proofs.Memory.{commits-wrote, commits-read}
 use Rattle.serial.proofs.Names.{last-call, no-commit}
 use Rattle.history.specs.Examples.{commitsOf}

@@ -36,7 +36,7 @@ use Rattle.meaning.proofs.Verdicts.{needs-pass, forOpen-pass, PassedOpen, knows
 use Rattle.meaning.proofs.EditChanged.{aborted-sound}
 use Rattle.meaning.proofs.Committed.{own-lock, committed-sound}
 use Rattle.meaning.proofs.EndingSound.{chosen-common}
-use Rattle.serial.specs.History.{History}
+use Rattle.serial.specs.Serializable.{History}
 use Rattle.serial.proofs.Slots.{Used, SoundSlots, SlotStays, Moves, CommitsAt, moves, passes, commits-at, SlotRun, then}
 use Rattle.history.proofs.StoreSlots.{StandsAt, Valued, ReadAt, Wrote, slots, to-held, sound-slots}
 use Rattle.history.proofs.Changes.{iff, locked-refl, slot-stays, moves-more}

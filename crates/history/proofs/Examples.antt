@@ -10,8 +10,7 @@ use Rattle.meaning.specs.Calls.{opened}
 use Rattle.meaning.specs.Session.{session, sessionReplies}
 use Rattle.meaning.specs.declared.Counts.{Counts}
 use Rattle.meaning.specs.declared.Call.{Call}
-use Rattle.serial.specs.History.{Seq, ε, _▸_}
-use Rattle.serial.specs.Claim.{CommitOrder}
+use Rattle.serial.specs.Serializable.{Seq, ε, _▸_, CommitOrder}
 use Rattle.history.specs.Statement.{replied}
 use Rattle.history.specs.Examples.{Serial, sessionCounts, sessionCalls, SessionCommits, SessionSerial, SessionViews, equalCounts, equalCalls, EqualCommits, EqualSerial, EqualEnds}
 use Rattle.history.proofs.Theorem.{store-serializable}

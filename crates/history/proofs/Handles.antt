@@ -12,7 +12,7 @@ use Rattle.meaning.specs.Edits.{beginning}
 use Rattle.meaning.specs.Ending.{aborting}
 use Rattle.meaning.specs.Calls.{act, run, after, opened}
 use Rattle.meaning.specs.declared.Finish.the-variants.{Settle}
-use Rattle.serial.specs.History.{ε, _▸_, count, begun, other, History}
+use Rattle.serial.specs.Serializable.{ε, _▸_, count, begun, other, History}
 use Rattle.history.specs.Heard.{heardAfter}
 use Rattle.history.specs.Handles.{rounds, BegunAfter, GivenTwice}
 

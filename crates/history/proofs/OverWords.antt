@@ -10,7 +10,7 @@ use Rattle.meaning.specs.Records.{viewing}
 use Rattle.meaning.specs.Calls.{act, run, after}
 use Rattle.meaning.specs.declared.Counts.{Counts}
 use Rattle.meaning.specs.declared.Call.{Call}
-use Rattle.serial.specs.Claim.{CommitOrder}
+use Rattle.serial.specs.Serializable.{CommitOrder}
 use Rattle.history.specs.Heard.{history}
 use Rattle.history.specs.Statement.{replied}
 use Rattle.history.specs.Words.{Calls, done, then, Listed, WordsSerializable, WordsOrderExists, WordsPointIsOne}

@@ -21,7 +21,7 @@ use Rattle.meaning.proofs.Lists.{keep-in, keep-out}
 use Rattle.meaning.proofs.LockChanges.{held-is, trim-to-is}
 use Rattle.meaning.proofs.Changed.{rec-purged, rec-purged-other, edit-purged}
 use Rattle.meaning.proofs.Verdicts.{needs-pass, hasRecord-out}
-use Rattle.serial.specs.History.{History}
+use Rattle.serial.specs.Serializable.{History}
 use Rattle.serial.proofs.Slots.{SoundSlots, Moves, moves, passes, then}
 use Rattle.history.proofs.StoreSlots.{StandsAt, slots}
 use Rattle.history.proofs.Changes.{slot-stays}

@@ -31,7 +31,7 @@ use Rattle.meaning.proofs.Stores.{edit-same}
 use Rattle.meaning.proofs.Newest.{newest-below-is, version-on-stands}
 use Rattle.meaning.proofs.Kept.{access-read}
 use Rattle.meaning.proofs.Verdicts.{needs-pass, forOpen-pass, PassedOpen, hasRecord-out}
-use Rattle.serial.specs.History.{History}
+use Rattle.serial.specs.Serializable.{History}
 use Rattle.serial.proofs.Slots.{SoundSlots, StandsIn, FirstRead, reads, reads-own, reads-again, then}
 use Rattle.history.specs.Heard.{toldValue}
 use Rattle.history.proofs.StoreSlots.{Valued, slots}

@@ -26,7 +26,7 @@ use Rattle.meaning.proofs.StoresMore.{each-rec}
 use Rattle.meaning.proofs.Verdicts.{needs-pass, forOpen-pass, PassedOpen, hasRecord-out}
 use Rattle.meaning.proofs.Granted.{free-found, FreeAt}
 use Rattle.meaning.proofs.LockAdded.{added-old}
-use Rattle.serial.specs.History.{History}
+use Rattle.serial.specs.Serializable.{History}
 use Rattle.serial.proofs.Slots.{Used, SoundSlots, SlotStays, Moves, Begins, Writes, moves, passes, begins, writes, then}
 use Rattle.history.proofs.StoreSlots.{slotsOf, slots}
 use Rattle.history.proofs.Changes.{iff, Locked, locked-refl, slot-stays, grows-more, moves-more, access-here, access-there}

@@ -24,8 +24,7 @@ use Rattle.meaning.specs.declared.Call.the-variants as C
 use Rattle.meaning.proofs.Newest.{newest-at-is, falls-once}
 use Rattle.meaning.proofs.SoundParts.{getD-replicate}
 use Rattle.meaning.proofs.Laws.{fresh-is-sound, calls-keep-sound}
-use Rattle.serial.specs.History.{ε, History, plainEnd}
-use Rattle.serial.specs.Claim.{Newest}
+use Rattle.serial.specs.Serializable.{ε, History, plainEnd, Newest}
 use Rattle.serial.proofs.Slots.{SoundSlots}
 use Rattle.serial.proofs.Slots as Slots
 use Rattle.serial.proofs.SlotRuns.{byEdit, slot-runs}

@@ -19,9 +19,8 @@ use Rattle.meaning.specs.declared.Pick.the-variants.{Named}
 use Rattle.meaning.specs.declared.Finish.the-variants.{Settle}
 use Rattle.meaning.specs.declared.Call.{Call}
 use Rattle.meaning.specs.declared.Call.the-variants as C
-use Rattle.serial.specs.History as H
-use Rattle.serial.specs.History.{Seq, ε, _▸_, History, editOf, plainEnd}
-use Rattle.serial.specs.Claim.{CommitOrder}
+use Rattle.serial.specs.Serializable as H
+use Rattle.serial.specs.Serializable.{Seq, ε, _▸_, History, editOf, plainEnd, CommitOrder}
 use Rattle.history.specs.Statement.{SerialStore, replied}
 
 -- the edits that committed, by the place of their Begin, with their commit points, in list order

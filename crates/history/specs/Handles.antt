@@ -11,7 +11,7 @@ use Rattle.meaning.specs.declared.Counts.{Counts}
 use Rattle.meaning.specs.declared.Finish.the-variants.{Settle}
 use Rattle.meaning.specs.declared.Call.{Call}
 use Rattle.meaning.specs.declared.Call.the-variants as C
-use Rattle.serial.specs.History.{_▸_, begun, editOf}
+use Rattle.serial.specs.Serializable.{_▸_, begun, editOf}
 use Rattle.history.specs.Statement.{replied}
 
 -- a store with one slot

@@ -9,8 +9,8 @@ use Rattle.meaning.specs.declared.Value.{Value}
 use Rattle.meaning.specs.declared.Value.the-variants.{Never, Written}
 use Rattle.meaning.specs.declared.Call.{Call}
 use Rattle.meaning.specs.declared.Call.the-variants as C
-use Rattle.serial.specs.History.{ε, _▸_, ReadReply, Event, begun, call, other, History}
-use Rattle.serial.specs.History as H
+use Rattle.serial.specs.Serializable.{ε, _▸_, ReadReply, Event, begun, call, other, History}
+use Rattle.serial.specs.Serializable as H
 
 -- a value of the store and one of the plain run, whose `none` is never written
 abbrev pub toldValue : Value → Option Val

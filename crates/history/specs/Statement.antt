@@ -11,8 +11,7 @@ use Rattle.meaning.specs.Records.{goodCounts, viewing}
 use Rattle.meaning.specs.Calls.{run, after}
 use Rattle.meaning.specs.declared.Counts.{Counts}
 use Rattle.meaning.specs.declared.Call.{Call}
-use Rattle.serial.specs.History.{Seq, History, Commits, plainEnd, PlainFits}
-use Rattle.serial.specs.Claim.{CommitOrder}
+use Rattle.serial.specs.Serializable.{Seq, History, Commits, plainEnd, PlainFits, CommitOrder}
 use Rattle.history.specs.Heard.{shownValue, history}
 
 -- the plain run of the history l in the order o, and the store at the end of l

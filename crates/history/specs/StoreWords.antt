@@ -8,8 +8,7 @@ use mathlib.Core.List.{List}
 use Rattle.meaning.specs.Replies.{Reply, ok}
 use Rattle.meaning.specs.declared.Counts.{Counts}
 use Rattle.meaning.specs.declared.Call.{Call}
-use Rattle.serial.specs.History.{Seq, Commits}
-use Rattle.serial.specs.Claim.{CommitOrder}
+use Rattle.serial.specs.Serializable.{Seq, Commits, CommitOrder}
 use Rattle.tables.specs.Words.{Lent, lent, decode, soundWords}
 use Rattle.format.specs.Format as format
 use Rattle.history.specs.Heard.{history}

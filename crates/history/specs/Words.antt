@@ -13,8 +13,7 @@ use Rattle.meaning.specs.Calls.{act, run, after}
 use Rattle.meaning.specs.Sound.{soundStore}
 use Rattle.meaning.specs.declared.Counts.{Counts}
 use Rattle.meaning.specs.declared.Call.{Call}
-use Rattle.serial.specs.History.{Seq, History, Commits, plainEnd, PlainFits}
-use Rattle.serial.specs.Claim.{CommitOrder}
+use Rattle.serial.specs.Serializable.{Seq, History, Commits, plainEnd, PlainFits, CommitOrder}
 use Rattle.history.specs.Heard.{shownValue, history}
 use Rattle.meaning.specs.Contract.{Does, Shows, Formats}
 

@@ -7,8 +7,8 @@ use mathlib.Core.Logic.{_⊎_, inl, inr}
 use mathlib.Core.Option.{Option, some, none}
 use native.Mathlib.Decide.{ℕ-discrete}
 use native.Mathlib.Omega.{arith}
-use Rattle.serial.specs.History.{Seq, _▸_, _∈_, from, Operation, wrote, read, commits}
-use Rattle.serial.specs.Steps.{State, Kept, Locked, Sound, pending, Common}
+use Rattle.serial.specs.Serializable.{Seq, _▸_, _∈_, from, Operation, wrote, read, commits}
+use Rattle.serial.specs.Serializable.{State, Kept, Locked, Sound, pending, Common}
 use Rattle.serial.proofs.Memory.{Explained, explained-commits, read-commits}
 use Rattle.serial.proofs.Invariant.{At, Saved, Source, Consistent, Guards}
 use Rattle.serial.proofs.Extend.{Extends}

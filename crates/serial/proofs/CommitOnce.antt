@@ -6,8 +6,8 @@ use mathlib.Core.Bool.{Bool, true, false, cond}
 use native.Mathlib.Omega.{arith}
 use lib.Dec.{eqb}
 use borrow.Author.Tests.{eqb-true}
-use Rattle.serial.specs.History.{Seq, ε, _▸_, _∈_, from, own, again, Operation, wrote, read, commits, call, History, editOf, callsOf}
-use Rattle.serial.specs.Steps.{State, Step, silent, pass, begin, write, read-first, read-own, read-again, commit, Run, start, next}
+use Rattle.serial.specs.Serializable.{Seq, ε, _▸_, _∈_, from, own, again, Operation, wrote, read, commits, call, History, editOf, callsOf}
+use Rattle.serial.specs.Serializable.{State, Step, silent, pass, begin, write, read-first, read-own, read-again, commit, Run, start, next}
 
 module _ {X : Type 0} where
   abbrev pub commitReplies : Seq (Operation X) → ℕ

@@ -8,9 +8,9 @@ use mathlib.Core.Option.{Option, some, none}
 use native.Mathlib.Omega.{arith}
 use lib.Dec.{eqb}
 use borrow.Author.Tests.{eqb-true}
-use Rattle.serial.specs.History.{Seq, ε, _▸_, _∈_, from, Operation, wrote, read, commits, begun, call, other, History, callsOf, Commits, plainEnd}
-use Rattle.serial.specs.Steps.{State, Sound, pending, Common, Changes, silent, pass, begin, write, read-first, commit, Run, start, next}
-use Rattle.serial.specs.Claim.{CommitOrder, Serial}
+use Rattle.serial.specs.Serializable.{Seq, ε, _▸_, _∈_, from, Operation, wrote, read, commits, begun, call, other, History, callsOf, Commits, plainEnd}
+use Rattle.serial.specs.Serializable.{State, Sound, pending, Common, Changes, silent, pass, begin, write, read-first, commit, Run, start, next}
+use Rattle.serial.specs.Serializable.{CommitOrder, Serial}
 use Rattle.serial.proofs.Memory.{not-both, read-wrote, commits-wrote, commits-read}
 use Rattle.serial.proofs.Names.{last-call, no-commit}
 use Rattle.serial.proofs.Serializability.{serializable}

@@ -5,8 +5,7 @@ use mathlib.Core.Path.{_≡_, sym, subst}
 use mathlib.Core.Logic.{inl, inr}
 use mathlib.Core.Option.{Option, some, none}
 use native.Mathlib.Decide.{ℕ-discrete}
-use Rattle.serial.specs.History.{Seq, _▸_, _∈_, from, Operation, wrote, read, commits}
-use Rattle.serial.specs.Steps.{State, pending}
+use Rattle.serial.specs.Serializable.{Seq, _▸_, _∈_, from, Operation, wrote, read, commits, State, pending}
 use Rattle.serial.proofs.Memory.{Explained}
 use Rattle.serial.proofs.Invariant.{At, Saved, Source, Consistent, Guards, Versions}
 

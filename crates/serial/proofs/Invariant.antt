@@ -4,8 +4,8 @@ use Prim.Native.Nat.{ℕ, _≤_, _<_}
 use mathlib.Core.Path.{_≡_, refl, sym, ap, subst}
 use mathlib.Core.Option.{Option, some, none}
 use native.Mathlib.Omega.{arith}
-use Rattle.serial.specs.History.{Seq, _∈_, from, Operation, read, commits, History, callsOf}
-use Rattle.serial.specs.Steps.{State, Kept, Locked, Sound, Stands, pending, Changes}
+use Rattle.serial.specs.Serializable.{Seq, _∈_, from, Operation, read, commits, History, callsOf}
+use Rattle.serial.specs.Serializable.{State, Kept, Locked, Sound, Stands, pending, Changes}
 use Rattle.serial.proofs.Memory.{Explained, some-same}
 
 module _ {X : Type 0} where

@@ -6,8 +6,8 @@ use mathlib.Core.Bool.{Bool, true, false, cond}
 use mathlib.Core.Option.{Option, some, none}
 use native.Mathlib.Omega.{arith}
 use lib.Dec.{eqb}
-use Rattle.serial.specs.History.{Seq, ε, _▸_, _∈_, ReadReply, from, own, again, Operation, wrote, read, commits, after, Fits}
-use Rattle.serial.specs.Steps.{pending}
+use Rattle.serial.specs.Serializable.{Seq, ε, _▸_, _∈_, ReadReply, from, own, again, Operation, wrote, read, commits, after, Fits}
+use Rattle.serial.specs.Serializable.{pending}
 
 module _ {X : Type 0} where
   pub not-both : {x : Option X} {v : X} → x ≡ none → x ≡ some v → ⊥

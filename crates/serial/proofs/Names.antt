@@ -7,7 +7,7 @@ use mathlib.Core.Bool.{Bool, true, false, cond}
 use native.Mathlib.Omega.{arith}
 use lib.Dec.{eqb}
 use borrow.Author.Tests.{eqb-true, ne-eqb}
-use Rattle.serial.specs.History.{ε, _▸_, _∈_, count, Operation, commits, begun, call, other, History, editOf, callsOf}
+use Rattle.serial.specs.Serializable.{ε, _▸_, _∈_, count, Operation, commits, begun, call, other, History, editOf, callsOf}
 
 module _ {X : Type 0} where
   pub edit-bound : (l : History X) (h : ℕ) → editOf l h ≤ count l

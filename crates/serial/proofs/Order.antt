@@ -7,8 +7,8 @@ use native.Mathlib.Decide.{ℕ-discrete, decLe}
 use native.Mathlib.Omega.{arith}
 use lib.Dec.{leb}
 use borrow.Author.Tests.{leb-true, leb-false}
-use Rattle.serial.specs.History.{Seq, ε, _▸_, _∈_, count, Operation, wrote, read, commits, History, callsOf, Commits}
-use Rattle.serial.specs.Claim.{Rises, CommitOrder, OrderExists}
+use Rattle.serial.specs.Serializable.{Seq, ε, _▸_, _∈_, count, Operation, wrote, read, commits, History, callsOf, Commits}
+use Rattle.serial.specs.Serializable.{Rises, CommitOrder, OrderExists}
 use Rattle.serial.proofs.Memory.{commits-wrote, commits-read}
 use Rattle.serial.proofs.Names.{calls-none}
 use Rattle.serial.proofs.Runs.{invariant}

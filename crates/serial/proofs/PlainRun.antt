@@ -6,9 +6,8 @@ use mathlib.Core.Logic.{_⊎_, inl, inr}
 use mathlib.Core.Option.{Option, some, none}
 use native.Mathlib.Decide.{decLt}
 use native.Mathlib.Omega.{arith}
-use Rattle.serial.specs.History.{Seq, ε, _▸_, _∈_, from, read, History, callsOf, Commits, after, plainEnd, PlainFits}
-use Rattle.serial.specs.Steps.{pending}
-use Rattle.serial.specs.Claim.{Rises}
+use Rattle.serial.specs.Serializable.{Seq, ε, _▸_, _∈_, from, read, History, callsOf, Commits, after, plainEnd, PlainFits, pending}
+use Rattle.serial.specs.Serializable.{Rises}
 use Rattle.serial.proofs.Memory.{known, not-both, after-kept, after-wrote}
 use Rattle.serial.proofs.Invariant.{Source, Consistent}
 

@@ -5,9 +5,8 @@ use mathlib.Core.Path.{_≡_, refl, sym, subst}
 use mathlib.Core.Logic.{_⊎_, inl, inr}
 use mathlib.Core.Option.{some, none}
 use native.Mathlib.Omega.{arith}
-use Rattle.serial.specs.History.{ε, _▸_, _∈_, from, Operation, wrote, read, commits, begun, call, History, callsOf, Commits, PlainFits}
-use Rattle.serial.specs.Steps.{State, Run}
-use Rattle.serial.specs.Claim.{CommitOrder}
+use Rattle.serial.specs.Serializable.{ε, _▸_, _∈_, from, Operation, wrote, read, commits, begun, call, History, callsOf, Commits, PlainFits}
+use Rattle.serial.specs.Serializable.{State, Run, CommitOrder}
 use Rattle.serial.proofs.Memory.{not-both, commits-read, commits-wrote}
 use Rattle.serial.proofs.Names.{last-call, no-commit}
 use Rattle.serial.proofs.Serializability.{serializable}

@@ -6,9 +6,9 @@ use mathlib.Core.Bool.{cond}
 use mathlib.Core.Option.{Option, some, none}
 use native.Mathlib.Omega.{arith}
 use borrow.Author.Tests.{eq-eqb, ne-eqb}
-use Rattle.serial.specs.History.{ε, _▸_, _∈_, from, own, again, Operation, wrote, read, commits, call, History, editOf, callsOf}
-use Rattle.serial.specs.Steps.{State, Sound, Stands, Changes, Open, callsBy, pending}
-use Rattle.serial.specs.Steps.{Step, silent, pass, begin, write, read-first, read-own, read-again, commit, Run, start, next}
+use Rattle.serial.specs.Serializable.{ε, _▸_, _∈_, from, own, again, Operation, wrote, read, commits, call, History, editOf, callsOf}
+use Rattle.serial.specs.Serializable.{State, Sound, Stands, Changes, Open, callsBy, pending}
+use Rattle.serial.specs.Serializable.{Step, silent, pass, begin, write, read-first, read-own, read-again, commit, Run, start, next}
 use Rattle.serial.proofs.Memory.{explained-wrote, explained-from, explained-own, explained-again, read-wrote, commits-wrote, commits-read}
 use Rattle.serial.proofs.Invariant.{Saved, Source, Versions, Invariant, guards-kept, stands-source, source-one}
 use Rattle.serial.proofs.Extend.{Extends, Right, extend-consistent, extend-guards, extend-versions}

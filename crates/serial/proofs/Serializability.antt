@@ -6,9 +6,8 @@ use mathlib.Core.Logic.{inl, inr}
 use mathlib.Core.Option.{Option, some, none}
 use native.Mathlib.Decide.{decLe}
 use native.Mathlib.Omega.{arith}
-use Rattle.serial.specs.History.{Seq, History, callsOf, Commits, plainEnd}
-use Rattle.serial.specs.Steps.{State, Run}
-use Rattle.serial.specs.Claim.{CommitOrder, Newest, Serial, Serializable, PointIsOne}
+use Rattle.serial.specs.Serializable.{Seq, History, callsOf, Commits, plainEnd, State, Run}
+use Rattle.serial.specs.Serializable.{CommitOrder, Newest, Serial, Serializable, PointIsOne}
 use Rattle.serial.proofs.Memory.{not-both}
 use Rattle.serial.proofs.Invariant.{Saved, saved-one, Invariant}
 use Rattle.serial.proofs.Runs.{invariant}

@@ -8,9 +8,9 @@ use mathlib.Core.Option.{Option, some, none}
 use native.Mathlib.Decide.{ℕ-discrete}
 use native.Mathlib.Omega.{arith}
 use borrow.Author.Tests.{ne-eqb}
-use Rattle.serial.specs.History.{ε, _▸_, _∈_, count, from, own, again, Operation, wrote, read, commits, begun, call, History, editOf, callsOf, Commits}
-use Rattle.serial.specs.Steps.{State, Kept, Locked, Sound, Stands, pending, Common, Changes, callsBy, Open}
-use Rattle.serial.specs.Steps.{silent, pass, begin, write, read-first, read-own, read-again, commit, Run, start, next}
+use Rattle.serial.specs.Serializable.{ε, _▸_, _∈_, count, from, own, again, Operation, wrote, read, commits, begun, call, History, editOf, callsOf, Commits}
+use Rattle.serial.specs.Serializable.{State, Kept, Locked, Sound, Stands, pending, Common, Changes, callsBy, Open}
+use Rattle.serial.specs.Serializable.{silent, pass, begin, write, read-first, read-own, read-again, commit, Run, start, next}
 use Rattle.serial.proofs.Slots.{Slots, Used, StandsIn, SoundSlots, Moves, Grows, Nothing, OpenSlot}
 use Rattle.serial.proofs.Slots.{SlotStep, moves, passes, begins, writes, reads, reads-own, reads-again, commits-at, SlotRun, fresh, then}
 use Rattle.serial.proofs.Tracking.{Tracks, Coherent, unwritten, stays-refl, coherent-moves, coherent-call, coherent-begins, tracks-open, tracks-write, tracks-read, tracks-commit, tracks-same}

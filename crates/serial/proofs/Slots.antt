@@ -4,7 +4,7 @@ use Prim.Native.Nat.{ℕ, _≤_, _<_}
 use mathlib.Core.Path.{_≡_}
 use mathlib.Core.Logic.{_⊎_, _↔_}
 use mathlib.Core.Option.{Option, some, none}
-use Rattle.serial.specs.History.{ε, _▸_, from, own, again, wrote, read, commits, begun, call, other, History}
+use Rattle.serial.specs.Serializable.{ε, _▸_, from, own, again, wrote, read, commits, begun, call, other, History}
 
 -- Slot 0 is nobody: a lock of slot 0 is settled. A slot's state is 0 free, 1 open, 2 committed, 3 aborted.
 pub record Slots (X : Type 0) : Type 1 where

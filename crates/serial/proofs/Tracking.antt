@@ -9,8 +9,8 @@ use native.Mathlib.Decide.{ℕ-discrete}
 use native.Mathlib.Omega.{arith}
 use lib.Dec.{eqb}
 use borrow.Author.Tests.{eq-eqb, ne-eqb, eqb-true, eqb-false}
-use Rattle.serial.specs.History.{Seq, ε, _▸_, _∈_, count, ReadReply, from, Operation, wrote, read, commits, begun, call, History, editOf, callsOf}
-use Rattle.serial.specs.Steps.{pending, callsBy}
+use Rattle.serial.specs.Serializable.{Seq, ε, _▸_, _∈_, count, ReadReply, from, Operation, wrote, read, commits, begun, call, History, editOf, callsOf}
+use Rattle.serial.specs.Serializable.{pending, callsBy}
 use Rattle.serial.proofs.Memory.{known, not-both, some-same, read-wrote, read-commits, commits-wrote, commits-read}
 use Rattle.serial.proofs.Names.{edit-one, calls-none}
 use Rattle.serial.proofs.Slots.{Slots, Used, SoundSlots, SlotStays, Moves, Begins, OpenSlot, Writes, FirstRead, CommitsAt}

@@ -1,4 +1,2 @@
 -- Serializability of multiversion timestamp locking: histories, the steps that a store may take, and the claim.
-pub mod History
-pub mod Steps
-pub mod Claim
+pub mod Serializable
