@@ -74,7 +74,7 @@ abbrev to : ℕ → Point
 to p = record { 0 = p }
 
 abbrev pub equalCounts : Counts
-equalCounts = record { records = 3; edits = 2; versions = 4; locks = 8; accesses = 8 }
+equalCounts = record { records = 3; edits = 2; versions = 2; locks = 4; accesses = 4 }
 
 unfoldable pub equalCalls : List Call
 equalCalls =

@@ -1,0 +1,100 @@
+-- Steps over words are a history (`steps-history`), from four equations for each step, which compute: its reply, what the words mean after it,
+-- that they are well formed, and that a refused call changes none. That the meaning stays sound is the law of the calls. Rests on WordSteps.
+use Prim.Native.Nat.{ℕ}
+use mathlib.Core.Path.{_≡_, refl, sym, ap, _∙_}
+use mathlib.Core.Bool.{Bool, true, false, _&&_}
+use mathlib.Core.List.{List, [], _∷_}
+use lib.ListN.{length}
+use lib.Dec.{eqb}
+use borrow.Author.Tests.{eq-eqb}
+use Rattle.meaning.specs.Store.{Store}
+use Rattle.meaning.specs.Replies.{ok, refused}
+use Rattle.meaning.specs.Records.{goodCounts}
+use Rattle.meaning.specs.Calls.{act}
+use Rattle.meaning.specs.Sound.{soundStore}
+use Rattle.meaning.specs.Contract.{Does}
+use Rattle.meaning.specs.declared.Counts.{Counts}
+use Rattle.meaning.proofs.Lists.{and-in, and-right, not-both}
+use Rattle.meaning.proofs.Laws.{calls-keep-sound}
+use Rattle.tables.specs.Layout.{sizeOf}
+use Rattle.tables.specs.Words.{Lent, lent, decode, formed, soundWords}
+use Rattle.format.specs.Format.{Formats, formatFits, formattedWords}
+use Rattle.format.proofs.Formatted.{formatted-sound}
+use Rattle.history.specs.Words.{Calls, done, then}
+use Rattle.history.specs.StoreWords.{HistoryOn}
+use Rattle.history.specs.WordSteps.{Changes, changed, Step, callsOf, repliesOf, endOf}
+
+-- a refused call changes nothing
+abbrev pub idle : Bool → Changes → Bool
+idle false cs = true
+idle true [] = true
+idle true (c ∷ cs) = false
+
+idle-same : (b : Bool) (cs : Changes) (w : List ℕ) → idle b cs ≡ true → b ≡ true → changed cs w ≡ w
+unfolding changed
+idle-same false cs w p q = absurd (not-both q refl)
+idle-same true [] w p q = refl
+idle-same true (c ∷ cs) w p q = absurd (not-both p refl)
+
+abbrev pub Stepped : List ℕ → List ℕ → Step → Type 0
+Stepped w w′ s = (s .reply ≡ act (s .call) (decode (lent w)) .reply)
+    × (decode (lent w′) ≡ act (s .call) (decode (lent w)) .store)
+    × (formed w′ ≡ true)
+    × (idle (refused (s .reply)) (s .changes) ≡ true)
+
+-- each step, on the words that the last one left
+infixr 50 _⨾_
+pub data AllStepped : List ℕ → List Step → Type 0 where
+  end : {w : List ℕ} → AllStepped w []
+  _⨾_ : {w : List ℕ} {s : Step} {ss : List Step} → Stepped w (changed (s .changes) w) s → AllStepped (changed (s .changes) w) ss
+      → AllStepped w (s ∷ ss)
+
+step-does : (w : List ℕ) (s : Step) → soundWords (lent w) ≡ true → Stepped w (changed (s .changes) w) s
+    → Does Lent decode soundWords (act (s .call)) (lent w) (lent (changed (s .changes) w)) (s .reply)
+unfolding soundWords
+step-does w s h (reply, store, form, same) =
+    record {
+      unsound = λ q. absurd (not-both h q);
+      reply = λ q. reply;
+      store = λ q. store;
+      stays = λ q.
+          and-in form (ap soundStore store ∙ calls-keep-sound (s .call) (decode (lent w)) (and-right (formed w) (soundStore (decode (lent w))) h));
+      unchanged = λ q. ap lent (idle-same (refused (s .reply)) (s .changes) w same q);
+    }
+
+steps-calls : (ss : List Step) (w : List ℕ) → soundWords (lent w) ≡ true → AllStepped w ss
+    → Calls Lent decode soundWords (lent w) (callsOf ss) (repliesOf ss) (lent (endOf ss w))
+unfolding callsOf repliesOf endOf
+steps-calls [] w h end = done
+steps-calls (s ∷ ss) w h (a ⨾ b) =
+    let d = step-does w s h a in
+    then d (steps-calls ss (changed (s .changes) w) (d .stays h) b)
+
+-- Format replies `ok` on every slice of the right length
+formats-any : (c : Counts) (w : List ℕ) → goodCounts c ≡ true → length w ≡ sizeOf c → Formats c w (formattedWords c) ok
+unfolding formatFits
+formats-any c w g n =
+    record { refused = λ e. absurd (not-both (and-in g (eq-eqb (length w) (sizeOf c) n)) e); done = λ e. (refl, refl) }
+
+pub steps-history : (c : Counts) (ss : List Step) (w : List ℕ) → goodCounts c ≡ true → AllStepped (formattedWords c) ss
+    → length w ≡ sizeOf c
+    → (h : HistoryOn c (callsOf ss) (repliesOf ss) (endOf ss (formattedWords c))) × (h .before ≡ w)
+steps-history c ss w g a n = (
+  record {
+    before = w;
+    start = formattedWords c;
+    formats = formats-any c w g n;
+    calls = steps-calls ss (formattedWords c) (formatted-sound c g) a;
+  },
+  refl,
+)
+
+-- and the words at its end are sound
+sound-left : (ss : List Step) (w : List ℕ) → soundWords (lent w) ≡ true → AllStepped w ss → soundWords (lent (endOf ss w)) ≡ true
+unfolding endOf
+sound-left [] w h end = h
+sound-left (s ∷ ss) w h (a ⨾ b) = sound-left ss (changed (s .changes) w) (step-does w s h a .stays h) b
+
+pub steps-sound : (c : Counts) (ss : List Step) → goodCounts c ≡ true → AllStepped (formattedWords c) ss
+    → soundWords (lent (endOf ss (formattedWords c))) ≡ true
+steps-sound c ss g a = sound-left ss (formattedWords c) (formatted-sound c g) a
