@@ -28,7 +28,7 @@ use Rattle.history.specs.Examples.{commitsOf, sessionCounts, sessionCall
 use Rattle.history.specs.ExampleWords.{heardOf, wordsOf, InWords, SerialIn, sessionSteps, SessionOnWords, SessionWordsSerial, equalSteps, EqualOnWords, EqualIn, EqualWordsSerial}
 use Rattle.history.proofs.OverStore.{store-words-serializable}
 use Rattle.history.proofs.CommitList.{as-listed, reversed, only-orders}
-use Rattle.history.proofs.WordSteps.{AllStepped, end, _⨾_, steps-history, steps-sound}
+use Rattle.history.proofs.WordSteps.{AllStepped, steps-history, steps-sound}
 
 module _ (c : Counts) (ss : List Step) where
   -- the claim, of the steps in an order of theirs
@@ -42,6 +42,11 @@ module _ (c : Counts) (ss : List Step) where
       → q ≡ viewing r LAST (decode (lent (wordsOf c ss))) .reply
       → Shows Lent decode soundWords (viewing r LAST) (lent (wordsOf c ss)) q
   shows g a r q e = record { unsound = λ f. absurd (not-both (steps-sound c ss g a) f); reply = λ f. e }
+
+-- the facts of one step, and those of the steps after it
+infixr 50 _⨾_
+_⨾_ : {A B : Type 0} → A → B → A × B
+_⨾_ a b = (a, b)
 
 session-good : goodCounts sessionCounts ≡ true
 unfolding readable
@@ -63,7 +68,7 @@ session-stepped =
     ⨾ (refl, refl, refl, refl)
     ⨾ (refl, refl, refl, refl)
     ⨾ (refl, refl, refl, refl)
-    ⨾ end
+    ⨾ tt
 
 session-size : length (wordsOf sessionCounts sessionSteps) ≡ 118
 unfolding readable sessionSteps
@@ -130,7 +135,7 @@ equal-stepped =
     ⨾ (refl, refl, refl, refl)
     ⨾ (refl, refl, refl, refl)
     ⨾ (refl, refl, refl, refl)
-    ⨾ end
+    ⨾ tt
 
 equal-size : length (wordsOf equalCounts equalSteps) ≡ 73
 unfolding readable equalSteps

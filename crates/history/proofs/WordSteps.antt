@@ -25,7 +25,7 @@ use Rattle.history.specs.StoreWords.{HistoryOn}
 use Rattle.history.specs.WordSteps.{Changes, changed, Step, callsOf, repliesOf, endOf}
 
 -- a refused call changes nothing
-abbrev pub idle : Bool → Changes → Bool
+abbrev idle : Bool → Changes → Bool
 idle false cs = true
 idle true [] = true
 idle true (c ∷ cs) = false
@@ -36,18 +36,16 @@ idle-same false cs w p q = absurd (not-both q refl)
 idle-same true [] w p q = refl
 idle-same true (c ∷ cs) w p q = absurd (not-both p refl)
 
-abbrev pub Stepped : List ℕ → List ℕ → Step → Type 0
+abbrev Stepped : List ℕ → List ℕ → Step → Type 0
 Stepped w w′ s = (s .reply ≡ act (s .call) (decode (lent w)) .reply)
     × (decode (lent w′) ≡ act (s .call) (decode (lent w)) .store)
     × (formed w′ ≡ true)
     × (idle (refused (s .reply)) (s .changes) ≡ true)
 
 -- each step, on the words that the last one left
-infixr 50 _⨾_
-pub data AllStepped : List ℕ → List Step → Type 0 where
-  end : {w : List ℕ} → AllStepped w []
-  _⨾_ : {w : List ℕ} {s : Step} {ss : List Step} → Stepped w (changed (s .changes) w) s → AllStepped (changed (s .changes) w) ss
-      → AllStepped w (s ∷ ss)
+abbrev pub AllStepped : List ℕ → List Step → Type 0
+AllStepped w [] = Unit {0}
+AllStepped w (s ∷ ss) = Stepped w (changed (s .changes) w) s × AllStepped (changed (s .changes) w) ss
 
 step-does : (w : List ℕ) (s : Step) → soundWords (lent w) ≡ true → Stepped w (changed (s .changes) w) s
     → Does Lent decode soundWords (act (s .call)) (lent w) (lent (changed (s .changes) w)) (s .reply)
@@ -65,8 +63,8 @@ step-does w s h (reply, store, form, same) =
 steps-calls : (ss : List Step) (w : List ℕ) → soundWords (lent w) ≡ true → AllStepped w ss
     → Calls Lent decode soundWords (lent w) (callsOf ss) (repliesOf ss) (lent (endOf ss w))
 unfolding callsOf repliesOf endOf
-steps-calls [] w h end = done
-steps-calls (s ∷ ss) w h (a ⨾ b) =
+steps-calls [] w h a = done
+steps-calls (s ∷ ss) w h (a, b) =
     let d = step-does w s h a in
     then d (steps-calls ss (changed (s .changes) w) (d .stays h) b)
 
@@ -92,8 +90,8 @@ steps-history c ss w g a n = (
 -- and the words at its end are sound
 sound-left : (ss : List Step) (w : List ℕ) → soundWords (lent w) ≡ true → AllStepped w ss → soundWords (lent (endOf ss w)) ≡ true
 unfolding endOf
-sound-left [] w h end = h
-sound-left (s ∷ ss) w h (a ⨾ b) = sound-left ss (changed (s .changes) w) (step-does w s h a .stays h) b
+sound-left [] w h a = h
+sound-left (s ∷ ss) w h (a, b) = sound-left ss (changed (s .changes) w) (step-does w s h a .stays h) b
 
 pub steps-sound : (c : Counts) (ss : List Step) → goodCounts c ≡ true → AllStepped (formattedWords c) ss
     → soundWords (lent (endOf ss (formattedWords c))) ≡ true
