@@ -8,12 +8,13 @@ use lib.ListN.{length}
 use lib.Dec.{eqb}
 use borrow.Author.Tests.{eq-eqb}
 use Rattle.meaning.specs.Store.{Store}
-use Rattle.meaning.specs.Replies.{ok, refused}
+use Rattle.meaning.specs.Replies.{Reply, ok, refused}
 use Rattle.meaning.specs.Records.{goodCounts}
 use Rattle.meaning.specs.Calls.{act}
 use Rattle.meaning.specs.Sound.{soundStore}
 use Rattle.meaning.specs.Contract.{Does}
 use Rattle.meaning.specs.declared.Counts.{Counts}
+use Rattle.meaning.specs.declared.Call.{Call}
 use Rattle.meaning.proofs.Lists.{and-in, and-right, not-both}
 use Rattle.meaning.proofs.Laws.{calls-keep-sound}
 use Rattle.tables.specs.Layout.{sizeOf}
@@ -47,18 +48,27 @@ abbrev pub AllStepped : List ℕ → List Step → Type 0
 AllStepped w [] = Unit {0}
 AllStepped w (s ∷ ss) = Stepped w (changed (s .changes) w) s × AllStepped (changed (s .changes) w) ss
 
+-- the contract of a call on sound words, from its reply, what the words mean after it, and their form
+pub word-does : (c : Call) (w w′ : List ℕ) (q : Reply) → soundWords (lent w) ≡ true
+    → q ≡ act c (decode (lent w)) .reply
+    → decode (lent w′) ≡ act c (decode (lent w)) .store
+    → formed w′ ≡ true
+    → (refused q ≡ true → w′ ≡ w)
+    → Does Lent decode soundWords (act c) (lent w) (lent w′) q
+unfolding soundWords
+word-does c w w′ q h reply store form same =
+    record {
+      unsound = λ e. absurd (not-both h e);
+      reply = λ e. reply;
+      store = λ e. store;
+      stays = λ e. and-in form (ap soundStore store ∙ calls-keep-sound c (decode (lent w)) (and-right (formed w) (soundStore (decode (lent w))) h));
+      unchanged = λ e. ap lent (same e);
+    }
+
 step-does : (w : List ℕ) (s : Step) → soundWords (lent w) ≡ true → Stepped w (changed (s .changes) w) s
     → Does Lent decode soundWords (act (s .call)) (lent w) (lent (changed (s .changes) w)) (s .reply)
-unfolding soundWords
 step-does w s h (reply, store, form, same) =
-    record {
-      unsound = λ q. absurd (not-both h q);
-      reply = λ q. reply;
-      store = λ q. store;
-      stays = λ q.
-          and-in form (ap soundStore store ∙ calls-keep-sound (s .call) (decode (lent w)) (and-right (formed w) (soundStore (decode (lent w))) h));
-      unchanged = λ q. ap lent (idle-same (refused (s .reply)) (s .changes) w same q);
-    }
+    word-does (s .call) w (changed (s .changes) w) (s .reply) h reply store form (idle-same (refused (s .reply)) (s .changes) w same)
 
 steps-calls : (ss : List Step) (w : List ℕ) → soundWords (lent w) ≡ true → AllStepped w ss
     → Calls Lent decode soundWords (lent w) (callsOf ss) (repliesOf ss) (lent (endOf ss w))
@@ -69,7 +79,7 @@ steps-calls (s ∷ ss) w h (a, b) =
     then d (steps-calls ss (changed (s .changes) w) (d .stays h) b)
 
 -- Format replies `ok` on every slice of the right length
-formats-any : (c : Counts) (w : List ℕ) → goodCounts c ≡ true → length w ≡ sizeOf c → Formats c w (formattedWords c) ok
+pub formats-any : (c : Counts) (w : List ℕ) → goodCounts c ≡ true → length w ≡ sizeOf c → Formats c w (formattedWords c) ok
 unfolding formatFits
 formats-any c w g n =
     record { refused = λ e. absurd (not-both (and-in g (eq-eqb (length w) (sizeOf c) n)) e); done = λ e. (refl, refl) }
