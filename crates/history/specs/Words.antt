@@ -8,11 +8,15 @@ use mathlib.Core.List.{List, [], _∷_}
 use Rattle.meaning.specs.Limits.{LAST}
 use Rattle.meaning.specs.Store.{Val, Store, fresh}
 use Rattle.meaning.specs.Replies.{Reply, at}
-use Rattle.meaning.specs.Records.{goodCounts, viewing}
+use Rattle.meaning.specs.Edits.{beginning, writing}
+use Rattle.meaning.specs.Locking.{locking, reading}
+use Rattle.meaning.specs.Ending.{committing, aborting, settling}
+use Rattle.meaning.specs.Records.{goodCounts, purging, viewing}
 use Rattle.meaning.specs.Calls.{act, run, after}
 use Rattle.meaning.specs.Sound.{soundStore}
 use Rattle.meaning.specs.declared.Counts.{Counts}
 use Rattle.meaning.specs.declared.Call.{Call}
+use Rattle.meaning.specs.declared.Call.the-variants as C
 use Rattle.serial.specs.History.{Seq, History, Commits, plainEnd, PlainFits}
 use Rattle.serial.specs.Claim.{CommitOrder}
 use Rattle.history.specs.Heard.{shownValue, history}
@@ -25,6 +29,22 @@ module _ (Lent : Type 0) (decode : Lent → Store) (soundLent : Lent → Bool) w
     then : {w w₁ w₂ : Lent} {c : Call} {q : Reply} {cs : List Call} {qs : List Reply} → Does Lent decode soundLent (act c) w w₁ q
         → Calls w₁ cs qs w₂
         → Calls w (c ∷ cs) (q ∷ qs) w₂
+
+  -- The premise of a call is the contract of `perform`, which takes a call of any kind. What the public function of each kind ensures is the
+  -- same record; View is lent its words to read, so that they are the same afterwards
+  abbrev pub Ensures : Call → Lent → Lent → Reply → Type 0
+  Ensures C.Begin w w′ q = Does Lent decode soundLent beginning w w′ q
+  Ensures (C.Write h r v) w w′ q = Does Lent decode soundLent (writing (h .0) r v) w w′ q
+  Ensures (C.Lock h r low high e) w w′ q = Does Lent decode soundLent (locking (h .0) r (low .0) (high .0) e) w w′ q
+  Ensures (C.Read h r m e) w w′ q = Does Lent decode soundLent (reading (h .0) r (m .0) e) w w′ q
+  Ensures (C.Commit h pick f) w w′ q = Does Lent decode soundLent (committing (h .0) pick f) w w′ q
+  Ensures (C.Abort h f) w w′ q = Does Lent decode soundLent (aborting (h .0) f) w w′ q
+  Ensures (C.Settle h) w w′ q = Does Lent decode soundLent (settling (h .0)) w w′ q
+  Ensures (C.Purge r b) w w′ q = Does Lent decode soundLent (purging r (b .0)) w w′ q
+  Ensures (C.View r p) w w′ q = Shows Lent decode soundLent (viewing r (p .0)) w q × (w′ ≡ w)
+
+  abbrev pub EnsuresDoes : Type 0
+  EnsuresDoes = (c : Call) (w w′ : Lent) (q : Reply) → Ensures c w w′ q → Does Lent decode soundLent (act c) w w′ q
 
   -- the list follows one Format
   pub record Listed (counts : Counts) (cs : List Call) (qs : List Reply) (end : Lent) : Type 0 where
