@@ -1,5 +1,5 @@
--- The edits that committed are those of the computed list `commitsOf`; two edits in it make an order, and no others (`only-orders`). Rests on
--- Names of the crate serial.
+-- The edits that committed are those of the computed list `commitsOf`; two edits in it make an order, and no others
+-- (`only-orders`). Rests on Names of the crate serial.
 use Prim.Native.Nat.{ℕ, _≤_, _<_}
 use native.Mathlib.Omega.{arith}
 use mathlib.Core.Path.{_≡_, refl, sym, ap, _∙_}

@@ -1,6 +1,6 @@
--- Contracts from contracts: a call that only looks, and what the public function of each kind ensures (`ensures-does`), give the premise of a
--- call in a history; and the abstract store itself, lent as it is, has the contracts, so that every list of calls is a history
--- (`every-list-listed`). Rests on the laws of the crate meaning.
+-- Contracts from contracts: a call that only looks, and what the public function of each kind ensures (`ensures-does`),
+-- give the premise of a call in a history; and the abstract store itself, lent as it is, has the contracts, so that
+-- every list of calls is a history (`every-list-listed`). Rests on the laws of the crate meaning.
 use Prim.Native.Nat.{ℕ}
 use mathlib.Core.Path.{_≡_, refl, sym}
 use mathlib.Core.Bool.{Bool, true}

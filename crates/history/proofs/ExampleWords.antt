@@ -1,5 +1,6 @@
--- The session of document 01 and two edits with one commit point over words: the contract of each call computed, so that they are histories, their
--- committed edits and orders, and what the claim says of them. Rests on WordSteps, OverStore and CommitList.
+-- The session of document 01 and two edits with one commit point over words: the contract of each call computed, so
+-- that they are histories, their committed edits and orders, and what the claim says of them. Rests on WordSteps,
+-- OverStore and CommitList.
 use Prim.Native.Nat.{ℕ, _≤_}
 use native.Mathlib.Omega.{arith}
 use mathlib.Core.Path.{_≡_, refl, sym, _∙_}

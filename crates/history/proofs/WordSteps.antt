@@ -1,5 +1,6 @@
--- Steps over words are a history (`steps-history`), from four equations for each step, which compute: its reply, what the words mean after it,
--- that they are well formed, and that a refused call changes none. That the meaning stays sound is the law of the calls. Rests on WordSteps.
+-- Steps over words are a history (`steps-history`), from four equations for each step, which compute: its reply, what
+-- the words mean after it, that they are well formed, and that a refused call changes none. That the meaning stays
+-- sound is the law of the calls. Rests on WordSteps.
 use Prim.Native.Nat.{ℕ}
 use mathlib.Core.Path.{_≡_, refl, sym, ap, _∙_}
 use mathlib.Core.Bool.{Bool, true, false, _&&_}

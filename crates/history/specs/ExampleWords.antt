@@ -1,6 +1,6 @@
--- The histories of Examples over words: the session of document 01 in its 118 words, and two edits that commit at one point, in 73. The words were
--- taken from a run of the store; that they keep its contracts is proved in proofs/ExampleWords, where the theorems have the same names. Rests on
--- StoreWords, WordSteps and Examples.
+-- The histories of Examples over words: the session of document 01 in its 118 words, and two edits that commit at one
+-- point, in 73. The words were taken from a run of the store; that they keep its contracts is proved in
+-- proofs/ExampleWords, where the theorems have the same names. Rests on StoreWords, WordSteps and Examples.
 use Prim.Native.Nat.{ℕ}
 use mathlib.Core.Path.{_≡_}
 use mathlib.Core.Logic.{_⊎_}
@@ -60,8 +60,8 @@ on h = record { 0 = h }
 abbrev to : ℕ → Point
 to p = record { 0 = p }
 
--- the session's calls with their replies and the words that they change: the header from 0, records from 8, slots from 14, versions from
--- 22, locks from 38, accesses from 78
+-- the session's calls with their replies and the words that they change: the header from 0, records from 8, slots from
+-- 14, versions from 22, locks from 38, accesses from 78
 unfoldable pub sessionSteps : List Step
 sessionSteps =
     step C.Begin (edit 65) ((14, 1) ∷ (15, 1) ∷ [])
@@ -98,8 +98,8 @@ pub record SessionWordsSerial : Type 0 where
   pub first : EndsWith sessionCounts sessionSteps (ε ▸ 1 ▸ 2) 0 (some 501) 7
   pub second : EndsWith sessionCounts sessionSteps (ε ▸ 1 ▸ 2) 1 none 0
 
--- two edits read record 0 up to 5, write a record each, and commit at 5: records from 8, slots from 17, versions from 25, locks from 33,
--- accesses from 53
+-- two edits read record 0 up to 5, write a record each, and commit at 5: records from 8, slots from 17, versions from
+-- 25, locks from 33, accesses from 53
 unfoldable pub equalSteps : List Step
 equalSteps =
     step C.Begin (edit 65) ((17, 1) ∷ (18, 1) ∷ [])

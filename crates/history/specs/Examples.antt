@@ -1,5 +1,5 @@
--- Histories that show that the claim is not empty: the session of document 01, and two edits that commit at one point. The theorems are in
--- proofs/Examples, under the same names. Rests on Statement.
+-- Histories that show that the claim is not empty: the session of document 01, and two edits that commit at one point.
+-- The theorems are in proofs/Examples, under the same names. Rests on Statement.
 use Prim.Native.Nat.{ℕ}
 use mathlib.Core.Path.{_≡_}
 use mathlib.Core.List.{List, [], _∷_}

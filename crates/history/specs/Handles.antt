@@ -1,5 +1,6 @@
--- "So a stale handle is good again after 65,536 begins in its slot. Histories name an edit by its begin, not by its handle." A history in
--- which a handle is given twice; the theorem is `given-twice` in proofs/Handles. Rests on Statement and StoreWords.
+-- "So a stale handle is good again after 65,536 begins in its slot. Histories name an edit by its begin, not by its
+-- handle." A history in which a handle is given twice; the theorem is `given-twice` in proofs/Handles. Rests on
+-- Statement and StoreWords.
 use Prim.Native.Nat.{ℕ, zero, suc, _+_, _*_, _%_, _≤_}
 use mathlib.Core.Path.{_≡_}
 use mathlib.Core.List.{List, [], _∷_, _++_}
@@ -41,8 +42,8 @@ slotWords state g = 1 ∷ 1 ∷ 1 ∷ 1 ∷ 1 ∷ 1 ∷ 1 ∷ 1 ∷ 0 ∷ 0 ∷ 
 pub record GivenTwice : Type 0 where
   -- the Begin after n rounds gives the handle of generation n + 1, modulo 65,536; it is call 2 × n + 1 of the list
   pub each : (n : ℕ) → BegunAfter n (handle ((n + 1) % GENERATIONS) 1) (2 * n + 1)
-  -- So the first Begin gives the handle 65. It names edit 1 through 65,536 rounds, in which no other Begin gives it, and the Begin after them,
-  -- 65,536 begins after the first, gives it again: it then names edit 131,073
+  -- So the first Begin gives the handle 65. It names edit 1 through 65,536 rounds, in which no other Begin gives it,
+  -- and the Begin after them, 65,536 begins after the first, gives it again: it then names edit 131,073
   pub first : BegunAfter 0 65 1
   pub until : (n : ℕ) → 1 ≤ n → n ≤ GENERATIONS → editOf (replied oneSlot (rounds n 0)) 65 ≡ 1
   pub again : BegunAfter GENERATIONS 65 131073

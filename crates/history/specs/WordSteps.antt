@@ -1,5 +1,5 @@
--- Lists of calls over words, written down: each call with its reply and the words that it changes. Rests on the words of
--- `tables` and `format`.
+-- Lists of calls over words, written down: each call with its reply and the words that it changes. Rests on the words
+-- of `tables` and `format`.
 use Prim.Native.Nat.{ℕ}
 use mathlib.Core.List.{List, [], _∷_}
 use lib.ListN.{set}
@@ -44,7 +44,8 @@ unfoldable pub endOf : List Step → List ℕ → List ℕ
 endOf [] w = w
 endOf (s ∷ ss) w = endOf ss (changed (s .changes) w)
 
--- `unfolding readable` opens every definition that closed words and steps compute with: their form, their meaning, formatted words
+-- `unfolding readable` opens every definition that closed words and steps compute with: their form, their meaning,
+-- formatted words
 unfoldable pub readable : Unit {0}
 unfolding changed callsOf repliesOf endOf blankWords nextFree linkedTo linked formattedWords decode build versionAt lockAt accessAt versionRows lockRows accessRows versionsOf locksOf accessesOf floorOf recordAt slotAt recordsOf editsOf decodeAt slotBase versionBase lockBase accessBase sizeOf recordTable slotTable versionTable lockTable accessTable versionHeads lockHeads accessHeads countsOf headerOk versionsParted locksParted accessesParted locksNamed marksListed formedAt formed place field chain ended headCell headOf rowsOf endedOf among rows ends occ sumTo allTo allOf onChains partition goodCounts
 readable = tt

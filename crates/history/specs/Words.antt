@@ -1,6 +1,7 @@
--- Demand 3 over what the store is lent: a list of calls with their replies in which neighbours are related by the contracts of the public
--- calls, from one Format that replied `ok`. Whoever uses the store through its contracts has such a list. Rests on Contract and Heard; the
--- theorems are in proofs/OverWords and proofs/Contracts, under the same names.
+-- Demand 3 over what the store is lent: a list of calls with their replies in which neighbours are related by the
+-- contracts of the public calls, from one Format that replied `ok`. Whoever uses the store through its contracts has
+-- such a list. Rests on Contract and Heard; the theorems are in proofs/OverWords and proofs/Contracts, under the same
+-- names.
 use Prim.Native.Nat.{ℕ, _<_}
 use mathlib.Core.Path.{_≡_}
 use mathlib.Core.Bool.{Bool, true}
@@ -30,8 +31,8 @@ module _ (Lent : Type 0) (decode : Lent → Store) (soundLent : Lent → Bool) w
         → Calls w₁ cs qs w₂
         → Calls w (c ∷ cs) (q ∷ qs) w₂
 
-  -- The premise of a call is the contract of `perform`, which takes a call of any kind. What the public function of each kind ensures is the
-  -- same record; View is lent its words to read, so that they are the same afterwards
+  -- The premise of a call is the contract of `perform`, which takes a call of any kind. What the public function of
+  -- each kind ensures is the same record; View is lent its words to read, so that they are the same afterwards
   abbrev pub Ensures : Call → Lent → Lent → Reply → Type 0
   Ensures C.Begin w w′ q = Does Lent decode soundLent beginning w w′ q
   Ensures (C.Write h r v) w w′ q = Does Lent decode soundLent (writing (h .0) r v) w w′ q
@@ -52,8 +53,8 @@ module _ (Lent : Type 0) (decode : Lent → Store) (soundLent : Lent → Bool) w
     pub format : Formats Lent decode soundLent counts start
     pub calls : Calls start cs qs end
 
-  -- the plain run of the history l in the order o, and what the store is lent at the end of l: what a View at LAST replies there, by its
-  -- contract, is the plain run's value
+  -- the plain run of the history l in the order o, and what the store is lent at the end of l: what a View at LAST
+  -- replies there, by its contract, is the plain run's value
   pub record SerialWords (records : ℕ) (l : History Val) (end : Lent) (o : Seq ℕ) : Type 0 where
     pub reads : PlainFits l o
     pub newest : (r : ℕ) (q : Reply) → r < records → Shows Lent decode soundLent (viewing r LAST) end q
@@ -72,8 +73,8 @@ module _ (Lent : Type 0) (decode : Lent → Store) (soundLent : Lent → Bool) w
   WordsPointIsOne = (counts : Counts) (cs : List Call) (qs : List Reply) (end : Lent) → Listed counts cs qs end
       → (e p t : ℕ) → Commits (history cs qs) e p → Commits (history cs qs) e t → p ≡ t
 
--- The premises can be met: the abstract store itself, lent as it is, keeps the contracts, so that every list of calls with its replies is
--- such a list.
+-- The premises can be met: the abstract store itself, lent as it is, keeps the contracts, so that every list of calls
+-- with its replies is such a list.
 abbrev pub EveryListListed : Type 0
 EveryListListed = (counts : Counts) (cs : List Call) → goodCounts counts ≡ true
     → Listed Store (λ s. s) soundStore counts cs (run cs (fresh counts)) (after cs (fresh counts))
