@@ -231,8 +231,8 @@ pub given-twice : GivenTwice
 given-twice =
     record {
       each = λ n. begun-after n (handle ((n + 1) % GENERATIONS) 1) (2 * n + 1) refl refl;
-      first = begun-after 0 65 1 refl refl;
+      first = begun-after 0 _ _ refl refl;
       until = until;
-      again = begun-after GENERATIONS 65 131073 refl refl;
+      again = begun-after GENERATIONS _ _ refl refl;
       words = on-words;
     }
