@@ -1,7 +1,7 @@
 -- The laws of the meaning, as statements: each computed definition is what document 01 says point by point, every call
 -- keeps a sound store sound, and a call is refused only for the cause that the table names. The theorem of each is in
 -- proofs/Laws, under the same name.
-use Prim.Native.Nat.{ℕ, suc, _≤_, _<_}
+use Prim.Native.Nat.{ℕ, suc, _+_, _*_, _≤_, _<_}
 use mathlib.Core.Path.{_≡_}
 use mathlib.Core.Logic.{_⊎_, _↔_}
 use mathlib.Core.Bool.{Bool, true, false}
@@ -115,3 +115,12 @@ FormatRefusedForCause = (fits : Bool) (c : Counts) (s : Store)
 -- (g) 6 "reading, seat ... too large": Point, for its cause
 abbrev pub PointRefusedForCause : Type 0
 PointRefusedForCause = (reading seat : ℕ) → Refuses 6 (pointing reading seat) ↔ ((READINGS ≤ reading) ⊎ (SEATS ≤ seat))
+
+-- "The paper's timestamp is that pair in lexicographic order": points order as the pairs of reading and seat do
+abbrev pub PointsOrderAsPairs : Type 0
+PointsOrderAsPairs = (r s q t : ℕ) → s < SEATS → t < SEATS
+    → (r * SEATS + s < q * SEATS + t) ↔ ((r < q) ⊎ ((r ≡ q) × (s < t)))
+
+-- "so points run from 0 to 70,368,744,177,663 (LAST)": the numbers up to LAST are those that a reading and a seat make
+abbrev pub PointsRunToLast : Type 0
+PointsRunToLast = (p : ℕ) → (p ≤ LAST) ↔ ((r : ℕ) × (s : ℕ) × (r < READINGS) × (s < SEATS) × (p ≡ r * SEATS + s))
