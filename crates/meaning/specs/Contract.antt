@@ -1,5 +1,5 @@
 -- What the public calls promise of what they are lent: the meaning and the soundness of it are parameters. Rests on
--- Outcomes and Records of the crate meaning.
+-- Outcomes and Records.
 use mathlib.Core.Path.{_≡_}
 use mathlib.Core.Bool.{Bool, true, false}
 use mathlib.Core.List.{[]}

@@ -23,7 +23,7 @@ abbrev pub freed : Edit → Edit
 freed e = record { state = FREE; generation = e .generation; accesses = []; point = 0 }
 
 -- "a settled read lock tr + 1..t for each record read and a settled write lock on t for each written": those left by
--- the access a, before the locks ls
+-- the access a, in front of the locks ls
 abbrev pub locksLeft : Edit → Access → List Lock → List Lock
 locksLeft e a ls =
     leaveSettled (a .written) WRITE (e .point) (e .point) (leaveSettled (hasRead a) READ (a .from) (e .point) ls)

@@ -90,8 +90,8 @@ CallsKeepSound = (c : Call) (s : Store) → soundStore s ≡ true → soundStore
 abbrev pub RefusalChangesNothing : Type 0
 RefusalChangesNothing = (c : Call) (s : Store) → refused (act c s .reply) ≡ true → act c s .store ≡ s
 
--- (g) of a sound store the reply is what an item says exactly if that item is the first of the order that stands: `no
--- n` exactly if cause n stands and none before it
+-- (g) of a sound store the reply is what an item says exactly if that item is the first of the order that stands: for
+-- a refusal, `no n` exactly if cause n stands and none before it
 abbrev pub RefusedForCause : Type 0
 RefusedForCause = (c : Call) (s : Store) → soundStore s ≡ true → (i : Item) → Says i (act c s .reply) ↔ First c s i order
 

@@ -19,12 +19,12 @@ module _ {A : Type 0} where
   all p [] = true
   all p (x ∷ xs) = p x && all p xs
 
-  -- some element passes; for Store.names, Points.covered and frozen, and the clauses of Sound
+  -- some element passes; for Store.names, Points.covered and frozen, Records.purgeVerdict and the clauses of Sound
   abbrev pub any : (A → Bool) → List A → Bool
   any p [] = false
   any p (x ∷ xs) = p x || any p xs
 
-  -- the elements that pass, in their order; for the lock lists of Points and the versions that a purge leaves
+  -- the elements that pass, in their order; for Store.writtenOf, the lock lists of Points and Records.purgedRec
   abbrev pub keep : (A → Bool) → List A → List A
   keep p [] = []
   keep p (x ∷ xs) = cond (p x) (x ∷ keep p xs) (keep p xs)
