@@ -8,13 +8,12 @@ use lib.Dec.{leb, ltb}
 use borrow.Author.Tests.{ltb-true, lt-ltb, le-ltb, le-leb, lt-leb}
 use Rattle.chains.specs.Walk.{IsRow}
 use Rattle.meaning.specs.Limits.{LAST, READ}
-use Rattle.meaning.specs.Store.{Rec, Edit, Store, slotOf, editOf, editAt, recAt, accessOf, newestBelow, versionOn, withEdit}
+use Rattle.meaning.specs.Store.{Rec, Edit, Store, slotOf, editAt, recAt, accessOf, newestBelow, versionOn, locksUsed}
 use Rattle.meaning.specs.Points.{addLock}
 use Rattle.meaning.specs.Replies.{Reply, read, own, again, refusing}
 use Rattle.meaning.specs.Outcomes.{Outcome, replies, refuse, knows, isOpen, hasRecord, isPoint, judge, accessRoom, lockRoom}
 use Rattle.meaning.specs.Edits.{withAccess}
 use Rattle.meaning.specs.Locking.{withLock, readVersion, readFrom, readStore, readNew, readOpen, reading}
-use Rattle.meaning.specs.Sound.{namesOnce}
 use Rattle.meaning.specs.declared.Access.{Access}
 use Rattle.meaning.specs.declared.Counts.{Counts}
 use Rattle.meaning.specs.declared.Extent.{Extent}
@@ -34,7 +33,7 @@ use Rattle.calls.specs.declared.Grant.{Grant}
 use Rattle.calls.specs.declared.Grant.the-variants.{Taken, Blocked}
 use Rattle.calls.proofs.Acting.{ready, facts, makes-refused, makes-done, makes-as, acts}
 use Rattle.calls.proofs.Handles.{has-record-is}
-use Rattle.calls.proofs.Rooms.{once, lock-leaves-edits, lock-leaves-room}
+use Rattle.calls.proofs.Rooms.{lock-free, edit-leaves-room, edit-then-lock}
 use Rattle.calls.proofs.ReadExits.{read-no-edit, read-ended, read-no-record, read-bad-point, read-passes, read-own, read-again, read-first, read-below, read-blocked, read-granted-is, read-no-access, read-no-lock, read-done}
 
 -- the lock and the access of a read, of the version v
@@ -47,28 +46,22 @@ module _ (c : Counts) (w : List ℕ) (R : Ready c w) (k r from end : ℕ) (v : V
     taken-no-lock e = makes-refused c w (readTaken (decodeAt c w) k r from end v) 11 [] (R .well) (read-no-lock (decodeAt c w) k r from end v a e)
 
     module _ (l : lockRoom (decodeAt c w) ≡ true) (w₁ : List ℕ)
-        (B : Becomes c w₁ (onLocks (decodeAt c w) r (addLock (record { low = from; high = end; mode = READ; owner = k })))) where
-      with-lock : decodeAt c w₁ ≡ withLock (decodeAt c w) r READ k from end
-      unfolding withLock
-      with-lock = B .means
+        (B : Becomes c w₁ (onEdit (decodeAt c w) k (λ x. withAccess x (record { rec = r; from = from; written = false; value = 0 })))) where
+      abbrev changed : Edit
+      changed = withAccess (editAt (decodeAt c w) k) (record { rec = r; from = from; written = false; value = 0 })
 
-      same-edits : decodeAt c w₁ .edits ≡ decodeAt c w .edits
-      same-edits = ap (λ (s : Store). s .edits) with-lock ∙ lock-leaves-edits (decodeAt c w) r READ k from end
-
-      pub taken-asks : IsRow (c .edits) k → Well c w₁ × IsRow (c .edits) k × (namesOnce (editAt (decodeAt c w₁) k) ≡ true) × (accessRoom (decodeAt c w₁) k r ≡ true)
-      taken-asks i =
-          (B .well, i, rw same-edits (once c w R k), ap (λ (s : Store). accessRoom s k r) with-lock ∙ lock-leaves-room (decodeAt c w) r READ k from end k r ∙ a)
+      pub taken-room : locksUsed (decodeAt c w₁) < c .locks
+      taken-room = lock-free c w₁ (ap lockRoom (B .means) ∙ edit-leaves-room (decodeAt c w) k changed ∙ l)
 
       pub taken-done : (w′ : List ℕ) (p q : ℕ)
-          → Becomes c w′ (onEdit (decodeAt c w₁) k (λ x. withAccess x (record { rec = r; from = from; written = false; value = 0 })))
+          → Becomes c w′ (onLocks (decodeAt c w₁) r (addLock (record { low = from; high = end; mode = READ; owner = k })))
           → p ≡ v .point → q ≡ end → Makes c (readTaken (decodeAt c w) k r from end v) w w′ (read p q (v .value))
-      unfolding readStore
+      unfolding readStore withLock
       taken-done w′ p q D i j =
-          let a′ : Access = record { rec = r; from = from; written = false; value = 0 } in
           let m : decodeAt c w′ ≡ readStore (decodeAt c w) k r from end =
           D .means
-          ∙ ap (λ (es : List Edit). withEdit (decodeAt c w₁) k (withAccess (editOf es k) a′)) same-edits
-          ∙ ap (λ (s : Store). withEdit s k (withAccess (editAt (decodeAt c w) k) a′)) with-lock in
+          ∙ ap (λ (s : Store). withLock s r READ k from end) (B .means)
+          ∙ edit-then-lock (decodeAt c w) k changed r READ k from end in
           rw (i, j)
           (makes-done c w (readTaken (decodeAt c w) k r from end v) w′ (readStore (decodeAt c w) k r from end) (read (v .point) end (v .value)) (D .well) m
           (read-done (decodeAt c w) k r from end v a l) refl)

@@ -1,4 +1,4 @@
--- Rooms and parts of the store before and after a lock is added: an added lock leaves the edits as they are. Rests on Acting.
+-- Rooms, and parts of the store before and after an edit is changed: a changed edit leaves the locks as they are. Rests on Acting.
 use Prim.Native.Nat.{ℕ, _≤_, _<_}
 use mathlib.Core.Path.{_≡_, refl, sym, ap, _∙_}
 use mathlib.Core.Bool.{true}
@@ -6,8 +6,8 @@ use mathlib.Core.List.{List}
 use native.Mathlib.Omega.{arith}
 use Rattle.chains.specs.Walk.{IsRow}
 use Rattle.meaning.specs.Limits.{MAX-EDITS, LAST}
-use Rattle.meaning.specs.Store.{Rec, Edit, Store, editAt, recAt, withRecords, locksUsed, accessesUsed, names}
-use Rattle.meaning.specs.Outcomes.{accessRoom, lockRoom}
+use Rattle.meaning.specs.Store.{Edit, Store, editAt, withEdit, withRecords, locksUsed}
+use Rattle.meaning.specs.Outcomes.{lockRoom}
 use Rattle.meaning.specs.Locking.{withLock}
 use Rattle.meaning.specs.Sound.{namesOnce}
 use Rattle.meaning.specs.declared.Counts.{Counts}
@@ -30,12 +30,12 @@ module _ (c : Counts) (w : List ℕ) where
   pub once : Ready c w → (k : ℕ) → namesOnce (editAt (decodeAt c w) k) ≡ true
   once R k = facts c w R .edits k .once
 
--- an added lock leaves the edits
-module _ (s : Store) (r mode k low high : ℕ) where
-  pub lock-leaves-edits : withLock s r mode k low high .edits ≡ s .edits
-  unfolding withLock withRecords
-  lock-leaves-edits = refl
+-- a changed edit leaves the locks, so that it may be stored before or after a lock
+module _ (s : Store) (k : ℕ) (e : Edit) where
+  pub edit-leaves-room : lockRoom (withEdit s k e) ≡ lockRoom s
+  unfolding withEdit lockRoom locksUsed
+  edit-leaves-room = refl
 
-  pub lock-leaves-room : (j i : ℕ) → accessRoom (withLock s r mode k low high) j i ≡ accessRoom s j i
-  unfolding withLock withRecords accessRoom accessesUsed
-  lock-leaves-room j i = refl
+  pub edit-then-lock : (r mode o low high : ℕ) → withLock (withEdit s k e) r mode o low high ≡ withEdit (withLock s r mode o low high) k e
+  unfolding withLock withEdit withRecords
+  edit-then-lock r mode o low high = refl

@@ -14,7 +14,7 @@ ghost use Rattle.meaning.specs.Outcomes.{refuse, handleAt, judge};
 ghost use Rattle.meaning.specs.Records.{viewing};
 ghost use Rattle.meaning.specs.Replies.{number, details, ofBegin, ofWrite, ofLock, ofRead, ofView};
 ghost use Rattle.meaning.specs.Store.{slotOf, editAt};
-ghost use Rattle.tables.specs.Decode.{recordAt, decodeAt};
+ghost use Rattle.tables.specs.Decode.{recordAt, decodeAt, AccessRow};
 ghost use Rattle.tables.specs.Layout.{headerOk, Fits};
 ghost use Rattle.tables.specs.Words.{lent, decode, soundWords};
 ghost use Rattle.calls.specs.Contract.{Acts, Ready, Makes};
@@ -154,15 +154,17 @@ fn write_open(w: &mut [u64], c: Counts, k: usize, rec: u64, pending: u64) -> Wri
     requires { ⌜ Ready c (now w) × IsRow (c .edits) k ⌝ }
     ensures { λ r. ⌜ Makes c (writeOpen (decodeAt c (now (w .entry))) k rec pending) (now (w .entry)) (now (w .exit)) (ofWrite r) ⌝ }
 {
-    if !lookups::access_room(w, c, k, rec) {
+    let i = lookups::access_row(w, c, k, rec);
+    if !lookups::access_room(w, c, i) {
         return WriteReply::Refused(Refusal::NoAccessRow);
     }
-    let a = lookups::access_of(w, c, k, rec);
+    let a = lookups::access_in(w, c, rec, i);
     let from = a.from;
     changes::set_access(
         w,
         c,
         k,
+        i,
         Access {
             rec,
             from,
@@ -268,19 +270,32 @@ fn read_taken(
     c: Counts,
     k: usize,
     r: usize,
+    i: usize,
     from: u64,
     end: u64,
     v: Version,
 ) -> ReadReply
-    requires { ⌜ Ready c (now w) × IsRow (c .edits) k × (r < c .records) ⌝ }
+    requires { ⌜ Ready c (now w) × IsRow (c .edits) k × (r < c .records) × AccessRow c (now w) k r i ⌝ }
     ensures { λ q. ⌜ Makes c (readTaken (decodeAt c (now (w .entry))) k r from end v) (now (w .entry)) (now (w .exit)) (ofRead q) ⌝ }
 {
-    if !lookups::access_room(w, c, k, r as u64) {
+    if !lookups::access_room(w, c, i) {
         return ReadReply::Refused(Refusal::NoAccessRow);
     }
     if !lookups::lock_room(w, c) {
         return ReadReply::Refused(Refusal::NoLockRow);
     }
+    changes::set_access(
+        w,
+        c,
+        k,
+        i,
+        Access {
+            rec: r as u64,
+            from,
+            written: false,
+            value: 0,
+        },
+    );
     changes::add_lock(
         w,
         c,
@@ -292,17 +307,6 @@ fn read_taken(
             owner: k as u64,
         },
     );
-    changes::set_access(
-        w,
-        c,
-        k,
-        Access {
-            rec: r as u64,
-            from,
-            written: false,
-            value: 0,
-        },
-    );
     let value = v.value;
     ReadReply::Read(
         meaning::point_of_word(v.point),
@@ -311,9 +315,17 @@ fn read_taken(
     )
 }
 
-// Read, of a record that the edit has neither written nor read.
-fn read_new(w: &mut [u64], c: Counts, k: usize, r: usize, m: u64, extent: Extent) -> ReadReply
-    requires { ⌜ Ready c (now w) × IsRow (c .edits) k × (r < c .records) × (m ≤ LAST) ⌝ }
+// Read, of a record that the edit has neither written nor read; i is the row of its access, or 0.
+fn read_new(
+    w: &mut [u64],
+    c: Counts,
+    k: usize,
+    r: usize,
+    i: usize,
+    m: u64,
+    extent: Extent,
+) -> ReadReply
+    requires { ⌜ Ready c (now w) × IsRow (c .edits) k × (r < c .records) × (m ≤ LAST) × AccessRow c (now w) k r i ⌝ }
     ensures { λ q. ⌜ Makes c (readNew (decodeAt c (now (w .entry))) k r m extent) (now (w .entry)) (now (w .exit)) (ofRead q) ⌝ }
 {
     if m <= tables::floor_of(w, c, r) {
@@ -322,7 +334,7 @@ fn read_new(w: &mut [u64], c: Counts, k: usize, r: usize, m: u64, extent: Extent
     let v = lookups::newest_below(w, c, r, m);
     match read_grant(w, c, extent, k as u64, r, v.point + 1, m) {
         Grant::Blocked(p) => ReadReply::Refused(judge(w, c, r, READ, k as u64, p)),
-        Grant::Taken(from, end) => read_taken(w, c, k, r, from, end, v),
+        Grant::Taken(from, end) => read_taken(w, c, k, r, i, from, end, v),
     }
 }
 
@@ -331,7 +343,8 @@ fn read_open(w: &mut [u64], c: Counts, k: usize, r: usize, m: u64, extent: Exten
     requires { ⌜ Ready c (now w) × IsRow (c .edits) k × (r < c .records) × (m ≤ LAST) ⌝ }
     ensures { λ q. ⌜ Makes c (readOpen (decodeAt c (now (w .entry))) k r m extent) (now (w .entry)) (now (w .exit)) (ofRead q) ⌝ }
 {
-    let a = lookups::access_of(w, c, k, r as u64);
+    let i = lookups::access_row(w, c, k, r as u64);
+    let a = lookups::access_in(w, c, r as u64, i);
     if a.written {
         return ReadReply::Own(a.value);
     }
@@ -340,7 +353,7 @@ fn read_open(w: &mut [u64], c: Counts, k: usize, r: usize, m: u64, extent: Exten
         let value = v.value;
         return ReadReply::Again(meaning::point_of_word(a.from - 1), value);
     }
-    read_new(w, c, k, r, m, extent)
+    read_new(w, c, k, r, i, m, extent)
 }
 
 // The call Read.

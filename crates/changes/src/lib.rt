@@ -4,13 +4,13 @@ ghost use mathlib.Core.Path.{_≡_};
 ghost use mathlib.Core.Bool.{true, false, not};
 ghost use mathlib.Core.List.{[], map};
 ghost use Prim.Native.Nat.{suc, _≤_, _<_};
-ghost use Rattle.chains.specs.Lists.{occ, firstOf};
+ghost use Rattle.chains.specs.Lists.{occ};
 ghost use Rattle.chains.specs.Walk.{IsRow};
 ghost use Rattle.chains.specs.Table.{place};
 ghost use lib.ListN.{set};
 ghost use Rattle.chains.specs.Change.{Ready, Follows, Taken, Moved, Turned};
 ghost use Rattle.meaning.specs.Limits.{MAX-EDITS, GENERATIONS, FREE, LAST};
-ghost use Rattle.meaning.specs.Store.{withRec, recAt, editAt, isOf, names, versionsUsed, locksUsed, accessesUsed};
+ghost use Rattle.meaning.specs.Store.{withRec, recAt, editAt, names, versionsUsed, locksUsed, accessesUsed};
 ghost use Rattle.meaning.specs.Outcomes.{accessRoom};
 ghost use Rattle.meaning.specs.Points.{isOwned, addLock, leaveSettled, dropOwner, emptied, trimmed, trimTo};
 ghost use Rattle.meaning.specs.Sound.{namesOnce};
@@ -19,7 +19,7 @@ ghost use Rattle.meaning.specs.Ending.{ended, freed, insert};
 ghost use Rattle.meaning.specs.Lists.{keep};
 ghost use lib.Dec.{leb, ltb};
 ghost use Rattle.tables.specs.Layout.{MODES, L-LOW, Fits, lockTable, lockHeads, versionTable, versionHeads, accessTable, accessHeads};
-ghost use Rattle.tables.specs.Decode.{lockAt, versionAt, accessAt, accessRows, decodeAt};
+ghost use Rattle.tables.specs.Decode.{lockAt, versionAt, accessAt, accessRows, decodeAt, AccessRow};
 ghost use Rattle.tables.specs.Words.{Well};
 ghost use Rattle.changes.specs.Becomes.{Becomes, Beside, versionOf, withFloor, withGeneration, withAccesses, onVersions, onLocks, onEdit};
 use meaning::Access;
@@ -314,39 +314,11 @@ pub fn change_access(w: &mut [u64], c: Counts, k: usize, i: usize, a: Access)
     tables::put_access(w, c, i, a);
 }
 
-// Whether access row i names record r.
-fn names_record(w: &[u64], c: Counts, i: usize, r: u64) -> bool
-    requires { ⌜ Fits c (now w) × IsRow (c .accesses) i ⌝ }
-    ensures { λ q. ⌜ q ≡ isOf r (accessAt c (now (w .entry)) i) ⌝ }
-{
-    let a = tables::access_at(w, c, i);
-    a.rec == r
-}
-
-// The row of slot k's access of record r, or 0 where it has none.
-pub fn access_row(w: &[u64], c: Counts, k: usize, r: u64) -> usize
-    requires { ⌜ Fits c (now w) × IsRow (c .edits) k ⌝ }
-    ensures { λ q. ⌜ q ≡ firstOf (λ i. isOf r (accessAt c (now (w .entry)) i)) (accessRows c (now (w .entry)) k) ⌝ }
-{
-    let n = c.accesses;
-    let mut cur = tables::first_access(w, c, k);
-    let mut left = n;
-    while chains::more(n, left, cur) {
-        if names_record(w, c, cur, r) {
-            return cur;
-        }
-        cur = tables::next_access(w, c, cur);
-        left -= 1;
-    }
-    0
-}
-
-// The access takes the place of the edit's access of that record, or stands first where it has none.
-pub fn set_access(w: &mut [u64], c: Counts, k: usize, a: Access)
-    requires { ⌜ Well c (now w) × IsRow (c .edits) k × (namesOnce (editAt (decodeAt c (now w)) k) ≡ true) × (accessRoom (decodeAt c (now w)) k (a .rec) ≡ true) ⌝ }
+// The access takes the place of the edit's access of that record, which is in row i, or stands first where it has none and i is 0.
+pub fn set_access(w: &mut [u64], c: Counts, k: usize, i: usize, a: Access)
+    requires { ⌜ Well c (now w) × IsRow (c .edits) k × (namesOnce (editAt (decodeAt c (now w)) k) ≡ true) × (accessRoom (decodeAt c (now w)) k (a .rec) ≡ true) × AccessRow c (now w) k (a .rec) i ⌝ }
     ensures { λ _. ⌜ Becomes c (now (w .exit)) (onEdit (decodeAt c (now (w .entry))) k (λ e. withAccess e a)) ⌝ }
 {
-    let i = access_row(w, c, k, a.rec);
     if i == 0 {
         add_access(w, c, k, a);
     } else {

@@ -1,5 +1,5 @@
--- A call goes on with a run of the serial core. What a call adds to a run, whether it is refused or not, from what it does where it
--- passes; and what the handle of an open edit says. Rests on StoreSlots.
+-- A call goes on with a run of the serial core. What a call adds to a run, whether it is refused or not, from what it
+-- does where it passes; and what the handle of an open edit says. Rests on StoreSlots.
 use Prim.Native.Nat.{ℕ}
 use native.Mathlib.Omega.{arith}
 use mathlib.Core.Path.{_≡_, refl}

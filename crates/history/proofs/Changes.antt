@@ -1,5 +1,5 @@
--- What a change of slots and records is to the serial core: a slot that stays, locks that only grow, and an access that takes its place.
--- Rests on StoreSlots.
+-- What a change of slots and records is to the serial core: a slot that stays, locks that only grow, and an access that
+-- takes its place. Rests on StoreSlots.
 use Prim.Native.Nat.{ℕ, _<_}
 use native.Mathlib.Omega.{arith}
 use mathlib.Core.Path.{_≡_, refl, sym, ap, _∙_, subst}

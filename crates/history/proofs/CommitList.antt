@@ -1,5 +1,5 @@
--- The edits that committed are those of the computed list `commitsOf`, and two edits in it make an order. Rests on Names of the crate
--- serial.
+-- The edits that committed are those of the computed list `commitsOf`; two edits in it make an order, and no others
+-- (`only-orders`). Rests on Names of the crate serial.
 use Prim.Native.Nat.{ℕ, _≤_, _<_}
 use native.Mathlib.Omega.{arith}
 use mathlib.Core.Path.{_≡_, refl, sym, ap, _∙_}
@@ -7,8 +7,8 @@ use mathlib.Core.Logic.{_⊎_, inl, inr, _↔_}
 use mathlib.Core.Bool.{Bool, true, false, cond}
 use lib.Dec.{eqb}
 use borrow.Author.Tests.{eq-eqb}
-use Rattle.serial.specs.Serializable.{ε, _▸_, _∈_, Operation, wrote, read, commits, begun, call, other, History, editOf, callsOf, Commits}
-use Rattle.serial.specs.Serializable.{CommitOrder}
+use Rattle.serial.specs.Serializable.{Seq, ε, _▸_, _∈_, Operation, wrote, read, commits, begun, call, other, History, editOf, callsOf, Commits}
+use Rattle.serial.specs.Serializable.{Rises, CommitOrder}
 use Rattle.serial.proofs.Memory.{commits-wrote, commits-read}
 use Rattle.serial.proofs.Names.{last-call, no-commit}
 use Rattle.history.specs.Examples.{commitsOf}
@@ -59,7 +59,10 @@ module _ {X : Type 0} where
     abbrev Either : ℕ → ℕ → Type 0
     Either i u = ((i ≡ d) × (u ≡ p)) ⊎ ((i ≡ e) × (u ≡ t))
 
-    module _ (is : (i u : ℕ) → ((i, u) ∈ commitsOf l) ↔ Either i u) (rises : p ≤ t) where
+    abbrev Orders : Seq ℕ → Type 0
+    Orders o = ((o ≡ ε ▸ d ▸ e) × (p ≤ t)) ⊎ ((o ≡ ε ▸ e ▸ d) × (t ≤ p))
+
+    module _ (is : (i u : ℕ) → ((i, u) ∈ commitsOf l) ↔ Either i u) where
       d-commits : Commits l d p
       d-commits = commits-listed l d p .1 (begun-d, is d p .1 (inl (refl, refl)))
 
@@ -69,8 +72,8 @@ module _ {X : Type 0} where
       one-of : (i u : ℕ) → Commits l i u → Either i u
       one-of i u c = is i u .0 (commits-listed l i u .0 c .1)
 
-      in-order : CommitOrder l (ε ▸ d ▸ e)
-      in-order = record { each = λ i. (out i, λ c. into i (c .0) (one-of i (c .0) (c .1))); rises = ((tt, λ i m. absurd m), later) }
+      in-order : p ≤ t → CommitOrder l (ε ▸ d ▸ e)
+      in-order rises = record { each = λ i. (out i, λ c. into i (c .0) (one-of i (c .0) (c .1))); rises = ((tt, λ i m. absurd m), later) }
         where
           out : (i : ℕ) → i ∈ (ε ▸ d ▸ e) → (u : ℕ) × Commits l i u
           out i (inl (inl z)) = absurd z
@@ -95,6 +98,46 @@ module _ {X : Type 0} where
           later i (inr q) =
               (λ z. apart (sym q ∙ z), λ u v a b. omega (arith, rises, at-d u (one-of d u (rw q at a)), at-e v (one-of e v b)))
 
+      -- every order has the two, each once
+      abbrev Which : ℕ → Type 0
+      Which i = (i ≡ d) ⊎ (i ≡ e)
+
+      which-of : {i u : ℕ} → Either i u → Which i
+      which-of (inl q) = inl (q .0)
+      which-of (inr q) = inr (q .0)
+
+      pair-only : (a b : ℕ) → Which a → Which b → ¬ (a ≡ b) → ((u v : ℕ) → Commits l a u → Commits l b v → u ≤ v) → Orders (ε ▸ a ▸ b)
+      pair-only a b (inl x) (inl y) z r = absurd (z (x ∙ sym y))
+      pair-only a b (inl x) (inr y) z r = inl (rw (x, y) refl, r p t (rw x d-commits) (rw y e-commits))
+      pair-only a b (inr x) (inl y) z r = inr (rw (x, y) refl, r t p (rw x e-commits) (rw y d-commits))
+      pair-only a b (inr x) (inr y) z r = absurd (z (x ∙ sym y))
+
+      not-three : {a b c : ℕ} → Which a → Which b → Which c → ¬ (a ≡ b) → ¬ (a ≡ c) → ¬ (b ≡ c) → ⊥
+      not-three (inl x) (inl y) z f g h = f (x ∙ sym y)
+      not-three (inr x) (inr y) z f g h = f (x ∙ sym y)
+      not-three (inl x) (inr y) (inl z) f g h = g (x ∙ sym z)
+      not-three (inl x) (inr y) (inr z) f g h = h (y ∙ sym z)
+      not-three (inr x) (inl y) (inl z) f g h = h (y ∙ sym z)
+      not-three (inr x) (inl y) (inr z) f g h = g (x ∙ sym z)
+
+      both-only : (o : Seq ℕ) → Rises l o → ((i : ℕ) → i ∈ o → Which i) → d ∈ o → e ∈ o → Orders o
+      both-only ε r w m n = absurd m
+      both-only (ε ▸ a) r w (inl m) n = absurd m
+      both-only (ε ▸ a) r w (inr m) (inl n) = absurd n
+      both-only (ε ▸ a) r w (inr m) (inr n) = absurd (apart (m ∙ sym n))
+      both-only (ε ▸ a ▸ b) r w m n =
+          pair-only a b (w a (inl (inr refl))) (w b (inr refl)) (r .1 a (inr refl) .0) (r .1 a (inr refl) .1)
+      both-only (o ▸ a ▸ b ▸ c) r w m n =
+          absurd (
+          not-three (w a (inl (inl (inr refl)))) (w b (inl (inr refl))) (w c (inr refl)) (r .0 .1 a (inr refl) .0) (r .1 a (inl (inr refl)) .0)
+          (r .1 b (inr refl) .0)
+          )
+
+      orders-are : (o : Seq ℕ) → CommitOrder l o → Orders o
+      orders-are o c =
+          both-only o (c .rises) (λ i m. let x = c .each i .0 m in which-of (one-of i (x .0) (x .1))) (c .each d .1 (p, d-commits))
+          (c .each e .1 (t, e-commits))
+
   -- the list of the two, in one order or the other
   module _ (l : History X) (d e p t : ℕ) (begun-d : 0 < d) (begun-e : 0 < e) (apart : ¬ (d ≡ e)) where
     abbrev pair : ℕ → ℕ → ℕ × ℕ
@@ -103,26 +146,39 @@ module _ {X : Type 0} where
     parts : {i u j v : ℕ} → pair i u ≡ pair j v → (i ≡ j) × (u ≡ v)
     parts q = (ap (λ (y : ℕ × ℕ). y .0) q, ap (λ (y : ℕ × ℕ). y .1) q)
 
-    pub as-listed : commitsOf l ≡ ε ▸ (d, p) ▸ (e, t) → p ≤ t → CommitOrder l (ε ▸ d ▸ e)
-    as-listed q h = in-order l d e p t begun-d begun-e apart (λ i u. rw q (out i u, back-in i u)) h
-      where
-        out : (i u : ℕ) → pair i u ∈ (ε ▸ pair d p ▸ pair e t) → Either l d e p t begun-d begun-e apart i u
-        out i u (inl (inl z)) = absurd z
-        out i u (inl (inr z)) = inl (parts z)
-        out i u (inr z) = inr (parts z)
+    abbrev Two : ℕ → ℕ → Type 0
+    Two = Either l d e p t begun-d begun-e apart
 
-        back-in : (i u : ℕ) → Either l d e p t begun-d begun-e apart i u → pair i u ∈ (ε ▸ pair d p ▸ pair e t)
-        back-in i u (inl (a, b)) = inl (inr (rw (a, b) refl))
-        back-in i u (inr (a, b)) = inr (rw (a, b) refl)
+    listed-are : commitsOf l ≡ ε ▸ (d, p) ▸ (e, t) → (i u : ℕ) → (pair i u ∈ commitsOf l) ↔ Two i u
+    listed-are q i u = rw q (out, back-in)
+      where
+        out : pair i u ∈ (ε ▸ pair d p ▸ pair e t) → Two i u
+        out (inl (inl z)) = absurd z
+        out (inl (inr z)) = inl (parts z)
+        out (inr z) = inr (parts z)
+
+        back-in : Two i u → pair i u ∈ (ε ▸ pair d p ▸ pair e t)
+        back-in (inl (a, b)) = inl (inr (rw (a, b) refl))
+        back-in (inr (a, b)) = inr (rw (a, b) refl)
+
+    reversed-are : commitsOf l ≡ ε ▸ (e, t) ▸ (d, p) → (i u : ℕ) → (pair i u ∈ commitsOf l) ↔ Two i u
+    reversed-are q i u = rw q (out, back-in)
+      where
+        out : pair i u ∈ (ε ▸ pair e t ▸ pair d p) → Two i u
+        out (inl (inl z)) = absurd z
+        out (inl (inr z)) = inr (parts z)
+        out (inr z) = inl (parts z)
+
+        back-in : Two i u → pair i u ∈ (ε ▸ pair e t ▸ pair d p)
+        back-in (inl (a, b)) = inr (rw (a, b) refl)
+        back-in (inr (a, b)) = inl (inr (rw (a, b) refl))
+
+    pub as-listed : commitsOf l ≡ ε ▸ (d, p) ▸ (e, t) → p ≤ t → CommitOrder l (ε ▸ d ▸ e)
+    as-listed q = in-order l d e p t begun-d begun-e apart (listed-are q)
 
     pub reversed : commitsOf l ≡ ε ▸ (e, t) ▸ (d, p) → p ≤ t → CommitOrder l (ε ▸ d ▸ e)
-    reversed q h = in-order l d e p t begun-d begun-e apart (λ i u. rw q (out i u, back-in i u)) h
-      where
-        out : (i u : ℕ) → pair i u ∈ (ε ▸ pair e t ▸ pair d p) → Either l d e p t begun-d begun-e apart i u
-        out i u (inl (inl z)) = absurd z
-        out i u (inl (inr z)) = inr (parts z)
-        out i u (inr z) = inl (parts z)
+    reversed q = in-order l d e p t begun-d begun-e apart (reversed-are q)
 
-        back-in : (i u : ℕ) → Either l d e p t begun-d begun-e apart i u → pair i u ∈ (ε ▸ pair e t ▸ pair d p)
-        back-in i u (inl (a, b)) = inr (rw (a, b) refl)
-        back-in i u (inr (a, b)) = inl (inr (rw (a, b) refl))
+    pub only-orders : commitsOf l ≡ ε ▸ (d, p) ▸ (e, t) → (o : Seq ℕ) → CommitOrder l o
+        → ((o ≡ ε ▸ d ▸ e) × (p ≤ t)) ⊎ ((o ≡ ε ▸ e ▸ d) × (t ≤ p))
+    only-orders q = orders-are l d e p t begun-d begun-e apart (listed-are q)

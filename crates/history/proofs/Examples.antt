@@ -1,5 +1,5 @@
--- The session of document 01 and two edits with one commit point, computed, and what the claim says of them. Rests on Theorem and
--- CommitList.
+-- The session of document 01 and two edits with one commit point, computed, and what the claim says of them. Rests on
+-- Theorem and CommitList.
 use Prim.Native.Nat.{ℕ}
 use native.Mathlib.Omega.{arith}
 use mathlib.Core.Path.{_≡_, refl}

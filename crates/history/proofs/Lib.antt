@@ -15,3 +15,5 @@ pub mod CommitList
 pub mod Examples
 pub mod Handles
 pub mod OverStore
+pub mod WordSteps
+pub mod ExampleWords

@@ -1,5 +1,5 @@
--- Demand 3 over the words of the store: the theorems over what is lent, with the words of `tables`, from the contracts of `format` and the public
--- calls. Rests on OverWords and the laws of formatted words.
+-- Demand 3 over the words of the store: the theorems over what is lent, with the words of `tables`, from the contracts
+-- of `format` and the public calls. Rests on OverWords and the laws of formatted words.
 use Prim.Native.Nat.{ℕ}
 use mathlib.Core.Path.{_≡_, refl, sym, ap, _∙_}
 use mathlib.Core.Bool.{Bool, true, false}

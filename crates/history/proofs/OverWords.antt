@@ -1,5 +1,5 @@
--- Demand 3 over what the store is lent (`words-serializable`), from demand 3 of its meaning: by the contracts the replies and the store at
--- the end are those of the meaning. Rests on Theorem.
+-- Demand 3 over what the store is lent (`words-serializable`), from demand 3 of its meaning: by the contracts the
+-- replies and the store at the end are those of the meaning. Rests on Theorem.
 use mathlib.Core.Path.{_≡_, refl, ap, _∙_, subst}
 use mathlib.Core.Bool.{Bool, true}
 use mathlib.Core.List.{List, _∷_}

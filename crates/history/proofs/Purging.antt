@@ -1,4 +1,5 @@
--- Purge as steps of the serial core: the floor rises, and above it every lock and every version stays. Rests on CallRuns and Changes.
+-- Purge as steps of the serial core: the floor rises, and above it every lock and every version stays. Rests on
+-- CallRuns and Changes.
 use Prim.Native.Nat.{ℕ, _-_, _≤_, _<_}
 use native.Mathlib.Omega.{arith}
 use native.Mathlib.Decide.{ℕ-discrete}

@@ -1,5 +1,5 @@
--- What a store means to the serial core: its edits by slot and handle, its locks point by point, its versions. A sound store whose versions
--- have values is sound there too. Rests on the facts of soundness in the crate meaning.
+-- What a store means to the serial core: its edits by slot and handle, its locks point by point, its versions. A sound
+-- store whose versions have values is sound there too. Rests on the facts of soundness in the crate meaning.
 use Prim.Native.Nat.{ℕ, suc, _≤_}
 use native.Mathlib.Omega.{arith}
 use native.Mathlib.Decide.{ℕ-discrete}
@@ -54,7 +54,8 @@ slotsOf e x =
 abbrev pub slots : Store → Slots Val
 slots s = slotsOf (λ k. editAt s k) (λ r. recAt s r)
 
--- every version has a value. Soundness does not say so, but every store that calls reach has it: only a commit makes versions
+-- every version has a value. Soundness does not say so, but every store that calls reach has it: only a commit makes
+-- versions
 abbrev pub Valued : Store → Type 0
 Valued s = (r : ℕ) (w : Version) → w ∈ recAt s r .versions → (v : Val) × (w .value ≡ Written v)
 

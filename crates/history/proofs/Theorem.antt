@@ -1,5 +1,6 @@
--- Demand 3 for the calls of the crate meaning (`store-serializable`): every list of calls on a fresh store is a run of the serial core, and
--- the newest value there is the one that View at LAST replies. Rests on the files of calls and on the theorems of the crate serial.
+-- Demand 3 for the calls of the crate meaning (`store-serializable`): every list of calls on a fresh store is a run of
+-- the serial core, and the newest value there is the one that View at LAST replies. Rests on the files of calls and on
+-- the theorems of the crate serial.
 use Prim.Native.Nat.{ℕ, zero, suc, _≤_, _<_}
 use native.Mathlib.Omega.{arith}
 use mathlib.Core.Path.{_≡_, refl, ap, _∙_, subst}

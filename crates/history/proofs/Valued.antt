@@ -1,5 +1,5 @@
--- Every call keeps a store in which each version has a value, since only Commit makes versions, of the values written; and it keeps the
--- number of records. Rests on StoreSlots and EveryCall.
+-- Every call keeps a store in which each version has a value, since only Commit makes versions, of the values written;
+-- and it keeps the number of records. Rests on StoreSlots and EveryCall.
 use Prim.Native.Nat.{ℕ, _<_}
 use native.Mathlib.Omega.{arith}
 use native.Mathlib.Decide.{ℕ-discrete, decLt}

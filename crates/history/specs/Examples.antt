@@ -1,5 +1,5 @@
--- Histories that show that the claim is not empty: the session of document 01, and two edits that commit at one point. The theorems are in
--- proofs/Examples, under the same names. Rests on Statement.
+-- Histories that show that the claim is not empty: the session of document 01, and two edits that commit at one point.
+-- The theorems are in proofs/Examples, under the same names. Rests on Statement.
 use Prim.Native.Nat.{ℕ}
 use mathlib.Core.Path.{_≡_}
 use mathlib.Core.List.{List, [], _∷_}
@@ -73,7 +73,7 @@ abbrev to : ℕ → Point
 to p = record { 0 = p }
 
 abbrev pub equalCounts : Counts
-equalCounts = record { records = 3; edits = 2; versions = 4; locks = 8; accesses = 8 }
+equalCounts = record { records = 3; edits = 2; versions = 2; locks = 4; accesses = 4 }
 
 unfoldable pub equalCalls : List Call
 equalCalls =

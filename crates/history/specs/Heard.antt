@@ -1,5 +1,6 @@
--- What the plain run makes of a call and its reply: document 01, "The plain, serial run", whose sentences stand in quotes at what states
--- them. The events and the plain run over them are the crate serial's. Rests on the calls and replies of the crate meaning.
+-- What the plain run makes of a call and its reply: document 01, "The plain, serial run", whose sentences stand in
+-- quotes at what states them. The events and the plain run over them are the crate serial's. Rests on the calls and
+-- replies of the crate meaning.
 use mathlib.Core.Option.{Option, some, none}
 use mathlib.Core.List.{List, [], _∷_}
 use Prim.Native.Nat.{ℕ}
@@ -90,7 +91,7 @@ heardAfter l [] qs = l
 heardAfter l (c ∷ cs) [] = l
 heardAfter l (c ∷ cs) (q ∷ qs) = heardAfter (l ▸ heard c q) cs qs
 
--- "The plain run is fed the Format and the list's calls with their replies, nothing else." Of the Format it takes that every record is
--- "at first never written": the history of a list starts empty
+-- "The plain run is fed the Format and the list's calls with their replies, nothing else." Of the Format it takes that
+-- every record is "at first never written": the history of a list starts empty
 abbrev pub history : List Call → List Reply → History Val
 history cs qs = heardAfter ε cs qs

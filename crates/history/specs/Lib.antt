@@ -5,3 +5,5 @@ pub mod Words
 pub mod Examples
 pub mod Handles
 pub mod StoreWords
+pub mod WordSteps
+pub mod ExampleWords

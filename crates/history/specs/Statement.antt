@@ -1,5 +1,6 @@
--- Demand 3 of document 01, "The plain, serial run", for the calls of the crate meaning: "one claim about the whole list, not one for each
--- call". CommitOrder, PlainFits and plainEnd are the crate serial's; the theorems are in proofs/Theorem, under the same names.
+-- Demand 3 of document 01, "The plain, serial run", for the calls of the crate meaning: "one claim about the whole
+-- list, not one for each call". CommitOrder, PlainFits and plainEnd are the crate serial's; the theorems are in
+-- proofs/Theorem, under the same names.
 use Prim.Native.Nat.{ℕ, _<_}
 use mathlib.Core.Path.{_≡_}
 use mathlib.Core.Bool.{true}
@@ -18,10 +19,12 @@ use Rattle.history.specs.Heard.{shownValue, history}
 pub record SerialStore (records : ℕ) (l : History Val) (end : Store) (o : Seq ℕ) : Type 0 where
   -- "A Read that replied `read`, `own` or `again` must have the record's present value in its reply"
   pub reads : PlainFits l o
-  -- "A record's newest value is the value that View at LAST replies; at the end it is the plain run's value, never written included."
+  -- "A record's newest value is the value that View at LAST replies; at the end it is the plain run's value, never
+  -- written included."
   pub newest : (r : ℕ) → r < records → (p : ℕ) × (viewing r LAST end .reply ≡ at p (shownValue (plainEnd l o r)))
 
--- "The list follows one Format that replied `ok`; arguments are any": a list of calls on a fresh store, with the replies that they get
+-- "The list follows one Format that replied `ok`; arguments are any": a list of calls on a fresh store, with the
+-- replies that they get
 abbrev pub replied : Counts → List Call → History Val
 replied counts cs = history cs (run cs (fresh counts))
 

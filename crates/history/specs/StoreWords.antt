@@ -1,7 +1,8 @@
--- Demand 3 over the words of the store. A history has two premises and no more: `format`, whose contract is Formats of the crate `format`, replied
--- `ok` on a slice, whatever it held; and each call after it, with its reply, keeps the contract of the public calls (Does of `meaning`, over the
--- meaning and the soundness of words of `tables`), on the words as the last one left them. So whoever uses the store through its contracts has such
--- a history. The theorems are in proofs/OverStore, under the same names.
+-- Demand 3 over the words of the store. A history has two premises and no more: `format`, whose contract is Formats of
+-- the crate `format`, replied `ok` on a slice, whatever it held; and each call after it, with its reply, keeps the
+-- contract of the public calls (Does of `meaning`, over the meaning and the soundness of words of `tables`), on the
+-- words as the last one left them. So whoever uses the store through its contracts has such a history. The theorems are
+-- in proofs/OverStore, under the same names.
 use Prim.Native.Nat.{ℕ}
 use mathlib.Core.Path.{_≡_}
 use mathlib.Core.List.{List}
@@ -21,7 +22,8 @@ pub record HistoryOn (counts : Counts) (cs : List Call) (qs : List Reply) (end :
   pub formats : format.Formats counts before start ok
   pub calls : Calls Lent decode soundWords (lent start) cs qs (lent end)
 
--- "for every order of equal points": the plain run accepts every reply, and what a View at LAST replies on the final words is its value
+-- "for every order of equal points": the plain run accepts every reply, and what a View at LAST replies on the final
+-- words is its value
 abbrev pub StoreWordsSerializable : Type 0
 StoreWordsSerializable = (counts : Counts) (cs : List Call) (qs : List Reply) (end : List ℕ) → HistoryOn counts cs qs end
     → (o : Seq ℕ) → CommitOrder (history cs qs) o

@@ -1,5 +1,5 @@
 -- Searches for one entry: the access of a record, the newest version. Rests on the loops of `chains` and `tables`.
-use Prim.Native.Nat.{ℕ, zero, suc, _+_}
+use Prim.Native.Nat.{ℕ, zero, suc, _+_, _≤_}
 use mathlib.Core.Path.{_≡_, refl, sym, ap, _∙_}
 use mathlib.Core.Bool.{Bool, true, false, _||_}
 use mathlib.Core.List.{List, [], _∷_, map}
@@ -17,7 +17,7 @@ use Rattle.meaning.specs.declared.Version.{Version}
 use Rattle.meaning.specs.Store.{isOf, noAccess, accessOf, first, newestAt, newestBelow}
 use Rattle.meaning.specs.declared.Counts.{Counts}
 use Rattle.tables.specs.Layout.{accessTable, accessHeads}
-use Rattle.tables.specs.Decode.{accessAt, accessRows, accessesOf, slotAt}
+use Rattle.tables.specs.Decode.{accessAt, accessRows, accessesOf, slotAt, AccessRow}
 
 -- what a test says of a value it says of the entry that the value is
 pub of-entry : {A : Type 0} (t : A → Bool) {x y : A} {b : Bool} → x ≡ y → t x ≡ b → t y ≡ b
@@ -131,6 +131,11 @@ module _ (c : Counts) (w : List ℕ) (k r : ℕ) {i : ℕ} (e : i ≡ firstOf (�
   unfolding accessRows rowsOf chain accessTable
   access-is-row z =
       rw e (first-row (isOf r) (accessAt c w) (noAccess r) (link (accessTable c) w) (c .accesses) (c .accesses) (headOf (accessHeads c) w k) (λ q. z (e ∙ q)))
+
+-- so a row found, or 0, lies within the table
+pub access-within : (c : Counts) (w : List ℕ) (k r i : ℕ) → AccessRow c w k r i → i ≤ c .accesses
+access-within c w k r zero e = omega arith
+access-within c w k r (suc i) e = access-is-row c w k r e (λ z. omega (arith, z)) .high
 
 -- at or below p is below p + 1
 below-after : (x p : ℕ) → ltb x (suc p) ≡ leb x p

@@ -7,20 +7,20 @@ ghost use mathlib.Core.Bool.{true, cond, _&&_};
 ghost use Prim.Native.Nat.{suc, _+_, _≤_, _<_, min, max};
 ghost use lib.ListN.{length};
 ghost use lib.Dec.{leb, eqb};
-ghost use Rattle.chains.specs.Lists.{firstOf};
 ghost use Rattle.chains.specs.Walk.{IsRow};
 ghost use Rattle.chains.specs.Table.{Laid};
 ghost use Rattle.chains.specs.Partition.{partition, used};
 ghost use Rattle.meaning.specs.Limits.{LAST, MAX-ROWS};
-ghost use Rattle.meaning.specs.Store.{inUse, accessOf, isOf, writtenOf, newestAt, newestBelow, versionOn};
+ghost use Rattle.meaning.specs.Store.{inUse, writtenOf, newestAt, newestBelow, versionOn};
 ghost use Rattle.meaning.specs.Lists.{all, any};
 ghost use Rattle.meaning.specs.Edits.{freeSlot};
-ghost use Rattle.meaning.specs.Outcomes.{knows, isOpen, lockRoom, accessRoom, versionRoom};
+ghost use Rattle.meaning.specs.Outcomes.{knows, isOpen, lockRoom, versionRoom};
 ghost use Rattle.meaning.specs.Points.{covered, own, writes, covers, meets, firstFree, firstBlocked, frozen, holder, ownOn, allowsWrite, allowsRead, allows, inCommon, earliest, latest};
 ghost use Rattle.meaning.specs.Sound.{namesExisting};
 ghost use Rattle.tables.specs.Layout.{Fits};
-ghost use Rattle.tables.specs.Decode.{decodeAt, recordsOf, editsOf, recordAt, slotAt, accessAt, accessRows};
+ghost use Rattle.tables.specs.Decode.{decodeAt, recordsOf, editsOf, recordAt, slotAt, AccessRow};
 ghost use Rattle.tables.specs.Words.{Well};
+ghost use Rattle.lookups.specs.Accesses.{InRow, RoomBeside};
 ghost use Rattle.lookups.specs.Search.{counts, counted, ownsWrite, pastOf, further, nearer, lowerOwner, settles};
 ghost use Rattle.lookups.specs.Commit.{LeastFrom, Lifted, GreatestTo, Lowered, readEnd, firstUnder, lastUnder, earlier, later, upFrom, downFrom, firstAccesses, Next};
 use chains::Heads;
@@ -96,10 +96,10 @@ pub fn free_slot(w: &[u64], c: Counts) -> usize
     k
 }
 
-// The row of slot k's access of record r, or 0, and the access itself.
+// The row of slot k's access of record r, or 0.
 pub fn access_row(w: &[u64], c: Counts, k: usize, r: u64) -> usize
     requires { ⌜ Fits c (now w) × IsRow (c .edits) k ⌝ }
-    ensures { λ q. ⌜ q ≡ firstOf (λ i. isOf r (accessAt c (now (w .entry)) i)) (accessRows c (now (w .entry)) k) ⌝ }
+    ensures { λ q. ⌜ AccessRow c (now (w .entry)) k r q ⌝ }
 {
     let n = c.accesses;
     let mut cur = tables::first_access(w, c, k);
@@ -115,11 +115,11 @@ pub fn access_row(w: &[u64], c: Counts, k: usize, r: u64) -> usize
     0
 }
 
-pub fn access_of(w: &[u64], c: Counts, k: usize, r: u64) -> Access
-    requires { ⌜ Fits c (now w) × IsRow (c .edits) k ⌝ }
-    ensures { λ q. ⌜ q ≡ accessOf (slotAt c (now (w .entry)) k) r ⌝ }
+// The access of record r by the edit whose row of it is i.
+pub fn access_in(w: &[u64], c: Counts, r: u64, i: usize) -> Access
+    requires { ⌜ Fits c (now w) × (i ≤ c .accesses) ⌝ }
+    ensures { λ q. ⌜ InRow c (now (w .entry)) r i q ⌝ }
 {
-    let i = access_row(w, c, k, r);
     if i == 0 {
         return Access {
             rec: r,
@@ -801,11 +801,12 @@ pub fn lock_room(w: &[u64], c: Counts) -> bool
     has_free(w, tables::lock_table(c), tables::lock_heads(c), 1)
 }
 
-pub fn access_room(w: &[u64], c: Counts, k: usize, r: u64) -> bool
-    requires { ⌜ Well c (now w) × IsRow (c .edits) k ⌝ }
-    ensures { λ q. ⌜ q ≡ accessRoom (decodeAt c (now (w .entry))) k r ⌝ }
+// Room for an access of record r by the edit whose row of it is i.
+pub fn access_room(w: &[u64], c: Counts, i: usize) -> bool
+    requires { ⌜ Well c (now w) ⌝ }
+    ensures { λ q. ⌜ RoomBeside c (now (w .entry)) i q ⌝ }
 {
-    if access_row(w, c, k, r) != 0 {
+    if i != 0 {
         return true;
     }
     has_free(w, tables::access_table(c), tables::access_heads(c), 1)

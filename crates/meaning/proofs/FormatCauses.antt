@@ -1,20 +1,21 @@
--- Format is refused exactly where a count is out of range or the length is not the sum, and Point where the reading or the seat is too
--- large. Rests on CauseTests.
-use Prim.Native.Nat.{ℕ, _*_, _+_}
+-- Format is refused exactly where a count is out of range or the length is not the sum, and Point where the reading or
+-- the seat is too large; points order as pairs of reading and seat. Rests on CauseTests.
+use Prim.Native.Nat.{ℕ, _*_, _+_, _/_, _%_, _≤_, _<_}
 use native.Mathlib.Omega.{arith}
+use native.Mathlib.Decide.{decLt}
 use mathlib.Core.Path.{_≡_, refl}
 use mathlib.Core.Logic.{_⊎_, inl, inr, _↔_}
 use mathlib.Core.Bool.{Bool, true, false, cond, _&&_}
 use mathlib.Core.List.{List, []}
 use lib.Dec.{ltb}
-use Rattle.meaning.specs.Limits.{READINGS, SEATS, MAX-RECORDS, MAX-EDITS, MAX-ROWS}
+use Rattle.meaning.specs.Limits.{READINGS, SEATS, LAST, MAX-RECORDS, MAX-EDITS, MAX-ROWS}
 use Rattle.meaning.specs.Store.{Counts, fresh}
 use Rattle.meaning.specs.Replies.{Reply, ok, point, refusing}
 use Rattle.meaning.specs.Outcomes.{replies, pass, needs, unless}
 use Rattle.meaning.specs.Records.{goodCounts, formatting}
 use Rattle.meaning.specs.Causes.{BadCounts, records, edits, versions, locks, accesses, OutOfRange}
 use Rattle.meaning.specs.Order.{Refuses}
-use Rattle.meaning.specs.Laws.{FormatRefusedForCause, PointRefusedForCause}
+use Rattle.meaning.specs.Laws.{FormatRefusedForCause, PointRefusedForCause, PointsOrderAsPairs, PointsRunToLast}
 use Rattle.meaning.proofs.Lists.{not-both}
 use Rattle.meaning.proofs.CauseTests.{Refutes, and-test, range-test, below-test}
 
@@ -72,3 +73,24 @@ pub point-refused-for-cause : PointRefusedForCause
 point-refused-for-cause reading seat =
     refused-iff 6 (λ b. cond b (point (reading * SEATS + seat)) (refusing 6 [])) (ltb reading READINGS && ltb seat SEATS)
     (and-test (below-test reading READINGS) (below-test seat SEATS)) refl (λ more e. let z : _≡_ {A = ℕ} 0 1 = cc in omega arith)
+
+-- two points, by their readings and then by their seats
+pub points-order-as-pairs : PointsOrderAsPairs
+points-order-as-pairs r s q t a b = (λ h. out h (decLt r q), back)
+  where
+    out : r * SEATS + s < q * SEATS + t → Dec (r < q) → (r < q) ⊎ ((r ≡ q) × (s < t))
+    out h (yes l) = inl l
+    out h (no l) = inr (omega (arith, a, b), omega (arith, a, b))
+
+    back : (r < q) ⊎ ((r ≡ q) × (s < t)) → r * SEATS + s < q * SEATS + t
+    back (inl l) = omega (arith, a, b)
+    back (inr e) = omega (arith, e .0, e .1)
+
+pub points-run-to-last : PointsRunToLast
+points-run-to-last p = (out, back)
+  where
+    out : p ≤ LAST → (r : ℕ) × (s : ℕ) × (r < READINGS) × (s < SEATS) × (p ≡ r * SEATS + s)
+    out h = (p / SEATS, p % SEATS, omega arith, omega arith, omega arith)
+
+    back : (r : ℕ) × (s : ℕ) × (r < READINGS) × (s < SEATS) × (p ≡ r * SEATS + s) → p ≤ LAST
+    back (r, s, a, b, e) = omega (arith, a, b, e)

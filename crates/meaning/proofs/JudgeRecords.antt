@@ -1,16 +1,17 @@
 -- Purge and View judged along the order of the checks. Rests on Judging, CauseTests and Newest.
-use Prim.Native.Nat.{ℕ, suc}
+use Prim.Native.Nat.{ℕ, suc, _≤_, _<_}
 use native.Mathlib.Omega.{arith}
 use mathlib.Core.Path.{_≡_, refl}
 use mathlib.Core.Bool.{Bool, true, false, not, _&&_}
-use mathlib.Core.List.{List}
+use mathlib.Core.List.{List, []}
 use lib.Dec.{leb}
-use borrow.Author.Tests.{leb-true, leb-false, eqb-false, ne-eqb, le-leb, not-true, not-false}
+use borrow.Author.Tests.{leb-true, leb-false, eqb-false, ne-eqb, le-leb, lt-leb, not-true, not-false}
 use Rattle.meaning.specs.Lists.{any}
 use Rattle.meaning.specs.Limits.{LAST, SETTLED}
-use Rattle.meaning.specs.Store.{Version, Lock, Store, recAt, newestAt}
+use Rattle.meaning.specs.Store.{Version, Lock, Rec, Store, recAt, newestAt}
 use Rattle.meaning.specs.Points.{isOwned}
-use Rattle.meaning.specs.Outcomes.{hasRecord}
+use Rattle.meaning.specs.Replies.{at, refusing}
+use Rattle.meaning.specs.Outcomes.{replies, hasRecord}
 use Rattle.meaning.specs.Records.{purging, purgeChecks, purgeTo, purgeVerdict, viewing, viewChecks}
 use Rattle.meaning.specs.SoundFacts.{SoundStore}
 use Rattle.meaning.specs.Pointwise.{NewestIs}
@@ -24,18 +25,31 @@ use Rattle.meaning.proofs.SoundParts.{sound-out}
 use Rattle.meaning.proofs.CauseTests.{Refutes, record-test, at-most-test}
 use Rattle.meaning.proofs.Judging.{Judging, granted, _next_, never, decided, by-test}
 
+-- View of a record that is there, at a point up to LAST: shown from the floor on, refused below it
+module _ (s : Store) (r p : ℕ) (there : hasRecord s r ≡ true) (good : leb p LAST ≡ true) where
+  view-shown : recAt s r .floor ≤ p
+      → viewing r p s ≡ replies s (at (newestAt (recAt s r .versions) p .point) (newestAt (recAt s r .versions) p .value))
+  unfolding viewing viewChecks
+  view-shown h = simp (there, good, le-leb (recAt s r .floor) p h)
+
+  view-below : p < recAt s r .floor → viewing r p s ≡ replies s (refusing 7 [])
+  unfolding viewing viewChecks
+  view-below h = simp (there, good, lt-leb (recAt s r .floor) p h)
+
 pub judging-view : (r : ℕ) (p : Point) (s : Store) → Judging (C.View r p) s (viewing r (p .0) s) order
 unfolding viewing viewChecks
 judging-view r p s =
     let v : Version = newestAt (recAt s r .versions) (p .0) in
+    let x : Rec = recAt s r in
     not-both next
     never next never next never next never next
     decided (hasRecord s r) (λ g. record-test s r) refl (λ a. rw a) λ a.
     decided (leb (p .0) LAST) (λ g. at-most-test (p .0) LAST) refl (λ b. rw (a, b)) λ b.
     never next
-    decided (leb (recAt s r .floor) (p .0)) (λ g. at-most-test (recAt s r .floor) (p .0)) refl (λ c. rw (a, b, c)) λ c.
+    decided (leb (x .floor) (p .0)) (λ g. at-most-test (x .floor) (p .0)) refl
+    (λ c. view-below s r (p .0) a b (leb-false (x .floor) (p .0) c)) λ c.
     never next never next never next never next never next never next never next never next
-    granted (rw (a, b, c) (v .point, (v .value, refl)))
+    granted (rw (view-shown s r (p .0) a b (leb-true (x .floor) (p .0) c)) (v .point, (v .value, refl)))
 
 -- a lock of an unsettled edit at or below v
 abbrev locked-to : ℕ → Lock → Bool

@@ -1,6 +1,6 @@
 -- The theorems of specs/Laws, each under its name and with its statement for a type. Rests on the files that prove them; only that every
 -- call keeps a sound store sound is put together here.
-use Rattle.meaning.specs.Laws.{FirstBlockedIsLeast, LockTakesRun, ReadTakesRun, CommonSetIs, EarliestIsLeast, LatestIsGreatest, NoCommonIsEmpty, NewestBelowIs, NewestAtIs, SettlingNeedsNoRow, SoundIsFacts, FreshIsSound, CallsKeepSound, RefusalChangesNothing, RefusedForCause, GrantedWithoutCause, OnlyOwnNumbers, HolderIsLowest, FormatRefusedForCause, PointRefusedForCause}
+use Rattle.meaning.specs.Laws.{FirstBlockedIsLeast, LockTakesRun, ReadTakesRun, CommonSetIs, EarliestIsLeast, LatestIsGreatest, NoCommonIsEmpty, NewestBelowIs, NewestAtIs, SettlingNeedsNoRow, SoundIsFacts, FreshIsSound, CallsKeepSound, RefusalChangesNothing, RefusedForCause, GrantedWithoutCause, OnlyOwnNumbers, HolderIsLowest, FormatRefusedForCause, PointRefusedForCause, PointsOrderAsPairs, PointsRunToLast}
 use Rattle.meaning.specs.Calls.{act}
 use Rattle.meaning.specs.declared.Call.the-variants as C
 use Rattle.meaning.proofs.Points as points
@@ -89,3 +89,10 @@ format-refused-for-cause = formats.format-refused-for-cause
 
 pub point-refused-for-cause : PointRefusedForCause
 point-refused-for-cause = formats.point-refused-for-cause
+
+-- points as pairs
+pub points-order-as-pairs : PointsOrderAsPairs
+points-order-as-pairs = formats.points-order-as-pairs
+
+pub points-run-to-last : PointsRunToLast
+points-run-to-last = formats.points-run-to-last

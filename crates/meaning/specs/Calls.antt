@@ -1,4 +1,5 @@
--- Every call as a function from a store to a reply and the store after it, and a run of a list of calls. Rests on the files of calls.
+-- Every call as a function from a store to a reply and the store after it, and a run of a list of calls. Rests on the
+-- files of calls.
 use Prim.Native.Nat.{ℕ}
 use mathlib.Core.List.{List, [], _∷_}
 use mathlib.Core.Bool.{true}
@@ -13,6 +14,7 @@ use Rattle.meaning.specs.Points.{covered, own, writes, firstCovered, fir
 use Rattle.meaning.specs.declared.Call.{Call}
 use Rattle.meaning.specs.declared.Call.the-variants as C
 
+-- Calls: what each of them comes to. 1 "store not sound" is no part of it: that is judged on the words
 unfoldable pub act : Call → Store → Outcome
 act C.Begin s = beginning s
 act (C.Write h r v) s = writing (h .0) r v s
@@ -24,29 +26,32 @@ act (C.Settle h) s = settling (h .0) s
 act (C.Purge r b) s = purging r (b .0) s
 act (C.View r p) s = viewing r (p .0) s
 
--- the replies of a list of calls, each on the store that the last one left, and the store after them
+-- the replies of a list of calls, each on the store that the last one left
 unfoldable pub run : List Call → Store → List Reply
 run [] s = []
 run (c ∷ cs) s = act c s .reply ∷ run cs (act c s .store)
 
+-- the store after a list of calls
 unfoldable pub after : List Call → Store → Store
 after [] s = s
 after (c ∷ cs) s = after cs (act c s .store)
 
--- a line of a script: a Format, on a slice whose length is the sum, or a call
+-- "one call a line": a Format, on a slice whose length is the sum, or a call
 pub data Line : Type 0 where
   format : Counts → Line
   call : Call → Line
 
+-- the outcome of a line
 unfoldable pub step : Line → Store → Outcome
 step (format c) s = formatting true c s
 step (call c) s = act c s
 
+-- "prints one line for each": the replies of a list of lines
 unfoldable pub lines : List Line → Store → List Reply
 lines [] s = []
 lines (l ∷ ls) s = step l s .reply ∷ lines ls (step l s .store)
 
--- `unfolding opened` opens every definition that a run computes with
+-- for proofs that compute: `unfolding opened` opens every definition that a run computes with
 unfoldable pub opened : Unit {0}
 unfolding lines step run after act editOf setEdit recOf withEdit withRecords inUse accessOf names versionsUsed locksUsed accessesUsed newestAt newestBelow versionOn covered own writes firstCovered firstFree conflicts blocks blockers frozen holder addLock leaveSettled dropOwner trimTo ownOn allows inCommon earliest latest knows isOpen hasRecord judge accessRoom lockRoom versionRoom withAccess begun beginChecks beginning written writeChecks writing withLock lockVerdict lockChecks lockWanted locking readVerdict readStore readNew readOpen readChecks reading settledLocks settled committed aborted noCommon commitVerdict commitOpen commitChecks committing abortChecks aborting settleChecks settling purgedRec purgeVerdict purgeTo purgeChecks purging viewChecks viewing goodCounts formatting
 opened = tt

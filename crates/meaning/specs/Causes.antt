@@ -1,5 +1,6 @@
--- The causes of the table "Sixteen ways to say no", one pointwise definition for each row and no computed search in any. A call that a
--- cause cannot concern has ⊥ there. Rests on Pointwise and the store; Order puts them in the order of the checks.
+-- The causes of the table "Sixteen ways to say no", one pointwise definition for each row and no computed search in
+-- any. A call that a cause cannot concern has ⊥ there. Rests on Pointwise and the store; Order puts them in the order
+-- of the checks.
 use Prim.Native.Nat.{ℕ, suc, _≤_, _<_}
 use mathlib.Core.Path.{_≡_}
 use mathlib.Core.Logic.{_⊎_}
@@ -14,7 +15,7 @@ use Rattle.meaning.specs.declared.Pick.the-variants.{Earliest, Latest, N
 use Rattle.meaning.specs.declared.Call.{Call}
 use Rattle.meaning.specs.declared.Call.the-variants as C
 
--- the handle of a call, the handle of a call that wants an open edit, the record of a call
+-- P of the handle of a call; for 2
 abbrev pub OfHandle : Call → (ℕ → Type 0) → Type 0
 OfHandle C.Begin P = ⊥
 OfHandle (C.Write h r v) P = P (h .0)
@@ -26,6 +27,7 @@ OfHandle (C.Settle h) P = P (h .0)
 OfHandle (C.Purge r b) P = ⊥
 OfHandle (C.View r p) P = ⊥
 
+-- P of the handle of a call that wants an open edit; for 3
 abbrev pub OfOpen : Call → (ℕ → Type 0) → Type 0
 OfOpen C.Begin P = ⊥
 OfOpen (C.Write h r v) P = P (h .0)
@@ -37,6 +39,7 @@ OfOpen (C.Settle h) P = ⊥
 OfOpen (C.Purge r b) P = ⊥
 OfOpen (C.View r p) P = ⊥
 
+-- P of the record of a call; for 5
 abbrev pub OfRecord : Call → (ℕ → Type 0) → Type 0
 OfRecord C.Begin P = ⊥
 OfRecord (C.Write h r v) P = P r
@@ -85,13 +88,14 @@ BadPoint (C.Settle h) = ⊥
 BadPoint (C.Purge r b) = LAST < b .0
 BadPoint (C.View r p) = LAST < p .0
 
--- an own pending value, or a record read before
+-- "own or repeated reads": an own pending value, or a record read before
 pub record Accessed (s : Store) (k r : ℕ) : Type 0 where
   pub access : Access
   pub member : access ∈ editAt s k .accesses
   pub names : access .rec ≡ r
   pub used : (access .written ≡ true) ⊎ (0 < access .from)
 
+-- "then own or repeated reads": a Read that `own` or `again` answers
 abbrev pub OwnOrAgain : Call → Store → Type 0
 OwnOrAgain C.Begin s = ⊥
 OwnOrAgain (C.Write h r v) s = ⊥
@@ -127,7 +131,7 @@ NoFreeSlot (C.Settle h) s = ⊥
 NoFreeSlot (C.Purge r b) s = ⊥
 NoFreeSlot (C.View r p) s = ⊥
 
--- `nopoint`: the common set is empty; 14 "named point not in the common set"; 12 "no version row": fewer are free than records written
+-- P of the slot of a Commit; for `nopoint` (an empty common set) and 12 (fewer rows free than records written)
 abbrev pub OfCommit : Call → (ℕ → Type 0) → Type 0
 OfCommit C.Begin P = ⊥
 OfCommit (C.Write h r v) P = ⊥
@@ -139,6 +143,7 @@ OfCommit (C.Settle h) P = ⊥
 OfCommit (C.Purge r b) P = ⊥
 OfCommit (C.View r p) P = ⊥
 
+-- 14 "named point not in the common set"
 abbrev pub NotCommon : Call → Store → Type 0
 NotCommon C.Begin s = ⊥
 NotCommon (C.Write h r v) s = ⊥
@@ -162,6 +167,7 @@ pub record LockedBelow (s : Store) (r b : ℕ) : Type 0 where
   pub unsettled : lock .owner ≡ SETTLED → ⊥
   pub below : lock .low ≤ version .point
 
+-- P of the record and the b of a Purge; for 15
 abbrev pub OfPurge : Call → (ℕ → ℕ → Type 0) → Type 0
 OfPurge C.Begin P = ⊥
 OfPurge (C.Write h r v) P = ⊥
@@ -173,19 +179,21 @@ OfPurge (C.Settle h) P = ⊥
 OfPurge (C.Purge r b) P = P r (b .0)
 OfPurge (C.View r p) P = ⊥
 
--- "What blocks a call is judged at the least blocked point wanted (A), or the first (P, none taken)": the call takes nothing, and p is the
--- least blocked point that it wants. P of Lock takes nothing where all is blocked, and P of Read where tr + 1 is, so that p is the first.
+-- "What blocks a call is judged at the least blocked point wanted (A), or the first (P, none taken)": Lock takes
+-- nothing, and p is the least blocked point of low..high. P takes nothing where all is blocked, so that p is then the
+-- first
 pub record LockJudged (s : Store) (k r low high : ℕ) (w : Extent) (p : ℕ) : Type 0 where
   pub denied : LockDenied w k (recAt s r) low high
   pub judged : LeastBlocked WRITE k (recAt s r) low high p
 
+-- The same of a Read of tr + 1..m: P takes nothing where tr + 1 is blocked, so that p is then the first
 pub record ReadJudged (s : Store) (k r m : ℕ) (w : Extent) (p : ℕ) : Type 0 where
   pub version : Version
   pub newest : NewestIs (recAt s r .versions) m version
   pub denied : ReadDenied w k (recAt s r) (suc (version .point)) m
   pub judged : LeastBlocked READ k (recAt s r) (suc (version .point)) m p
 
--- P r mode k p of the record, the mode, the slot and the point judged
+-- P r mode k p of the record, the mode, the slot and the point judged; for 8 and 9
 abbrev pub Judged : Call → Store → (ℕ → ℕ → ℕ → ℕ → Type 0) → Type 0
 Judged C.Begin s P = ⊥
 Judged (C.Write h r v) s P = ⊥
@@ -202,6 +210,7 @@ pub record NoAccessRow (s : Store) (k r : ℕ) : Type 0 where
   pub unnamed : (a : Access) → a ∈ editAt s k .accesses → a .rec ≡ r → ⊥
   pub full : s .accessRows ≤ accessesUsed s
 
+-- P of the slot and the record of a call that needs "one access for a record new to the edit"; for 10
 abbrev pub OfAccess : Call → (ℕ → ℕ → Type 0) → Type 0
 OfAccess C.Begin P = ⊥
 OfAccess (C.Write h r v) P = P (slotOf (h .0)) r
@@ -213,7 +222,7 @@ OfAccess (C.Settle h) P = ⊥
 OfAccess (C.Purge r b) P = ⊥
 OfAccess (C.View r p) P = ⊥
 
--- 11 "no lock row", for a Lock and a Read
+-- P, of a call that needs "one lock for each grant"; for 11
 abbrev pub OfGrant : Call → Type 0 → Type 0
 OfGrant C.Begin P = ⊥
 OfGrant (C.Write h r v) P = ⊥
@@ -225,10 +234,11 @@ OfGrant (C.Settle h) P = ⊥
 OfGrant (C.Purge r b) P = ⊥
 OfGrant (C.View r p) P = ⊥
 
--- 16 "format: count out of range, or slice length not the sum"
+-- 16 "count out of range": not from 1 to top
 abbrev pub OutOfRange : ℕ → ℕ → Type 0
 OutOfRange n top = (n ≡ 0) ⊎ (top < n)
 
+-- 16 "format: count out of range", for the five counts; the length is judged in Laws.FormatRefusedForCause
 pub data BadCounts (c : Counts) : Type 0 where
   records : OutOfRange (c .records) MAX-RECORDS → BadCounts c
   edits : OutOfRange (c .edits) MAX-EDITS → BadCounts c

@@ -14,26 +14,31 @@ use Rattle.meaning.specs.declared.Pick.the-variants.{Earliest, Latest, N
 use Rattle.meaning.specs.declared.Finish.{Finish}
 use Rattle.meaning.specs.declared.Finish.the-variants as F
 
--- the same edit, ended
+-- Layout, edit slot: state "2 committed, 3 aborted", "commit point": the same edit, ended
 abbrev pub ended : Edit → ℕ → ℕ → Edit
 ended e state point = record { state = state; generation = e .generation; accesses = e .accesses; point = point }
 
+-- "its accesses and its slot become free": the slot afterwards; its generation stays, as the next begin raises it
 abbrev pub freed : Edit → Edit
 freed e = record { state = FREE; generation = e .generation; accesses = []; point = 0 }
 
--- "Settling [freeze and release] leaves, for a committed edit at t, a settled read lock tr + 1..t for each record read and a settled
--- write lock on t for each written; all its other locks, its accesses and its slot become free. An aborted edit leaves nothing."
+-- "a settled read lock tr + 1..t for each record read and a settled write lock on t for each written": those left by
+-- the access a, in front of the locks ls
 abbrev pub locksLeft : Edit → Access → List Lock → List Lock
 locksLeft e a ls =
     leaveSettled (a .written) WRITE (e .point) (e .point) (leaveSettled (hasRead a) READ (a .from) (e .point) ls)
 
+-- "Settling leaves, for a committed edit at t, ...; all its other locks ... become free. An aborted edit leaves
+-- nothing.": the locks of record r afterwards
 unfoldable pub settledLocks : ℕ → Edit → ℕ → List Lock → List Lock
 settledLocks k e r ls =
     cond (eqb (e .state) COMMITTED) (locksLeft e (accessOf e r) (dropOwner k ls)) (dropOwner k ls)
 
+-- settling, for the record r; its versions and its floor stay
 abbrev pub settledRec : ℕ → Edit → ℕ → Rec → Rec
 settledRec k e r x = withLocks x (settledLocks k e r (x .locks))
 
+-- Settle, and the flag S: the store after settling slot k, its locks on records never accessed gone too
 unfoldable pub settled : Store → ℕ → Store
 settled s k = withEdit (withRecords s (mapFrom 0 (settledRec k (editAt s k)) (s .records))) k (freed (editAt s k))
 
@@ -42,14 +47,16 @@ abbrev pub finished : Finish → Store → ℕ → Store
 finished F.Settle s k = settled s k
 finished F.Keep s k = s
 
--- Commit: "all written values become versions at the point"
+-- "a version chain falls strictly in point": a version is put at its place in the list
 abbrev pub insert : Version → List Version → List Version
 insert v [] = v ∷ []
 insert v (w ∷ ws) = cond (ltb (w .point) (v .point)) (v ∷ w ∷ ws) (w ∷ insert v ws)
 
+-- "written values become versions at the point": the version that an access makes
 abbrev pub newVersion : Access → ℕ → Version
 newVersion a t = record { point = t; value = Written (a .value); spare = 0 }
 
+-- "all written values become versions at the point": record r afterwards
 abbrev pub committedRec : Edit → ℕ → ℕ → Rec → Rec
 committedRec e t r x =
     record {
@@ -58,48 +65,54 @@ committedRec e t r x =
       floor = x .floor;
     }
 
+-- Commit: the store after it, "all written values" of slot k saved at t and the edit ended
 unfoldable pub committed : Store → ℕ → ℕ → Store
 committed s k t =
     withEdit (withRecords s (mapFrom 0 (committedRec (editAt s k) t) (s .records))) k (ended (editAt s k) COMMITTED t)
 
+-- Abort, and "An empty set ends the edit as aborted": the store after it
 unfoldable pub aborted : Store → ℕ → Store
 aborted s k = withEdit s k (ended (editAt s k) ABORTED 0)
 
--- "Commit at the earliest, the latest or a named point"
+-- 6: "point too large; ... commit point 0", for a named point
 abbrev pub goodPick : Pick → Bool
 goodPick Earliest = true
 goodPick Latest = true
 goodPick (Named p) = isPoint (p .0)
 
+-- "Commit at the earliest, the latest or a named point"
 abbrev pub chosen : Store → ℕ → Pick → ℕ
 chosen s k Earliest = earliest (s .records) k (editAt s k)
 chosen s k Latest = latest (s .records) k (editAt s k)
 chosen s k (Named p) = p .0
 
--- 14: only a named point can be outside the common set
+-- 14: "named point not in the common set"; only a named point can be outside it
 abbrev pub allowed : Store → ℕ → Pick → Bool
 allowed s k Earliest = true
 allowed s k Latest = true
 allowed s k (Named p) = inCommon (s .records) k (editAt s k) (p .0)
 
--- "An empty set ends the edit as aborted, reply `nopoint`."
+-- "An empty set": there is no earliest point
 unfoldable pub noCommon : Store → ℕ → Bool
 noCommon s k = ltb LAST (earliest (s .records) k (editAt s k))
 
--- 14, 12
+-- Commit: 14, 12
 unfoldable pub commitVerdict : Store → ℕ → Pick → Verdict
 commitVerdict s k pick = needs (allowed s k pick) 14 (needs (versionRoom s k) 12 pass)
 
+-- "An empty set ends the edit as aborted, reply `nopoint`. Otherwise all written values become versions at the point."
+-- "`nopoint` obeys the flag too."
 unfoldable pub commitOpen : Store → ℕ → Pick → Finish → Outcome
 commitOpen s k pick f =
     let t : ℕ = chosen s k pick in
     cond (noCommon s k) (replies (finished f (aborted s k) k) nopoint)
     (unless s (commitVerdict s k pick) (replies (finished f (committed s k t) k) (commit t)))
 
--- 2, 3, 6
+-- Commit: 2, 3, 6
 unfoldable pub commitChecks : Store → ℕ → Pick → Verdict
 commitChecks s h pick = forOpen s h (needs (goodPick pick) 6 pass)
 
+-- "Commit at the earliest, the latest or a named point": the call, with all its checks
 unfoldable pub committing : ℕ → Pick → Finish → Store → Outcome
 committing h pick f s = unless s (commitChecks s h pick) (commitOpen s (slotOf h) pick f)
 
@@ -107,12 +120,14 @@ committing h pick f s = unless s (commitChecks s h pick) (commitOpen s (slotOf h
 unfoldable pub abortChecks : Store → ℕ → Verdict
 abortChecks s h = forOpen s h pass
 
+-- "Abort", with its flag: the call, with all its checks
 unfoldable pub aborting : ℕ → Finish → Store → Outcome
 aborting h f s = unless s (abortChecks s h) (replies (finished f (aborted s (slotOf h)) (slotOf h)) ok)
 
--- Settle "of an ended edit": 2, 4
+-- Settle: 2, 4
 unfoldable pub settleChecks : Store → ℕ → Verdict
 settleChecks s h = needs (knows s h) 2 (needs (not (isOpen s h)) 4 pass)
 
+-- "Settle (of an ended edit)": the call, with all its checks
 unfoldable pub settling : ℕ → Store → Outcome
 settling h s = unless s (settleChecks s h) (replies (settled s (slotOf h)) ok)

@@ -1,4 +1,5 @@
--- The order of the checks, which cause of a call is the first that stands, and what the reply then says. Rests on Causes.
+-- The order of the checks, which cause of a call is the first that stands, and what the reply then says. Rests on
+-- Causes.
 use Prim.Native.Nat.{ℕ, _+_, _≤_, _<_}
 use mathlib.Core.Path.{_≡_}
 use mathlib.Core.Logic.{_⊎_}
@@ -14,12 +15,13 @@ use Rattle.meaning.specs.Causes.{OfHandle, OfOpen, OfRecord, OfCommit, O
 use Rattle.meaning.specs.declared.Call.{Call}
 use Rattle.meaning.specs.declared.Call.the-variants as C
 
--- what ends the checks of a call: a refusal, an own or repeated read, an empty common set
+-- what ends the checks of a call: a refusal, "own or repeated reads", `nopoint`
 pub data Item : Type 0 where
   unsound noSlot noEdit ended stillOpen noRecord badPoint ownOrAgain belowFloor emptySet notCommon lockedBelow frozen held : Item
   noAccessRow noLockRow noVersionRow : Item
 
--- "Checked in this order: 1, 13, 2, 3 or 4, 5, 6, then own or repeated reads, 7, `nopoint`, 14, 15, 9 or 8, 10, 11, 12."
+-- "Checked in this order: 1, 13, 2, 3 or 4, 5, 6, then own or repeated reads, 7, `nopoint`, 14, 15, 9 or 8, 10, 11,
+-- 12."
 abbrev pub order : List Item
 order =
     unsound
@@ -41,7 +43,7 @@ order =
     ∷ noVersionRow
     ∷ []
 
--- what stands, of the items of the order
+-- the table's column "Cause": what it is for an item of the order to stand
 abbrev pub Stands : Item → Call → Store → Type 0
 Stands unsound c s = soundStore s ≡ false
 Stands noSlot c s = NoFreeSlot c s
@@ -61,20 +63,21 @@ Stands noAccessRow c s = OfAccess c (NoAccessRow s)
 Stands noLockRow c s = OfGrant c (s .lockRows ≤ locksUsed s)
 Stands noVersionRow c s = OfCommit c (λ k. s .versionRows < versionsUsed s + length (writtenOf (editAt s k)))
 
--- i stands, and none before it in the list
+-- "Checked in this order": i stands, and none before it in the list
 pub data First (c : Call) (s : Store) (i : Item) : List Item → Type 0 where
   here : {is : List Item} → Stands i c s → First c s i (i ∷ is)
   there : {j : Item} {is : List Item} → (Stands j c s → ⊥) → First c s i is → First c s i (j ∷ is)
 
--- none stands
+-- none of the list stands
 abbrev pub NoneStands : Call → Store → List Item → Type 0
 NoneStands c s [] = Unit {0}
 NoneStands c s (i ∷ is) = (Stands i c s → ⊥) × NoneStands c s is
 
--- what the reply is where an item is the first that stands
+-- "`no` number": the reply is refusal n
 abbrev pub Refuses : ℕ → Reply → Type 0
 Refuses n r = (more : List ℕ) × (r ≡ refusing n more)
 
+-- the table's column "No", and the replies `own`, `again` and `nopoint`: what the reply is where an item is the first
 abbrev pub Says : Item → Reply → Type 0
 Says unsound r = Refuses 1 r
 Says noSlot r = Refuses 13 r
@@ -94,7 +97,7 @@ Says noAccessRow r = Refuses 10 r
 Says noLockRow r = Refuses 11 r
 Says noVersionRow r = Refuses 12 r
 
--- what a call replies where nothing stands in its way
+-- "Replies": what a call replies where no item stands
 abbrev pub Grants : Call → Reply → Type 0
 Grants C.Begin r = (h : ℕ) × (r ≡ edit h)
 Grants (C.Write h k v) r = r ≡ ok
@@ -118,6 +121,6 @@ concerns (C.Settle h) = 2 ∷ 4 ∷ []
 concerns (C.Purge r b) = 5 ∷ 6 ∷ 15 ∷ []
 concerns (C.View r p) = 5 ∷ 6 ∷ 7 ∷ []
 
--- 8 names the lowest slot with a conflicting lock on the judged point
+-- "held by the lowest slot": 8 names the lowest slot with a conflicting lock on the judged point
 abbrev pub HeldByLowest : Call → Store → ℕ → Type 0
 HeldByLowest c s h = Judged c s (λ r mode k p. (o : ℕ) × LowestHolder mode k (recAt s r) p o × (h ≡ handleAt s o))

@@ -1,5 +1,5 @@
--- What a call comes to: a reply and the store after it; how its checks stand in order; the tests behind the refusals. Rests on Store,
--- Points and Replies.
+-- What a call comes to: a reply and the store after it; how its checks stand in order; the tests behind the refusals.
+-- Rests on Store, Points and Replies.
 use Prim.Native.Nat.{ℕ, _+_}
 use mathlib.Core.Bool.{Bool, true, false, cond, _&&_, _||_}
 use mathlib.Core.List.{List, [], _∷_}
@@ -11,24 +11,26 @@ use Rattle.meaning.specs.Store.{versionsUsed, locksUsed, accessesUsed}
 use Rattle.meaning.specs.Points.{frozen, holder}
 use Rattle.meaning.specs.Replies.{Reply, refusing}
 
+-- "its reply and the meaning of the lent store afterwards"
 pub record Outcome : Type 0 where
   pub reply : Reply
   pub store : Store
 
+-- a reply with the store after it
 abbrev pub replies : Store → Reply → Outcome
 replies s r = record { reply = r; store = s }
 
--- whether a call is refused, and with which number and details
+-- whether a call is refused: "Each carries its number; 8 also the holder's handle" (what is printed after the number)
 pub data Verdict : Type 0 where
   pass : Verdict
   refuse : ℕ → List ℕ → Verdict
 
--- refused as r says unless the test holds; else as v says
+-- "Checked in this order": refused as r says unless the test holds; else as v says
 abbrev pub orElse : Bool → Verdict → Verdict → Verdict
 orElse true r v = v
 orElse false r v = r
 
--- refused with n unless the test holds; else as v says
+-- "Checked in this order": refused with n unless the test holds; else as v says
 abbrev pub needs : Bool → ℕ → Verdict → Verdict
 needs b n v = orElse b (refuse n []) v
 
@@ -41,26 +43,27 @@ unless s (refuse n more) o = replies s (refusing n more)
 unfoldable pub knows : Store → ℕ → Bool
 knows s h = inUse (s .edits) (slotOf h) && eqb (editAt s (slotOf h) .generation) (generationOf h)
 
--- 3 and 4
+-- 3 "edit has ended", 4 "edit still open": it is open
 unfoldable pub isOpen : Store → ℕ → Bool
 isOpen s h = eqb (editAt s (slotOf h) .state) OPEN
 
--- 2, 3, and then as v says
+-- 2, 3, and then as v says; for the calls that want an open edit
 abbrev pub forOpen : Store → ℕ → Verdict → Verdict
 forOpen s h v = needs (knows s h) 2 (needs (isOpen s h) 3 v)
 
--- 5
+-- 5: "no such record"
 unfoldable pub hasRecord : Store → ℕ → Bool
 hasRecord s r = ltb r (length (s .records))
 
--- 6: a point above 0, for a read and a commit
+-- 6: "point too large; ... m or commit point 0": a point from 1, for a read and a commit
 abbrev pub isPoint : ℕ → Bool
 isPoint p = leb 1 p && leb p LAST
 
--- 9 or 8: what blocks slot k at the point p of record r
+-- "8 also the holder's handle": the handle of the edit in slot k
 abbrev pub handleAt : Store → ℕ → ℕ
 handleAt s k = handle (editAt s k .generation) k
 
+-- "frozen if ..., else held by the lowest slot": 9 or 8, by what blocks slot k at the point p of record r
 unfoldable pub judge : Store → ℕ → ℕ → ℕ → ℕ → Verdict
 judge s r mode k p =
     cond (frozen s r mode p) (refuse 9 []) (refuse 8 (handleAt s (holder mode k (recAt s r) p) ∷ []))

@@ -11,7 +11,7 @@ use Rattle.meaning.specs.Points.{isOwned, trimTo}
 use Rattle.meaning.specs.Replies.{Reply, ok, purged, at, point, refusing}
 use Rattle.meaning.specs.Outcomes.{Outcome, replies, Verdict, pass, needs, unless, hasRecord}
 
--- Purge: "versions below v go, settled locks lose their points up to v, rows left empty go, and the floor is v"
+-- "versions below v go, settled locks lose their points up to v, rows left empty go, and the floor is v"
 unfoldable pub purgedRec : Rec → ℕ → Rec
 purgedRec x v =
     record { versions = keep (λ w. leb v (w .point)) (x .versions); locks = trimTo v (x .locks); floor = v }
@@ -20,7 +20,8 @@ purgedRec x v =
 unfoldable pub purgeVerdict : Rec → ℕ → Verdict
 purgeVerdict x v = needs (not (any (λ l. not (isOwned SETTLED l) && leb (l .low) v) (x .locks))) 15 pass
 
--- "If there is none [v is then 0], or v is the floor, the reply is 0 and 0. ... The reply counts version rows and lock rows freed."
+-- "If there is none [v is then 0], or v is the floor, the reply is 0 and 0. ... The reply counts version rows and lock
+-- rows freed."
 unfoldable pub purgeTo : Store → ℕ → ℕ → Outcome
 purgeTo s r v =
     let x : Rec = recAt s r in
@@ -29,7 +30,7 @@ purgeTo s r v =
     (unless s (purgeVerdict x v)
     (replies (withRec s r y) (purged (length (x .versions) - length (y .versions)) (length (x .locks) - length (y .locks)))))
 
--- 5, 6
+-- Purge: 5, 6
 unfoldable pub purgeChecks : Store → ℕ → ℕ → Verdict
 purgeChecks s r b = needs (hasRecord s r) 5 (needs (leb b LAST) 6 pass)
 
@@ -47,10 +48,11 @@ viewing r p s =
     let v : Version = newestAt (recAt s r .versions) p in
     unless s (viewChecks s r p) (replies s (at (v .point) (v .value)))
 
--- Format: 16, "count out of range, or slice length not the sum". Whether the slice's length is the sum is for the words to say: fits
+-- 16: "count out of range": a count is from 1 to top
 abbrev pub inRange : ℕ → ℕ → Bool
 inRange n top = leb 1 n && leb n top
 
+-- "they are in range": the five counts
 unfoldable pub goodCounts : Counts → Bool
 goodCounts c =
     every
@@ -61,9 +63,11 @@ goodCounts c =
     ∷ inRange (c .accesses) MAX-ROWS
     ∷ [])
 
+-- "Format gives 16 alone, whatever the slice held before": "count out of range, or slice length not the sum". Whether
+-- the length is the sum is for the words to say: fits
 unfoldable pub formatting : Bool → Counts → Store → Outcome
 formatting fits c s = unless s (needs (goodCounts c && fits) 16 pass) (replies (fresh c) ok)
 
--- "Point makes a point of a reading and a seat; it needs no store." 6
+-- "Point makes a point of a reading and a seat; it needs no store." 6: "reading, seat ... too large"
 abbrev pub pointing : ℕ → ℕ → Reply
 pointing reading seat = cond (ltb reading READINGS && ltb seat SEATS) (point (reading * SEATS + seat)) (refusing 6 [])

@@ -1,4 +1,5 @@
--- The replies of document 01, and which of them each case of the code's answers is. Rests on Store and the types of src/lib.rt.
+-- The replies of document 01, and which of them each case of the code's answers is. Rests on Store and the types of
+-- src/lib.rt.
 use Prim.Native.Nat.{ℕ}
 use mathlib.Core.Bool.{Bool, true, false}
 use mathlib.Core.List.{List, [], _∷_}
@@ -30,9 +31,9 @@ use Rattle.meaning.specs.declared.PurgeReply.the-variants as Pg
 use Rattle.meaning.specs.declared.ViewReply.{ViewReply}
 use Rattle.meaning.specs.declared.ViewReply.the-variants as Vw
 
--- "Replies: `ok`; `edit` handle; `locked` low high; `read` tr end value; `own` value; `again` tr value; `commit` point; `nopoint`;
--- `purged` versions locks; `at` point value; `no` number (8: then the handle)." A refusal carries its number and what is printed
--- after it; `point` is the answer of the call Point.
+-- "Replies: `ok`; `edit` handle; `locked` low high; `read` tr end value; `own` value; `again` tr value; `commit` point;
+-- `nopoint`; `purged` versions locks; `at` point value; `no` number (8: then the handle)." A refusal carries its number
+-- and what is printed after it; `point` is the answer of the call Point
 pub data Reply : Type 0 where
   ok : Reply
   edit : ℕ → Reply
@@ -47,7 +48,7 @@ pub data Reply : Type 0 where
   point : ℕ → Reply
   refusing : ℕ → List ℕ → Reply
 
--- is it one of the sixteen refusals?
+-- "Sixteen ways to say no": the reply is one of them
 abbrev pub refused : Reply → Bool
 refused ok = false
 refused (edit h) = false
@@ -62,7 +63,7 @@ refused (at p v) = false
 refused (point p) = false
 refused (refusing n more) = true
 
--- the number of a refusal, as in the table of document 01
+-- "Each carries its number": the table's first column
 abbrev pub number : Refusal → ℕ
 number Unsound = 1
 number NoEdit = 2
@@ -81,7 +82,7 @@ number NotCommon = 14
 number LockedBelow = 15
 number BadFormat = 16
 
--- what is printed after the number: the holder's handle for 8
+-- "8 also the holder's handle": what is printed after the number
 abbrev pub details : Refusal → List ℕ
 details Unsound = []
 details NoEdit = []
@@ -100,52 +101,64 @@ details NotCommon = []
 details LockedBelow = []
 details BadFormat = []
 
+-- "`no` number (8: then the handle)"
 abbrev pub ofRefusal : Refusal → Reply
 ofRefusal r = refusing (number r) (details r)
 
+-- Point: the point made, or a refusal
 abbrev pub ofPoint : PointReply → Reply
 ofPoint (Pt.Made p) = point (p .0)
 ofPoint (Pt.Refused r) = ofRefusal r
 
+-- Format: `ok`, or a refusal
 abbrev pub ofFormat : FormatReply → Reply
 ofFormat Fm.Done = ok
 ofFormat (Fm.Refused r) = ofRefusal r
 
+-- Begin: "`edit` handle", or a refusal
 abbrev pub ofBegin : BeginReply → Reply
 ofBegin (Bg.Edit h) = edit (h .0)
 ofBegin (Bg.Refused r) = ofRefusal r
 
+-- Write: `ok`, or a refusal
 abbrev pub ofWrite : WriteReply → Reply
 ofWrite Wr.Done = ok
 ofWrite (Wr.Refused r) = ofRefusal r
 
+-- Lock: "`locked` low high", or a refusal
 abbrev pub ofLock : LockReply → Reply
 ofLock (Lk.Locked low high) = locked (low .0) (high .0)
 ofLock (Lk.Refused r) = ofRefusal r
 
+-- Read: "`read` tr end value; `own` value; `again` tr value", or a refusal
 abbrev pub ofRead : ReadReply → Reply
 ofRead (Rd.Read tr end v) = read (tr .0) (end .0) v
 ofRead (Rd.Own v) = own v
 ofRead (Rd.Again tr v) = again (tr .0) v
 ofRead (Rd.Refused r) = ofRefusal r
 
+-- Commit: "`commit` point; `nopoint`", or a refusal
 abbrev pub ofCommit : CommitReply → Reply
 ofCommit (Cm.Commit p) = commit (p .0)
 ofCommit Cm.NoPoint = nopoint
 ofCommit (Cm.Refused r) = ofRefusal r
 
+-- Abort: `ok`, or a refusal
 abbrev pub ofAbort : AbortReply → Reply
 ofAbort Ab.Done = ok
 ofAbort (Ab.Refused r) = ofRefusal r
 
+-- Settle: `ok`, or a refusal
 abbrev pub ofSettle : SettleReply → Reply
 ofSettle St.Done = ok
 ofSettle (St.Refused r) = ofRefusal r
 
+-- Purge: "`purged` versions locks", or a refusal
 abbrev pub ofPurge : PurgeReply → Reply
 ofPurge (Pg.Purged vs ls) = purged vs ls
 ofPurge (Pg.Refused r) = ofRefusal r
 
+-- View: "`at` point value", or a refusal
 abbrev pub ofView : ViewReply → Reply
 ofView (Vw.At p v) = at (p .0) v
 ofView (Vw.Refused r) = ofRefusal r

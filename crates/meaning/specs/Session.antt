@@ -1,4 +1,5 @@
--- The session of document 01, computed over one list of lines: the thirteen lines give the thirteen replies, whatever the slice held before.
+-- The session of document 01, computed over one list of lines: the thirteen lines give the thirteen replies, whatever
+-- the slice held before. Rests on Calls.
 use Prim.Native.Nat.{ℕ}
 use mathlib.Core.Path.{_≡_}
 use mathlib.Core.List.{List, [], _∷_}
@@ -12,18 +13,23 @@ use Rattle.meaning.specs.declared.Pick.the-variants.{Earliest, Latest}
 use Rattle.meaning.specs.declared.Finish.the-variants.{Settle}
 use Rattle.meaning.specs.declared.Call.the-variants as C
 
+-- "edit 65": the handle of the first begin in slot 1
 abbrev edit-65 : Handle
 edit-65 = record { 0 = 65 }
 
+-- "edit 66": the first in slot 2
 abbrev edit-66 : Handle
 edit-66 = record { 0 = 66 }
 
+-- "edit 129": the second in slot 1
 abbrev edit-129 : Handle
 edit-129 = record { 0 = 129 }
 
+-- a number of a script line where a point stands
 abbrev at-point : ℕ → Point
 at-point p = record { 0 = p }
 
+-- "The thirteen session lines, in a fresh run": the input, on the left
 unfoldable pub session : List Line
 session =
     format (record { records = 2; edits = 2; versions = 4; locks = 8; accesses = 8 })
@@ -41,6 +47,7 @@ session =
     ∷ call (C.Read edit-65 0 (at-point 6) All)
     ∷ []
 
+-- the output, on the right
 unfoldable pub sessionReplies : List Reply
 sessionReplies =
     ok
@@ -58,6 +65,6 @@ sessionReplies =
     ∷ refusing 2 []
     ∷ []
 
--- the claim; proofs/Session computes it
+-- "one computed check over a single list shows them of the definitions"; proofs/Session computes it
 abbrev pub SessionRight : Type 0
 SessionRight = (s : Store) → lines session s ≡ sessionReplies

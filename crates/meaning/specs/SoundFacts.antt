@@ -1,5 +1,5 @@
--- Soundness as plain facts: what each clause of Sound says of every version, lock and access. Laws says that a store is sound exactly if
--- these hold. Rests on Sound and Pointwise.
+-- Soundness as plain facts: what each clause of Sound says of every version, lock and access. Laws says that a store is
+-- sound exactly if these hold. Rests on Sound and Pointwise.
 use Prim.Native.Nat.{ℕ, suc, _≤_, _<_}
 use mathlib.Core.Path.{_≡_}
 use mathlib.Core.Logic.{_⊎_}
@@ -13,13 +13,13 @@ use Rattle.meaning.specs.Records.{goodCounts}
 use Rattle.meaning.specs.Sound.{versionsFall, namesOnce}
 use Rattle.meaning.specs.Pointwise.{InCommonSet, VersionOn}
 
--- the edit of slot k wrote record r and committed at t
+-- "of an edit that wrote the record and committed at that point": slot k, record r, point t
 pub record WroteAt (es : List Edit) (k r t : ℕ) : Type 0 where
   pub state : editOf es k .state ≡ COMMITTED
   pub point : editOf es k .point ≡ t
   pub wrote : accessOf (editOf es k) r .written ≡ true
 
--- a write lock on p, settled or of an edit that wrote the record and committed at p
+-- "a write lock on its point, settled or of an edit that wrote the record and committed at that point"
 pub record Backed (es : List Edit) (r p : ℕ) (ls : List Lock) : Type 0 where
   pub lock : Lock
   pub member : lock ∈ ls
@@ -28,12 +28,13 @@ pub record Backed (es : List Edit) (r p : ℕ) (ls : List Lock) : Type 0 where
   pub upto : p ≤ lock .high
   pub owner : (lock .owner ≡ SETTLED) ⊎ WroteAt es (lock .owner) r p
 
--- a lock lies in floor + 1..LAST
+-- "locks lie in floor + 1..LAST with low ≤ high": this lock
 pub record Span (floor : ℕ) (l : Lock) : Type 0 where
   pub above : floor < l .low
   pub some : l .low ≤ l .high
   pub last : l .high ≤ LAST
 
+-- the clauses of record r, from "modes" to "each version above the floor has a write lock on its point"
 pub record SoundRec (es : List Edit) (r : ℕ) (x : Rec) : Type 0 where
   pub mode : (l : Lock) → l ∈ x .locks → (l .mode ≡ READ) ⊎ (l .mode ≡ WRITE)
   pub falls : versionsFall x ≡ true
@@ -46,10 +47,11 @@ pub record SoundRec (es : List Edit) (r : ℕ) (x : Rec) : Type 0 where
   pub apart : (l m : Lock) → l ∈ x .locks → m ∈ x .locks → l .mode ≡ WRITE → (l .owner ≡ m .owner → ⊥) → (p : ℕ) → l .low ≤ p → p ≤ l .high → m .low ≤ p → p ≤ m .high → ⊥
   pub backed : (v : Version) → v ∈ x .versions → x .floor < v .point → Backed es r (v .point) (x .locks)
 
--- the point read, tr = from - 1, is a present version, or 0 under floor 0; a read lock starts just after it
+-- "a present version, or 0 under floor 0": tr
 abbrev pub Present : Rec → ℕ → Type 0
 Present x tr = VersionOn x tr ⊎ ((tr ≡ 0) × (x .floor ≡ 0))
 
+-- "the edit has a read lock starting just after it": slot k, at from = tr + 1
 pub record ReadStarts (k from : ℕ) (ls : List Lock) : Type 0 where
   pub lock : Lock
   pub member : lock ∈ ls
@@ -57,6 +59,7 @@ pub record ReadStarts (k from : ℕ) (ls : List Lock) : Type 0 where
   pub mode : lock .mode ≡ WRITE → ⊥
   pub starts : lock .low ≡ from
 
+-- the clauses of slot k, from "states, generations, commit points" to "free slots have no accesses"
 pub record SoundEdit (rs : List Rec) (k : ℕ) (e : Edit) : Type 0 where
   pub state : e .state ≤ ABORTED
   pub generation : e .generation < GENERATIONS
@@ -68,6 +71,7 @@ pub record SoundEdit (rs : List Rec) (k : ℕ) (e : Edit) : Type 0 where
   pub common : e .state ≡ COMMITTED → InCommonSet rs k e (e .point)
   pub idle : e .state ≡ FREE → e .accesses ≡ []
 
+-- "A store is sound when": the counts, rows in use are rows of the tables, every record, every slot
 pub record SoundStore (s : Store) : Type 0 where
   pub counts : goodCounts (countsOf s) ≡ true
   pub versions-fit : versionsUsed s ≤ s .versionRows

@@ -14,27 +14,31 @@ pub use Rattle.meaning.specs.declared.Lock.{Lock}
 pub use Rattle.meaning.specs.declared.Access.{Access}
 pub use Rattle.meaning.specs.declared.Counts.{Counts}
 
--- what an edit writes, any 64 bits, and what stands in an access until then
+-- "a pending value (any 64 bits)": what an edit writes
 abbrev pub Val : Type 0
 Val = ℕ
 
+-- Layout, access: "value (0 until written)"
 abbrev pub blank : Val
 blank = 0
 
--- a record (the paper's key): versions from the newest, locks, floor (low-water mark: versions below it are purged)
+-- Layout, record: "first version, first lock, floor". The paper's key: its versions from the newest, its locks, its
+-- floor (low-water mark: versions below it are purged)
 pub record Rec : Type 0 where
   pub versions : List Version
   pub locks : List Lock
   pub floor : ℕ
 
--- the slot of an edit (the paper's transaction): its state, generation, accesses, and commit point, 0 unless committed
+-- Layout, edit slot: "state ..., generation, first access, commit point (0 unless committed)". The slot of an edit, the
+-- paper's transaction
 pub record Edit : Type 0 where
   pub state : ℕ
   pub generation : ℕ
   pub accesses : List Access
   pub point : ℕ
 
--- the last three are the numbers of rows of the tables
+-- Layout, header: "record, edit, version, lock, access counts". The first two are the lengths of the lists; the last
+-- three are the numbers of rows of the tables
 pub record Store : Type 0 where
   pub records : List Rec
   pub edits : List Edit
@@ -42,13 +46,15 @@ pub record Store : Type 0 where
   pub lockRows : ℕ
   pub accessRows : ℕ
 
+-- a record of a fresh store: "Point 0 belongs to the first, never written state"
 abbrev pub freshRec : Rec
 freshRec = record { versions = []; locks = []; floor = 0 }
 
+-- "The generation is 0 to 65,535, 0 in a fresh store": a slot of a fresh store, free
 abbrev pub freshEdit : Edit
 freshEdit = record { state = FREE; generation = 0; accesses = []; point = 0 }
 
--- what Format lays out
+-- "Format writes the counts, free chains in rising order, and zero elsewhere": what these words mean
 abbrev pub fresh : Counts → Store
 fresh c =
     record {
@@ -59,6 +65,7 @@ fresh c =
       accessRows = c .accesses;
     }
 
+-- "its length fits its counts, and they are in range": the five counts of a store
 abbrev pub countsOf : Store → Counts
 countsOf s =
     record {
@@ -73,9 +80,11 @@ countsOf s =
 abbrev pub handle : ℕ → ℕ → ℕ
 handle generation slot = generation * SLOTS + slot
 
+-- the slot of a handle
 abbrev pub slotOf : ℕ → ℕ
 slotOf h = h % SLOTS
 
+-- the generation of a handle; a handle above 65,535 × 64 + 63 has one that no slot has
 abbrev pub generationOf : ℕ → ℕ
 generationOf h = h / SLOTS
 
@@ -83,26 +92,29 @@ generationOf h = h / SLOTS
 abbrev pub nextGeneration : ℕ → ℕ
 nextGeneration g = (g + 1) % GENERATIONS
 
--- slots count from 1: slot 0 and those past the end read as free
+-- "edit slot | 1 to 63, named from 1": the edit of a slot; slot 0 and those past the end read as free
 unfoldable pub editOf : List Edit → ℕ → Edit
 editOf es zero = freshEdit
 editOf es (suc i) = getD es i freshEdit
 
+-- the edits with e in slot k, for withEdit; slot 0 and those past the end are no slots, and nothing changes
 unfoldable pub setEdit : List Edit → ℕ → Edit → List Edit
 setEdit es zero e = es
 setEdit es (suc i) e = set es i e
 
--- records count from 0
+-- "record | 1 to 1,024, named from 0": the record r; those past the end read as fresh
 unfoldable pub recOf : List Rec → ℕ → Rec
 recOf rs r = getD rs r freshRec
 
+-- the edit of slot k of a store
 abbrev pub editAt : Store → ℕ → Edit
 editAt s k = editOf (s .edits) k
 
+-- the record r of a store
 abbrev pub recAt : Store → ℕ → Rec
 recAt s r = recOf (s .records) r
 
--- a store is rebuilt only by these two
+-- the store with e in slot k, all else the same. A store is rebuilt only by this and withRecords
 unfoldable pub withEdit : Store → ℕ → Edit → Store
 withEdit s k e =
     record {
@@ -113,6 +125,7 @@ withEdit s k e =
       accessRows = s .accessRows;
     }
 
+-- the store with these records, all else the same
 unfoldable pub withRecords : Store → List Rec → Store
 withRecords s rs =
     record {
@@ -123,57 +136,66 @@ withRecords s rs =
       accessRows = s .accessRows;
     }
 
+-- the store with x for its record r, all else the same
 abbrev pub withRec : Store → ℕ → Rec → Store
 withRec s r x = withRecords s (set (s .records) r x)
 
+-- the record with these locks, its versions and its floor the same
 abbrev pub withLocks : Rec → List Lock → Rec
 withLocks x ls = record { versions = x .versions; locks = ls; floor = x .floor }
 
--- a slot is in use unless it is free
+-- "slots in use": a slot is in use unless it is free
 unfoldable pub inUse : List Edit → ℕ → Bool
 inUse es k = not (eqb (editOf es k .state) FREE)
 
--- the access of a record, with nothing read and nothing written where the edit has none
+-- an access of record r; for accessOf, names and Edits.withAccess
 abbrev pub isOf : ℕ → Access → Bool
 isOf r a = eqb (a .rec) r
 
+-- an access of r with nothing read and nothing written; for accessOf, where the edit has none
 abbrev pub noAccess : ℕ → Access
 noAccess r = record { rec = r; from = 0; written = false; value = blank }
 
+-- "an edit names an existing record at most once in its accesses": its access of record r
 unfoldable pub accessOf : Edit → ℕ → Access
 accessOf e r = find (isOf r) (noAccess r) (e .accesses)
 
+-- the edit names record r in its accesses; else r is "a record new to the edit"
 unfoldable pub names : Edit → ℕ → Bool
 names e r = any (isOf r) (e .accesses)
 
--- `from` is the point read + 1, or 0
+-- Layout, access: "point read + 1 or 0": the record was read
 abbrev pub hasRead : Access → Bool
 hasRead a = ltb 0 (a .from)
 
--- the accesses of records written
+-- "each record written": the accesses of records written
 abbrev pub writtenOf : Edit → List Access
 writtenOf e = keep (λ a. a .written) (e .accesses)
 
--- rows in use
+-- version rows in use; "the free rows" of the version table are the others
 unfoldable pub versionsUsed : Store → ℕ
 versionsUsed s = total (λ x. length (x .versions)) (s .records)
 
+-- lock rows in use
 unfoldable pub locksUsed : Store → ℕ
 locksUsed s = total (λ x. length (x .locks)) (s .records)
 
+-- access rows in use
 unfoldable pub accessesUsed : Store → ℕ
 accessesUsed s = total (λ e. length (e .accesses)) (s .edits)
 
--- "Point 0 belongs to the first, never written state"
+-- "Point 0 belongs to the first, never written state (the paper's #)."
 abbrev pub first : Version
 first = record { point = 0; value = Never; spare = 0 }
 
--- the newest version at or below p, below p, and the one at p: versions stand from the newest
+-- "the newest version at or below p", or the first state; versions stand from the newest
 unfoldable pub newestAt : List Version → ℕ → Version
 newestAt vs p = find (λ v. leb (v .point) p) first vs
 
+-- Read: "the version is the newest below m", or the first state
 unfoldable pub newestBelow : List Version → ℕ → Version
 newestBelow vs p = find (λ v. ltb (v .point) p) first vs
 
+-- "gives the same version again": the version on point p, or the first state
 unfoldable pub versionOn : List Version → ℕ → Version
 versionOn vs p = find (λ v. eqb (v .point) p) first vs

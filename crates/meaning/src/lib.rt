@@ -1,7 +1,7 @@
-// What callers of the store say and hear: points, handles, values, calls and replies, and the entries of the store's tables.
-// Each function is proved against the definitions in specs/, which say what the store means. Nothing here knows a word's place.
+// What callers of the store say and hear: points, handles, values, calls and replies, and the entries of the store's
+// tables. Each function is proved against the definitions in specs/, which say what the store means. Nothing here
+// knows a word's place.
 ghost use mathlib.Core.Path.{_≡_};
-ghost use Rattle.meaning.specs.Limits.{LAST};
 ghost use Rattle.meaning.specs.Points.{covers, conflicts, blocks};
 ghost use Rattle.meaning.specs.Replies.{ofPoint, number};
 ghost use Rattle.meaning.specs.Records.{pointing};
@@ -46,7 +46,8 @@ pub struct Reading(u64);
 // A seat number: which desk reads the clock.
 pub struct Seat(u64);
 
-// A point, the paper's timestamp: reading * 64 + seat. Its field is private, so that a bare reading never passes for a point.
+// A point, the paper's timestamp: reading * 64 + seat. Its field is private, so that a bare reading never passes for a
+// point.
 pub struct Point(u64);
 
 // The handle of an edit, the paper's transaction: generation * 64 + slot.
@@ -58,13 +59,14 @@ pub enum Value {
     Written(u64),
 }
 
-// The entries of the three tables, by value. A lock's mode is 1 for read and 2 for write, its owner a slot, or 0 once settled.
+// The entries of the three tables, by value. A version: its point, its value and its third word.
 pub struct Version {
     pub point: u64,
     pub value: Value,
     pub spare: u64,
 }
 
+// A lock of low..high: its mode is 1 for read and 2 for write, its owner a slot, or 0 once settled.
 pub struct Lock {
     pub low: u64,
     pub high: u64,
@@ -141,22 +143,25 @@ pub enum Refusal {
     BadFormat,
 }
 
-// One reply for each call.
+// One reply for each call. Point: the point made, or refusal 6.
 pub enum PointReply {
     Made(Point),
     Refused(Refusal),
 }
 
+// `ok`, or refusal 16.
 pub enum FormatReply {
     Done,
     Refused(Refusal),
 }
 
+// The handle of the edit.
 pub enum BeginReply {
     Edit(Handle),
     Refused(Refusal),
 }
 
+// `ok`, or a refusal.
 pub enum WriteReply {
     Done,
     Refused(Refusal),
@@ -176,17 +181,20 @@ pub enum ReadReply {
     Refused(Refusal),
 }
 
+// The commit point, or `nopoint`.
 pub enum CommitReply {
     Commit(Point),
     NoPoint,
     Refused(Refusal),
 }
 
+// `ok`, or a refusal.
 pub enum AbortReply {
     Done,
     Refused(Refusal),
 }
 
+// `ok`, or a refusal.
 pub enum SettleReply {
     Done,
     Refused(Refusal),
@@ -198,17 +206,20 @@ pub enum PurgeReply {
     Refused(Refusal),
 }
 
+// The point and the value of the version.
 pub enum ViewReply {
     At(Point, Value),
     Refused(Refusal),
 }
 
+// A word as a clock reading; `make_point` refuses one above 2^40 - 1.
 pub fn reading_of(word: u64) -> Reading
     ensures { λ r. ⌜ r .0 ≡ word ⌝ }
 {
     Reading(word)
 }
 
+// A word as a seat number; `make_point` refuses one above 63.
 pub fn seat_of(word: u64) -> Seat
     ensures { λ r. ⌜ r .0 ≡ word ⌝ }
 {
@@ -237,24 +248,21 @@ pub fn point_of_word(word: u64) -> Point
     Point(word)
 }
 
+// The number of a point, for replies and rows.
 pub fn word_of_point(p: Point) -> u64
     ensures { λ r. ⌜ r ≡ p .0 ⌝ }
 {
     p.0
 }
 
-pub fn last_point() -> Point
-    ensures { λ r. ⌜ r .0 ≡ LAST ⌝ }
-{
-    Point(LAST)
-}
-
+// A word as a handle; the calls refuse one that names no edit.
 pub fn handle_of_word(word: u64) -> Handle
     ensures { λ r. ⌜ r .0 ≡ word ⌝ }
 {
     Handle(word)
 }
 
+// The number of a handle, for replies.
 pub fn word_of_handle(h: Handle) -> u64
     ensures { λ r. ⌜ r ≡ h .0 ⌝ }
 {
@@ -268,12 +276,14 @@ pub fn make_handle(generation: u16, slot: u8) -> Handle
     Handle(generation as u64 * SLOTS + slot as u64)
 }
 
+// The slot that a handle names.
 pub fn slot_of(h: Handle) -> u64
     ensures { λ r. ⌜ r ≡ slotOf (h .0) ⌝ }
 {
     h.0 % SLOTS
 }
 
+// The generation that a handle names.
 pub fn generation_of(h: Handle) -> u64
     ensures { λ r. ⌜ r ≡ generationOf (h .0) ⌝ }
 {
@@ -311,8 +321,7 @@ pub fn refusal_number(r: Refusal) -> u64
     }
 }
 
-// Tests on locks.
-
+// Tests on locks: the point lies in the lock.
 pub fn covers(p: u64, l: Lock) -> bool
     ensures { λ q. ⌜ q ≡ covers p l ⌝ }
 {
@@ -332,6 +341,7 @@ pub fn conflicts(mode: u64, l: Lock) -> bool
     l.mode == WRITE
 }
 
+// The lock stands in the way of slot k: another owner has it, and it conflicts.
 pub fn blocks(mode: u64, k: u64, l: Lock) -> bool
     ensures { λ q. ⌜ q ≡ blocks mode k l ⌝ }
 {

@@ -2,8 +2,10 @@
 use Prim.Native.Nat.{ℕ, zero, suc, _/_, _%_}
 use mathlib.Core.List.{List, [], _∷_, map}
 use lib.Dec.{eqb}
+use mathlib.Core.Path.{_≡_}
+use Rattle.chains.specs.Lists.{firstOf}
 use Rattle.chains.specs.Table.{field, rowsOf}
-use Rattle.meaning.specs.Store.{Rec, Edit, Store}
+use Rattle.meaning.specs.Store.{Rec, Edit, Store, isOf}
 use Rattle.meaning.specs.declared.Value.the-variants.{Written}
 use Rattle.meaning.specs.declared.Version.{Version}
 use Rattle.meaning.specs.declared.Lock.{Lock}
@@ -95,3 +97,7 @@ module _ (c : Counts) (w : List ℕ) where
         lockRows = c .locks;
         accessRows = c .accesses;
       }
+
+  -- i is the row of slot k's access of record r, or 0 where there is none
+  abbrev pub AccessRow : ℕ → ℕ → ℕ → Type 0
+  AccessRow k r i = i ≡ firstOf (λ j. isOf r (accessAt j)) (accessRows k)

@@ -33,7 +33,7 @@ enum-known-from : tie.Need-enum-known-from
 enum-known-from c = search needs
 
 read-taken-requires : tie.Need-read-taken-requires
-read-taken-requires c κs = (c .before .before .before .before .before .before .before .before .before .before .before .before .before .pre .0, c .before .before .before .before .before .before .before .before .before .before .before .before .before .pre .1, c .before .before .before .before .before .before .before .before .before .before .before .before .before .pre .2)
+read-taken-requires c κs = (c .before .before .before .before .before .before .before .before .before .before .before .before .before .pre .0, c .before .before .before .before .before .before .before .before .before .before .before .before .before .pre .1, c .before .before .before .before .before .before .before .before .before .before .before .before .before .pre .2, c .before .before .before .before .before .before .before .before .before .before .before .before .before .pre .4)
 
 same-length-2 : tie.Need-same-length-2
 same-length-2 c = search needs
