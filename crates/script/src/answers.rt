@@ -2,9 +2,11 @@
 // is empty, and no empty slice is a sound store.
 ghost use mathlib.Core.Path.{_≡_};
 ghost use Prim.Native.Nat.{_≤_};
-ghost use lib.ListN.{length};
+ghost use lib.ListN.{length, take};
 ghost use Rattle.store.specs.Answers.{ofAnswer};
 ghost use Rattle.lines.specs.Shown.{lineOf};
+ghost use Rattle.lines.specs.Calls.{parsed};
+ghost use Rattle.script.specs.Script.{Says, Answers, called, formatted, said, roomFor, wordsFor};
 use lines::Line;
 use lines::Parsed;
 use lines::line_of_abort;
@@ -50,7 +52,7 @@ fn line_of(a: Answer) -> Line
 // How many words Format is lent: as many as the counts ask for, or none where they are out of range or ask for more than there is room. Lent
 // none, Format refuses with 16.
 fn words_for(c: Counts, room: usize) -> usize
-    ensures { λ r. ⌜ r ≤ room ⌝ }
+    ensures { λ r. ⌜ r ≡ wordsFor room c ⌝ }
 {
     if !tables::good_counts(c) {
         return 0;
@@ -62,7 +64,7 @@ fn words_for(c: Counts, room: usize) -> usize
 // Format: the words in use stay the same if it is refused.
 fn run_format(words: &mut [u64], used: usize, c: Counts) -> Answered
     requires { ⌜ used ≤ length (now words) ⌝ }
-    ensures { λ r. ⌜ r .used ≤ length (now (words .exit)) ⌝ }
+    ensures { λ r. ⌜ Answers (formatted c (roomFor (length (now (words .entry))) c)) (now (words .entry)) used (r .line) (now (words .exit)) (r .used) ⌝ }
 {
     let n = words_for(c, words.len());
     let reply = format::format(&mut words[..n], c);
@@ -81,6 +83,7 @@ fn run_format(words: &mut [u64], used: usize, c: Counts) -> Answered
 // Any other call, on the words in use.
 fn run_call(words: &mut [u64], used: usize, call: Call) -> Line
     requires { ⌜ used ≤ length (now words) ⌝ }
+    ensures { λ l. ⌜ Says (called call) (take used (now (words .entry))) l (take used (now (words .exit))) ⌝ }
 {
     line_of(perform(&mut words[..used], call))
 }
@@ -88,7 +91,7 @@ fn run_call(words: &mut [u64], used: usize, call: Call) -> Line
 // What a line prints, and how many words are in use after it.
 pub fn answer(words: &mut [u64], used: usize, line: &[u8]) -> Answered
     requires { ⌜ used ≤ length (now words) ⌝ }
-    ensures { λ r. ⌜ r .used ≤ length (now (words .exit)) ⌝ }
+    ensures { λ r. ⌜ Answers (said (length (now (words .entry))) (parsed (now (line .entry)))) (now (words .entry)) used (r .line) (now (words .exit)) (r .used) ⌝ }
 {
     match parse(line) {
         Parsed::Malformed => Answered {

@@ -19,7 +19,7 @@ same-length : tie.Need-same-length
 same-length c = search needs
 
 returns : tie.Need-returns
-returns c = search needs
+returns c = (c .before .before .before .before .answer .ensures .inside, search needs, search needs)
 
 pub end-line-spec : {M : Type 1} → statement M
 end-line-spec = tie.close (tie.spec slice-aggregate-answer answer-requires put-line-requires same-length returns)

@@ -1,7 +1,8 @@
--- `script::answers::run_call` is safe.
+-- `script::answers::run_call` meets its contract: the call does what it promises on the words in use, and the line is that of its reply.
 -- Assumes nothing.
 use mathlib.Core.Path.{sym}
 use lib.Seq.{length-take-le}
+use Rattle.script.proofs.Saying.{call-answers}
 use borrow.Author.Needs.{needs}
 use Rattle.script.proofs.answers.run_call.Statement.{statement}
 use Rattle.script.proofs.answers.run_call.Tie as tie
@@ -22,7 +23,7 @@ same-length : tie.Need-same-length
 same-length c = search needs
 
 returns : tie.Need-returns
-returns c = search needs
+returns c = call-answers (c .before .before .before .before .before .before .args .call) (c .before .before .before .before .before .before .args .words .now) (c .before .before .before .perform .last .0) (c .before .before .before .before .before .before .args .used) (c .before .before .before .before .before .before .pre) (same-length c) (c .before .before .before .perform .ensures) (c .line-of .ensures)
 
 pub run-call-spec : {M : Type 1} → statement M
 run-call-spec = tie.close (tie.spec slice-relend-prefix-perform slice-aggregate-perform perform-requires line-of-requires same-length returns)
