@@ -1,11 +1,11 @@
 // Starts from a sound store whose slot 1 has generation 65,535 and an open edit, and shows the wrap: after 65,535 comes
 // 0. Every call that takes a handle refuses one of another generation with 2, and after 65,536 begins in the slot the
 // stale handle is good again. Rests on `store`, and on `lines` for the text of calls and replies.
-use lines::Line;
 use lines::Parsed;
 use meaning::BeginReply;
 use meaning::Call;
 use meaning::Finish;
+use printing::Line;
 use store::Answer;
 
 // The words of slot 1 in the store 2 2 4 8 8.
@@ -14,15 +14,15 @@ const SLOT_1: usize = tables::HEADER + 2 * tables::RECORD;
 fn performed(words: &mut [u64; 118], call: Call) -> Line {
     let answer = store::perform(words, call);
     match answer {
-        Answer::Begin(r) => lines::line_of_begin(r),
-        Answer::Write(r) => lines::line_of_write(r),
-        Answer::Lock(r) => lines::line_of_lock(r),
-        Answer::Read(r) => lines::line_of_read(r),
-        Answer::Commit(r) => lines::line_of_commit(r),
-        Answer::Abort(r) => lines::line_of_abort(r),
-        Answer::Settle(r) => lines::line_of_settle(r),
-        Answer::Purge(r) => lines::line_of_purge(r),
-        Answer::View(r) => lines::line_of_view(r),
+        Answer::Begin(r) => printing::line_of_begin(r),
+        Answer::Write(r) => printing::line_of_write(r),
+        Answer::Lock(r) => printing::line_of_lock(r),
+        Answer::Read(r) => printing::line_of_read(r),
+        Answer::Commit(r) => printing::line_of_commit(r),
+        Answer::Abort(r) => printing::line_of_abort(r),
+        Answer::Settle(r) => printing::line_of_settle(r),
+        Answer::Purge(r) => printing::line_of_purge(r),
+        Answer::View(r) => printing::line_of_view(r),
     }
 }
 
@@ -40,7 +40,7 @@ fn print_out(out: &[u8; 80], n: usize) {
 
 fn print_line(l: Line) {
     let mut out = [0u8; 80];
-    let n = lines::print(l, &mut out);
+    let n = printing::print(l, &mut out);
     print_out(&out, n);
 }
 
@@ -50,7 +50,7 @@ fn step(words: &mut [u64; 118], line: &[u8]) {
     let parsed = lines::parse(line);
     match parsed {
         Parsed::Call(call) => print_line(performed(words, call)),
-        Parsed::Format(c) => print_line(lines::line_of_format(format::format(words, c))),
+        Parsed::Format(c) => print_line(printing::line_of_format(format::format(words, c))),
         Parsed::Malformed => print_line(Line::Malformed),
     }
     io::write_all(1, b"\n");

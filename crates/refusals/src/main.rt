@@ -2,9 +2,9 @@
 // chain run in a circle, and on the empty slice, and prints each reply and whether any word moved. A store
 // that is not sound must reply `no 1` and keep every word; on the sound one each call has another reply, so that the
 // lines can differ. Rests on `store` and, for the text of calls and replies, on `lines`.
-use lines::Line;
 use lines::Parsed;
 use meaning::Call;
+use printing::Line;
 use store::Answer;
 
 // The store 2 3 4 8 8 in 122 words: where its parts begin.
@@ -30,19 +30,25 @@ enum Part {
 // The reply of the call's own function.
 fn direct(words: &mut [u64], call: Call) -> Line {
     match call {
-        Call::Begin => lines::line_of_begin(store::begin(words)),
-        Call::Write(h, rec, value) => lines::line_of_write(store::write(words, h, rec, value)),
+        Call::Begin => printing::line_of_begin(store::begin(words)),
+        Call::Write(h, rec, value) => printing::line_of_write(store::write(words, h, rec, value)),
         Call::Lock(h, rec, low, high, extent) => {
-            lines::line_of_lock(store::lock(words, h, rec, low, high, extent))
+            printing::line_of_lock(store::lock(words, h, rec, low, high, extent))
         }
-        Call::Read(h, rec, m, extent) => lines::line_of_read(store::read(words, h, rec, m, extent)),
+        Call::Read(h, rec, m, extent) => printing::line_of_read(store::read(
+            words,
+            h,
+            rec,
+            m,
+            extent,
+        )),
         Call::Commit(h, pick, finish) => {
-            lines::line_of_commit(store::commit(words, h, pick, finish))
+            printing::line_of_commit(store::commit(words, h, pick, finish))
         }
-        Call::Abort(h, finish) => lines::line_of_abort(store::abort(words, h, finish)),
-        Call::Settle(h) => lines::line_of_settle(store::settle(words, h)),
-        Call::Purge(rec, b) => lines::line_of_purge(store::purge(words, rec, b)),
-        Call::View(rec, p) => lines::line_of_view(store::view(words, rec, p)),
+        Call::Abort(h, finish) => printing::line_of_abort(store::abort(words, h, finish)),
+        Call::Settle(h) => printing::line_of_settle(store::settle(words, h)),
+        Call::Purge(rec, b) => printing::line_of_purge(store::purge(words, rec, b)),
+        Call::View(rec, p) => printing::line_of_view(store::view(words, rec, p)),
     }
 }
 
@@ -50,15 +56,15 @@ fn direct(words: &mut [u64], call: Call) -> Line {
 fn performed(words: &mut [u64], call: Call) -> Line {
     let answer = store::perform(words, call);
     match answer {
-        Answer::Begin(r) => lines::line_of_begin(r),
-        Answer::Write(r) => lines::line_of_write(r),
-        Answer::Lock(r) => lines::line_of_lock(r),
-        Answer::Read(r) => lines::line_of_read(r),
-        Answer::Commit(r) => lines::line_of_commit(r),
-        Answer::Abort(r) => lines::line_of_abort(r),
-        Answer::Settle(r) => lines::line_of_settle(r),
-        Answer::Purge(r) => lines::line_of_purge(r),
-        Answer::View(r) => lines::line_of_view(r),
+        Answer::Begin(r) => printing::line_of_begin(r),
+        Answer::Write(r) => printing::line_of_write(r),
+        Answer::Lock(r) => printing::line_of_lock(r),
+        Answer::Read(r) => printing::line_of_read(r),
+        Answer::Commit(r) => printing::line_of_commit(r),
+        Answer::Abort(r) => printing::line_of_abort(r),
+        Answer::Settle(r) => printing::line_of_settle(r),
+        Answer::Purge(r) => printing::line_of_purge(r),
+        Answer::View(r) => printing::line_of_view(r),
     }
 }
 
@@ -76,7 +82,7 @@ fn print_out(out: &[u8; 80], n: usize) {
 
 fn print_line(l: Line) {
     let mut out = [0u8; 80];
-    let n = lines::print(l, &mut out);
+    let n = printing::print(l, &mut out);
     print_out(&out, n);
 }
 
@@ -184,7 +190,7 @@ fn step(words: &mut [u64; 122], line: &[u8]) {
     let parsed = lines::parse(line);
     match parsed {
         Parsed::Call(call) => print_line(performed(words, call)),
-        Parsed::Format(c) => print_line(lines::line_of_format(format::format(words, c))),
+        Parsed::Format(c) => print_line(printing::line_of_format(format::format(words, c))),
         Parsed::Malformed => {}
     }
     io::write_all(1, b"\n");

@@ -1,7 +1,7 @@
 // What is to be written, collected in a buffer of 65,536 bytes, so that one write takes many lines.
 ghost use Prim.Native.Nat.{_+_, _≤_};
 ghost use lib.ListN.{length};
-use lines::Line;
+use printing::Line;
 
 const NEWLINE: u8 = 10;
 
@@ -47,7 +47,7 @@ pub fn put_line(out: &mut [u8; 65536], ready: usize, l: Line) -> usize
     ensures { λ r. ⌜ r ≤ 65536 ⌝ }
 {
     let mut text = [0u8; 80];
-    let n = lines::print(l, &mut text);
+    let n = printing::print(l, &mut text);
     append(out, ready, &text, n)
 }
 

@@ -2,7 +2,7 @@
 -- Assumes nothing.
 use mathlib.Core.Path.{sym, ap, _∙_}
 use Rattle.store.specs.Answers.{ofAnswer}
-use Rattle.lines.specs.Shown.{lineOf}
+use Rattle.printing.specs.Shown.{lineOf}
 use borrow.Author.Needs.{needs}
 use Rattle.script.proofs.answers.line_of.Statement.{statement}
 use Rattle.script.proofs.answers.line_of.Tie as tie
