@@ -1,6 +1,5 @@
-// Script lines: one line of bytes read as a call, and a reply's line written into a lent buffer. Nothing here knows a store.
-// This file has the types; `fields` and `calls` read a line, `replies` and `writing` print one. Each function is proved against specs/.
-
+// Script lines: one line of bytes read as a call, or found to be of another form. Nothing here knows a store.
+// This file has the types; `fields` reads a field and `parsing` a line. Each function is proved against specs/.
 mod fields;
 mod parsing;
 
