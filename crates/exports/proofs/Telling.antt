@@ -11,14 +11,13 @@ use Rattle.meaning.specs.declared.Refusal.the-variants.{Unsound, NoEdit, EditEn
 use Rattle.meaning.specs.Records.{pointing}
 use Rattle.meaning.specs.declared.Point.{Point}
 use Rattle.meaning.specs.declared.Pick.the-variants.{Named}
-use Rattle.meaning.specs.declared.Extent.{Extent}
 use Rattle.meaning.specs.declared.Extent.the-variants.{All, Part}
-use Rattle.meaning.specs.declared.Finish.{Finish}
 use Rattle.meaning.specs.declared.Finish.the-variants.{Settle, Keep}
 use Rattle.exports.specs.Codes.{codeOf, numbersOf, Tells, Answers, extentOf, finishOf, named}
 
 -- the answer x is the case y, and the numbers tell that case
-pub telling : {A : Type 0} (of : A → Reply) {x y : A} {n : ℕ} {held left : List ℕ} → x ≡ y → n ≡ codeOf (of y) → left ≡ numbersOf (of y) held → Tells (of x) n held left
+pub telling : {A : Type 0} (of : A → Reply) {x y : A} {n : ℕ} {held left : List ℕ} → x ≡ y → n ≡ codeOf (of y)
+    → left ≡ numbersOf (of y) held → Tells (of x) n held left
 telling of e c v = rw e (record { number = c; values = v })
 
 -- the variants of Refusal but Held, by their place
@@ -60,7 +59,8 @@ keep-of zero k = absurd (k refl)
 keep-of (suc n) k = refl
 
 -- the reply told is the reply promised
-pub answered : {Promise : Reply → Type 0} {r : Reply} {n : ℕ} {held left : List ℕ} → Tells r n held left → Promise r → Answers Promise n held left
+pub answered : {Promise : Reply → Type 0} {r : Reply} {n : ℕ} {held left : List ℕ} → Tells r n held left → Promise r
+    → Answers Promise n held left
 answered t p = record { reply = _; kept = p; told = t }
 
 -- a point made of a reading and a seat that are those numbers

@@ -1,5 +1,5 @@
 -- What a C caller hears of a reply: one number, and the numbers that it lends. Rests on the replies of `meaning`.
-use Prim.Native.Nat.{ℕ, zero, suc, _+_, _*_, _%_, _<_}
+use Prim.Native.Nat.{ℕ, zero, suc, _+_, _*_, _%_}
 use mathlib.Core.Path.{_≡_}
 use mathlib.Core.List.{List, [], _∷_}
 use Rattle.meaning.specs.Limits.{GENERATIONS, SLOTS}

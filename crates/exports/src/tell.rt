@@ -17,13 +17,14 @@ use meaning::Value;
 use meaning::ViewReply;
 use meaning::WriteReply;
 
-// Above every handle, and above every number of a reply.
+// A handle is below HANDLES, and the number of a refusal and of `nopoint` below CODES, so that both fit in one word.
 const HANDLES: u64 = meaning::GENERATIONS * meaning::SLOTS;
 
 const CODES: u64 = 32;
 
 const NOPOINT: u64 = 17;
 
+// Which of its three replies a granted Read has.
 const NEW: u64 = 1;
 
 const OWN: u64 = 2;
@@ -40,7 +41,7 @@ pub fn refusal(r: Refusal) -> u64
     meaning::refusal_number(r)
 }
 
-// A value as two numbers.
+// A value as two numbers: whether it was ever written, and its bits.
 fn mark(v: Value) -> u64
     ensures { λ n. ⌜ n ≡ markOf v ⌝ }
 {
@@ -59,7 +60,7 @@ fn bits(v: Value) -> u64
     }
 }
 
-// Each call's reply.
+// Each call's reply: 0 and its values, or the number of a refusal, which leaves the lent numbers.
 pub fn point(r: PointReply, point: &mut u64) -> u64
     ensures { λ n. ⌜ Tells (ofPoint r) n (now (point .entry) ∷ []) (now (point .exit) ∷ []) ⌝ }
 {
@@ -103,7 +104,11 @@ pub fn write(r: WriteReply) -> u64
 }
 
 pub fn lock(r: LockReply, low: &mut u64, high: &mut u64) -> u64
-    ensures { λ n. ⌜ Tells (ofLock r) n (now (low .entry) ∷ now (high .entry) ∷ []) (now (low .exit) ∷ now (high .exit) ∷ []) ⌝ }
+    ensures { λ n. ⌜
+        Tells (ofLock r) n
+        (now (low .entry) ∷ now (high .entry) ∷ [])
+        (now (low .exit) ∷ now (high .exit) ∷ [])
+        ⌝ }
 {
     match r {
         LockReply::Locked(first, last) => {
@@ -123,7 +128,11 @@ pub fn read(
     written: &mut u64,
     value: &mut u64,
 ) -> u64
-    ensures { λ n. ⌜ Tells (ofRead r) n (now (kind .entry) ∷ now (tr .entry) ∷ now (end .entry) ∷ now (written .entry) ∷ now (value .entry) ∷ []) (now (kind .exit) ∷ now (tr .exit) ∷ now (end .exit) ∷ now (written .exit) ∷ now (value .exit) ∷ []) ⌝ }
+    ensures { λ n. ⌜
+        Tells (ofRead r) n
+        (now (kind .entry) ∷ now (tr .entry) ∷ now (end .entry) ∷ now (written .entry) ∷ now (value .entry) ∷ [])
+        (now (kind .exit) ∷ now (tr .exit) ∷ now (end .exit) ∷ now (written .exit) ∷ now (value .exit) ∷ [])
+        ⌝ }
 {
     match r {
         ReadReply::Read(from, to, v) => {
@@ -186,7 +195,11 @@ pub fn settle(r: SettleReply) -> u64
 }
 
 pub fn purge(r: PurgeReply, versions: &mut u64, locks: &mut u64) -> u64
-    ensures { λ n. ⌜ Tells (ofPurge r) n (now (versions .entry) ∷ now (locks .entry) ∷ []) (now (versions .exit) ∷ now (locks .exit) ∷ []) ⌝ }
+    ensures { λ n. ⌜
+        Tells (ofPurge r) n
+        (now (versions .entry) ∷ now (locks .entry) ∷ [])
+        (now (versions .exit) ∷ now (locks .exit) ∷ [])
+        ⌝ }
 {
     match r {
         PurgeReply::Purged(vs, ls) => {
@@ -199,7 +212,11 @@ pub fn purge(r: PurgeReply, versions: &mut u64, locks: &mut u64) -> u64
 }
 
 pub fn view(r: ViewReply, point: &mut u64, written: &mut u64, value: &mut u64) -> u64
-    ensures { λ n. ⌜ Tells (ofView r) n (now (point .entry) ∷ now (written .entry) ∷ now (value .entry) ∷ []) (now (point .exit) ∷ now (written .exit) ∷ now (value .exit) ∷ []) ⌝ }
+    ensures { λ n. ⌜
+        Tells (ofView r) n
+        (now (point .entry) ∷ now (written .entry) ∷ now (value .entry) ∷ [])
+        (now (point .exit) ∷ now (written .exit) ∷ now (value .exit) ∷ [])
+        ⌝ }
 {
     match r {
         ViewReply::At(p, v) => {

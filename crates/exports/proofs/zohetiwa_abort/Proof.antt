@@ -20,7 +20,13 @@ same-length : tie.Need-same-length
 same-length c = search needs
 
 returns : tie.Need-returns
-returns c = answered (c .abort2 .ensures) (rw (c .before .before .before .before .before .handle-of-word .ensures, c .before .before .before .before .finish .ensures) at (c .before .before .before .abort .ensures))
+returns c =
+    answered (c .abort2 .ensures)
+    (rw (
+      c .before .before .before .before .before .handle-of-word .ensures,
+      c .before .before .before .before .finish .ensures,
+    )
+    at (c .before .before .before .abort .ensures))
 
 pub zohetiwa-abort-spec : {M : Type 1} → statement M
 zohetiwa-abort-spec =

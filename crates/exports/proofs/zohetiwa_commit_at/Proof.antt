@@ -23,7 +23,14 @@ same-length : tie.Need-same-length
 same-length c = search needs
 
 returns : tie.Need-returns
-returns c = answered (c .commit2 .ensures) (rw (c .before .before .before .before .before .before .before .before .handle-of-word .ensures, named-at (c .before .before .before .before .before .before .before .point-of-word .ensures), c .before .before .before .before .before .finish .ensures) at (c .before .before .before .before .commit .ensures))
+returns c =
+    answered (c .commit2 .ensures)
+    (rw (
+      c .before .before .before .before .before .before .before .before .handle-of-word .ensures,
+      named-at (c .before .before .before .before .before .before .before .point-of-word .ensures),
+      c .before .before .before .before .before .finish .ensures,
+    )
+    at (c .before .before .before .before .commit .ensures))
 
 pub zohetiwa-commit-at-spec : {M : Type 1} → statement M
 zohetiwa-commit-at-spec =

@@ -20,7 +20,13 @@ same-length : tie.Need-same-length
 same-length c = search needs
 
 returns : tie.Need-returns
-returns c = answered (c .commit2 .ensures) (rw (c .before .before .before .before .before .before .handle-of-word .ensures, c .before .before .before .before .before .finish .ensures) at (c .before .before .before .before .commit .ensures))
+returns c =
+    answered (c .commit2 .ensures)
+    (rw (
+      c .before .before .before .before .before .before .handle-of-word .ensures,
+      c .before .before .before .before .before .finish .ensures,
+    )
+    at (c .before .before .before .before .commit .ensures))
 
 pub zohetiwa-commit-earliest-spec : {M : Type 1} → statement M
 zohetiwa-commit-earliest-spec =

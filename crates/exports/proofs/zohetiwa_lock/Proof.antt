@@ -26,7 +26,15 @@ same-length : tie.Need-same-length
 same-length c = search needs
 
 returns : tie.Need-returns
-returns c = answered (c .lock2 .ensures) (rw (c .before .before .before .before .before .before .before .before .before .before .handle-of-word .ensures, c .before .before .before .before .before .before .before .before .before .point-of-word .ensures, c .before .before .before .before .before .before .before .before .point-of-word2 .ensures, c .before .before .before .before .before .before .extent .ensures) at (c .before .before .before .before .before .lock .ensures))
+returns c =
+    answered (c .lock2 .ensures)
+    (rw (
+      c .before .before .before .before .before .before .before .before .before .before .handle-of-word .ensures,
+      c .before .before .before .before .before .before .before .before .before .point-of-word .ensures,
+      c .before .before .before .before .before .before .before .before .point-of-word2 .ensures,
+      c .before .before .before .before .before .before .extent .ensures,
+    )
+    at (c .before .before .before .before .before .lock .ensures))
 
 pub zohetiwa-lock-spec : {M : Type 1} → statement M
 zohetiwa-lock-spec =

@@ -17,7 +17,10 @@ point-requires : tie.Need-point-requires
 point-requires c κs = search needs
 
 returns : tie.Need-returns
-returns c = answered (c .point .ensures) (made (c .before .before .before .before .reading-of .ensures) (c .before .before .before .seat-of .ensures) (c .before .before .make-point .ensures))
+returns c =
+    answered (c .point .ensures)
+    (made (c .before .before .before .before .reading-of .ensures)
+    (c .before .before .before .seat-of .ensures) (c .before .before .make-point .ensures))
 
 pub zohetiwa-point-spec : {M : Type 1} → statement M
 zohetiwa-point-spec =

@@ -17,7 +17,11 @@ same-length : tie.Need-same-length
 same-length c = search needs
 
 returns : tie.Need-returns
-returns c = answered (c .purge2 .ensures) (rw (c .before .before .before .before .before .before .point-of-word .ensures) at (c .before .before .before .before .before .purge .ensures))
+returns c =
+    answered (c .purge2 .ensures)
+    (rw
+    (c .before .before .before .before .before .before .point-of-word .ensures)
+    at (c .before .before .before .before .before .purge .ensures))
 
 pub zohetiwa-purge-spec : {M : Type 1} → statement M
 zohetiwa-purge-spec = tie.close (tie.spec point-of-word-requires purge-requires purge-requires-2 same-length returns)

@@ -23,7 +23,14 @@ same-length : tie.Need-same-length
 same-length c = search needs
 
 returns : tie.Need-returns
-returns c = answered (c .read2 .ensures) (rw (c .before .before .before .before .before .before .before .before .before .before .before .before .handle-of-word .ensures, c .before .before .before .before .before .before .before .before .before .before .before .point-of-word .ensures, c .before .before .before .before .before .before .before .before .before .extent .ensures) at (c .before .before .before .before .before .before .before .before .read .ensures))
+returns c =
+    answered (c .read2 .ensures)
+    (rw (
+      c .before .before .before .before .before .before .before .before .before .before .before .before .handle-of-word .ensures,
+      c .before .before .before .before .before .before .before .before .before .before .before .point-of-word .ensures,
+      c .before .before .before .before .before .before .before .before .before .extent .ensures,
+    )
+    at (c .before .before .before .before .before .before .before .before .read .ensures))
 
 pub zohetiwa-read-spec : {M : Type 1} → statement M
 zohetiwa-read-spec =

@@ -17,7 +17,9 @@ same-length : tie.Need-same-length
 same-length c = search needs
 
 returns : tie.Need-returns
-returns c = answered (c .settle2 .ensures) (rw (c .before .before .before .before .handle-of-word .ensures) at (c .before .before .before .settle .ensures))
+returns c =
+    answered (c .settle2 .ensures)
+    (rw (c .before .before .before .before .handle-of-word .ensures) at (c .before .before .before .settle .ensures))
 
 pub zohetiwa-settle-spec : {M : Type 1} → statement M
 zohetiwa-settle-spec =

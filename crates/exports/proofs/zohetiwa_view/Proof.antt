@@ -14,7 +14,11 @@ view-requires-2 : tie.Need-view-requires-2
 view-requires-2 c κs = search needs
 
 returns : tie.Need-returns
-returns c = answered (c .view2 .ensures) (rw (c .before .before .before .before .before .point-of-word .ensures) at (c .before .before .before .before .view .ensures))
+returns c =
+    answered (c .view2 .ensures)
+    (rw
+    (c .before .before .before .before .before .point-of-word .ensures)
+    at (c .before .before .before .before .view .ensures))
 
 pub zohetiwa-view-spec : {M : Type 1} → statement M
 zohetiwa-view-spec = tie.close (tie.spec point-of-word-requires view-requires view-requires-2 returns)

@@ -17,7 +17,9 @@ same-length : tie.Need-same-length
 same-length c = search needs
 
 returns : tie.Need-returns
-returns c = answered (c .write2 .ensures) (rw (c .before .before .before .before .handle-of-word .ensures) at (c .before .before .before .write .ensures))
+returns c =
+    answered (c .write2 .ensures)
+    (rw (c .before .before .before .before .handle-of-word .ensures) at (c .before .before .before .write .ensures))
 
 pub zohetiwa-write-spec : {M : Type 1} → statement M
 zohetiwa-write-spec = tie.close (tie.spec handle-of-word-requires write-requires write-requires-2 same-length returns)

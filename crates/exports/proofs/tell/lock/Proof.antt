@@ -22,7 +22,9 @@ refusal-requires : tie.Need-refusal-requires
 refusal-requires c κs = search needs
 
 returns : tie.Need-returns
-returns c = telling ofLock (c .before .before .before .r .given .1) refl (rw (c .before .word-of-point .ensures, c .word-of-point2 .ensures) refl)
+returns c =
+    telling ofLock (c .before .before .before .r .given .1) refl
+    (rw (c .before .word-of-point .ensures, c .word-of-point2 .ensures) refl)
 
 returns-2 : tie.Need-returns-2
 returns-2 c = telling ofLock (c .before .before .r2 .given .1) (c .refusal .ensures) refl

@@ -43,13 +43,23 @@ refusal-requires : tie.Need-refusal-requires
 refusal-requires c κs = search needs
 
 returns : tie.Need-returns
-returns c = telling ofRead (c .before .before .before .before .before .r .given .1) refl (rw (c .before .before .before .word-of-point .ensures, c .before .before .word-of-point2 .ensures, c .before .mark .ensures, c .bits .ensures) refl)
+returns c =
+    telling ofRead (c .before .before .before .before .before .r .given .1) refl
+    (rw (
+      c .before .before .before .word-of-point .ensures,
+      c .before .before .word-of-point2 .ensures,
+      c .before .mark .ensures,
+      c .bits .ensures,
+    )
+    refl)
 
 returns-2 : tie.Need-returns-2
 returns-2 c = telling ofRead (c .before .r2 .given .1) refl refl
 
 returns-3 : tie.Need-returns-3
-returns-3 c = telling ofRead (c .before .before .before .before .r3 .given .1) refl (rw (c .before .before .word-of-point3 .ensures, c .before .mark2 .ensures, c .bits2 .ensures) refl)
+returns-3 c =
+    telling ofRead (c .before .before .before .before .r3 .given .1) refl
+    (rw (c .before .before .word-of-point3 .ensures, c .before .mark2 .ensures, c .bits2 .ensures) refl)
 
 returns-4 : tie.Need-returns-4
 returns-4 c = telling ofRead (c .before .before .r4 .given .1) (c .refusal .ensures) refl

@@ -1,10 +1,7 @@
 -- `tell::refusal` meets its contract: 8 with the holder above it, the others bare. Assumes nothing.
 use borrow.Author.Needs.{needs}
 use mathlib.Core.Path.{refl, _∙_}
-use native.Mathlib.Omega.{arith}
 use Rattle.exports.proofs.Telling.{bare}
-use Rattle.meaning.specs.Replies.{number, ofRefusal}
-use Rattle.exports.specs.Codes.{codeOf}
 use Rattle.exports.proofs.tell.refusal.Statement.{statement}
 use Rattle.exports.proofs.tell.refusal.Tie as tie
 
@@ -24,7 +21,8 @@ add-result : tie.Need-add-result
 add-result c = search needs
 
 returns : tie.Need-returns
-returns c = rw (c .before .word-of-handle .ensures, c .refusal-number .ensures, c .before .before .before .r .given .1) refl
+returns c =
+    rw (c .before .word-of-handle .ensures, c .refusal-number .ensures, c .before .before .before .r .given .1) refl
 
 refusal-number-requires-2 : tie.Need-refusal-number-requires-2
 refusal-number-requires-2 c κs = search needs

@@ -25,7 +25,9 @@ refusal-requires : tie.Need-refusal-requires
 refusal-requires c κs = search needs
 
 returns : tie.Need-returns
-returns c = telling ofView (c .before .before .before .before .r .given .1) refl (rw (c .before .before .word-of-point .ensures, c .before .mark .ensures, c .bits .ensures) refl)
+returns c =
+    telling ofView (c .before .before .before .before .r .given .1) refl
+    (rw (c .before .before .word-of-point .ensures, c .before .mark .ensures, c .bits .ensures) refl)
 
 returns-2 : tie.Need-returns-2
 returns-2 c = telling ofView (c .before .before .r2 .given .1) (c .refusal .ensures) refl
