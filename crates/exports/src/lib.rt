@@ -1,0 +1,278 @@
+// The library that a product links: each call as a C function over lent words and numbers. A function returns 0 for
+// granted, else the number of the refusal. None has a `requires`; the contract of each is the promise of its call.
+ghost use mathlib.Core.Path.{_≡_};
+ghost use mathlib.Core.List.{[], _∷_};
+ghost use Rattle.meaning.specs.Edits.{beginning, writing};
+ghost use Rattle.meaning.specs.Locking.{locking, reading};
+ghost use Rattle.meaning.specs.Ending.{committing, aborting, settling};
+ghost use Rattle.meaning.specs.Records.{purging, viewing, pointing};
+ghost use Rattle.meaning.specs.declared.Pick.the-variants.{Earliest, Latest};
+ghost use Rattle.format.specs.Format.{Formats};
+ghost use Rattle.store.specs.Answers.{Does, Shows};
+ghost use Rattle.exports.specs.Codes.{Answers, extentOf, finishOf, named, counts};
+use meaning::Counts;
+use meaning::Extent;
+use meaning::Finish;
+use meaning::Pick;
+
+mod tell;
+
+// The flags A and P as numbers: 0 is A, any other number is P, so that every number has a meaning.
+fn extent(part: u64) -> Extent
+    ensures { λ x. ⌜ x ≡ extentOf part ⌝ }
+{
+    if part == 0 { Extent::All } else { Extent::Part }
+}
+
+// The flags S and K: 0 is S, any other number is K.
+fn finish(keep: u64) -> Finish
+    ensures { λ x. ⌜ x ≡ finishOf keep ⌝ }
+{
+    if keep == 0 {
+        Finish::Settle
+    } else {
+        Finish::Keep
+    }
+}
+
+// Point: the only call that needs no store.
+#[no_mangle]
+pub extern "C" fn zohetiwa_point(clock: u64, seat: u64, point: &mut u64) -> u64
+    ensures { λ code. ⌜
+        Answers (λ r. r ≡ pointing clock seat) code
+        (now (point .entry) ∷ [])
+        (now (point .exit) ∷ [])
+        ⌝ }
+{
+    let reply = meaning::make_point(meaning::reading_of(clock), meaning::seat_of(seat));
+    tell::point(reply, point)
+}
+
+// Format. The counts are lengths of tables, so they are sizes.
+#[no_mangle]
+pub extern "C" fn zohetiwa_format(
+    words: &mut [u64],
+    records: usize,
+    edits: usize,
+    versions: usize,
+    locks: usize,
+    accesses: usize,
+) -> u64
+    ensures { λ code. ⌜
+        Answers
+        (Formats (counts records edits versions locks accesses) (now (words .entry)) (now (words .exit)))
+        code [] []
+        ⌝ }
+{
+    let reply = format::format(
+        words,
+        Counts {
+            records: records,
+            edits: edits,
+            versions: versions,
+            locks: locks,
+            accesses: accesses,
+        },
+    );
+    tell::format(reply)
+}
+
+// Begin: the handle of the edit.
+#[no_mangle]
+pub extern "C" fn zohetiwa_begin(words: &mut [u64], handle: &mut u64) -> u64
+    ensures { λ code. ⌜
+        Answers (Does beginning (now (words .entry)) (now (words .exit))) code
+        (now (handle .entry) ∷ [])
+        (now (handle .exit) ∷ [])
+        ⌝ }
+{
+    let reply = store::begin(words);
+    tell::begin(reply, handle)
+}
+
+// Write: no further values.
+#[no_mangle]
+pub extern "C" fn zohetiwa_write(words: &mut [u64], handle: u64, rec: u64, value: u64) -> u64
+    ensures { λ code. ⌜
+        Answers (Does (writing handle rec value) (now (words .entry)) (now (words .exit))) code [] []
+        ⌝ }
+{
+    let reply = store::write(words, meaning::handle_of_word(handle), rec, value);
+    tell::write(reply)
+}
+
+// Lock: the first and the last point locked.
+#[no_mangle]
+pub extern "C" fn zohetiwa_lock(
+    words: &mut [u64],
+    handle: u64,
+    rec: u64,
+    low: u64,
+    high: u64,
+    part: u64,
+    first: &mut u64,
+    last: &mut u64,
+) -> u64
+    ensures { λ code. ⌜
+        Answers (Does (locking handle rec low high (extentOf part)) (now (words .entry)) (now (words .exit))) code
+        (now (first .entry) ∷ now (last .entry) ∷ [])
+        (now (first .exit) ∷ now (last .exit) ∷ [])
+        ⌝ }
+{
+    let h = meaning::handle_of_word(handle);
+    let from = meaning::point_of_word(low);
+    let to = meaning::point_of_word(high);
+    let reply = store::lock(words, h, rec, from, to, extent(part));
+    tell::lock(reply, first, last)
+}
+
+// Read: which of its three replies, the point of the version, the last point locked, whether the value was ever
+// written, its bits.
+#[no_mangle]
+pub extern "C" fn zohetiwa_read(
+    words: &mut [u64],
+    handle: u64,
+    rec: u64,
+    m: u64,
+    part: u64,
+    kind: &mut u64,
+    tr: &mut u64,
+    end: &mut u64,
+    written: &mut u64,
+    value: &mut u64,
+) -> u64
+    ensures { λ code. ⌜
+        Answers (Does (reading handle rec m (extentOf part)) (now (words .entry)) (now (words .exit))) code
+        (now (kind .entry) ∷ now (tr .entry) ∷ now (end .entry) ∷ now (written .entry) ∷ now (value .entry) ∷ [])
+        (now (kind .exit) ∷ now (tr .exit) ∷ now (end .exit) ∷ now (written .exit) ∷ now (value .exit) ∷ [])
+        ⌝ }
+{
+    let h = meaning::handle_of_word(handle);
+    let upto = meaning::point_of_word(m);
+    let reply = store::read(words, h, rec, upto, extent(part));
+    tell::read(reply, kind, tr, end, written, value)
+}
+
+// Commit, a function for each choice of the point: the commit point.
+#[no_mangle]
+pub extern "C" fn zohetiwa_commit_earliest(
+    words: &mut [u64],
+    handle: u64,
+    keep: u64,
+    point: &mut u64,
+) -> u64
+    ensures { λ code. ⌜
+        Answers (Does (committing handle Earliest (finishOf keep)) (now (words .entry)) (now (words .exit))) code
+        (now (point .entry) ∷ [])
+        (now (point .exit) ∷ [])
+        ⌝ }
+{
+    let reply = store::commit(
+        words,
+        meaning::handle_of_word(handle),
+        Pick::Earliest,
+        finish(keep),
+    );
+    tell::commit(reply, point)
+}
+
+#[no_mangle]
+pub extern "C" fn zohetiwa_commit_latest(
+    words: &mut [u64],
+    handle: u64,
+    keep: u64,
+    point: &mut u64,
+) -> u64
+    ensures { λ code. ⌜
+        Answers (Does (committing handle Latest (finishOf keep)) (now (words .entry)) (now (words .exit))) code
+        (now (point .entry) ∷ [])
+        (now (point .exit) ∷ [])
+        ⌝ }
+{
+    let reply = store::commit(
+        words,
+        meaning::handle_of_word(handle),
+        Pick::Latest,
+        finish(keep),
+    );
+    tell::commit(reply, point)
+}
+
+#[no_mangle]
+pub extern "C" fn zohetiwa_commit_at(
+    words: &mut [u64],
+    handle: u64,
+    at: u64,
+    keep: u64,
+    point: &mut u64,
+) -> u64
+    ensures { λ code. ⌜
+        Answers (Does (committing handle (named at) (finishOf keep)) (now (words .entry)) (now (words .exit))) code
+        (now (point .entry) ∷ [])
+        (now (point .exit) ∷ [])
+        ⌝ }
+{
+    let h = meaning::handle_of_word(handle);
+    let pick = Pick::Named(meaning::point_of_word(at));
+    let reply = store::commit(words, h, pick, finish(keep));
+    tell::commit(reply, point)
+}
+
+// Abort: no further values.
+#[no_mangle]
+pub extern "C" fn zohetiwa_abort(words: &mut [u64], handle: u64, keep: u64) -> u64
+    ensures { λ code. ⌜
+        Answers (Does (aborting handle (finishOf keep)) (now (words .entry)) (now (words .exit))) code [] []
+        ⌝ }
+{
+    let reply = store::abort(words, meaning::handle_of_word(handle), finish(keep));
+    tell::abort(reply)
+}
+
+// Settle: no further values.
+#[no_mangle]
+pub extern "C" fn zohetiwa_settle(words: &mut [u64], handle: u64) -> u64
+    ensures { λ code. ⌜ Answers (Does (settling handle) (now (words .entry)) (now (words .exit))) code [] [] ⌝ }
+{
+    let reply = store::settle(words, meaning::handle_of_word(handle));
+    tell::settle(reply)
+}
+
+// Purge: the version rows and the lock rows freed.
+#[no_mangle]
+pub extern "C" fn zohetiwa_purge(
+    words: &mut [u64],
+    rec: u64,
+    b: u64,
+    versions: &mut u64,
+    locks: &mut u64,
+) -> u64
+    ensures { λ code. ⌜
+        Answers (Does (purging rec b) (now (words .entry)) (now (words .exit))) code
+        (now (versions .entry) ∷ now (locks .entry) ∷ [])
+        (now (versions .exit) ∷ now (locks .exit) ∷ [])
+        ⌝ }
+{
+    let reply = store::purge(words, rec, meaning::point_of_word(b));
+    tell::purge(reply, versions, locks)
+}
+
+// View: the point of the version, whether it was ever written, its bits.
+#[no_mangle]
+pub extern "C" fn zohetiwa_view(
+    words: &[u64],
+    rec: u64,
+    p: u64,
+    point: &mut u64,
+    written: &mut u64,
+    value: &mut u64,
+) -> u64
+    ensures { λ code. ⌜
+        Answers (Shows (viewing rec p) (now (words .entry))) code
+        (now (point .entry) ∷ now (written .entry) ∷ now (value .entry) ∷ [])
+        (now (point .exit) ∷ now (written .exit) ∷ now (value .exit) ∷ [])
+        ⌝ }
+{
+    let reply = store::view(words, rec, meaning::point_of_word(p));
+    tell::view(reply, point, written, value)
+}

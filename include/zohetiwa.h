@@ -1,0 +1,128 @@
+/* The shared plan store for C: the calls of document 01 over an array of 64-bit words.
+ *
+ * Memory. The store is the array `words` of `length` words that the caller owns and lends for the time of one call. The
+ * library keeps no pointer, allocates nothing and has no state of its own: the array is the whole store, and may be
+ * copied, saved or sent with its length. It needs no initial content before zohetiwa_format. Every other pointer is to
+ * one number of the caller's, lent for the time of the call as well. No pointer may be null (an array of length 0 too
+ * wants one, aligned to 8 bytes), and the array and the numbers of one call must not overlap. Two calls on one array
+ * must not run at once.
+ *
+ * Replies. A function returns 0 if the call is granted, and then sets every number it was lent (to 0 where the reply
+ * has no such value). Any other number is a refusal, or ZOHETIWA_NOPOINT: the lent numbers then stay as they were, and
+ * a refusal also changes no word. zohetiwa_refusal gives the number of a refusal, zohetiwa_holder the holder's handle.
+ * Every array and every argument has a defined reply. Each call but Point and Format checks the whole array first: one
+ * that is no sound store is refused with ZOHETIWA_UNSOUND.
+ *
+ * Names. A record is named by its number from 0, an edit (a transaction) by the handle that Begin gave. A point is
+ * clock reading * 64 + seat, at most ZOHETIWA_LAST; zohetiwa_point makes one. A bare clock reading is no point. */
+#ifndef ZOHETIWA_H
+#define ZOHETIWA_H
+
+#include <stddef.h>
+#include <stdint.h>
+
+#ifdef __cplusplus
+extern "C" {
+#endif
+
+/* The last point. */
+#define ZOHETIWA_LAST UINT64_C(70368744177663)
+
+/* The refusals. Checked in this order: 1, 13, 2, 3 or 4, 5, 6, 7, 14, 15, 9 or 8, 10, 11, 12; own and repeated reads
+ * are answered before 7, and ZOHETIWA_NOPOINT comes before 14. */
+#define ZOHETIWA_UNSOUND 1         /* the array is no sound store */
+#define ZOHETIWA_NO_EDIT 2         /* no such edit: the handle's slot is out of range or free, or had another begin */
+#define ZOHETIWA_EDIT_ENDED 3      /* the edit has committed or aborted */
+#define ZOHETIWA_EDIT_OPEN 4       /* the edit is still open, so it cannot be settled */
+#define ZOHETIWA_NO_RECORD 5       /* no such record */
+#define ZOHETIWA_BAD_POINT 6       /* a reading, seat or point too large; low above high; m or the commit point 0 */
+#define ZOHETIWA_BELOW_FLOOR 7     /* low or m at or below the record's floor; a view below it */
+#define ZOHETIWA_HELD 8            /* another edit holds a point that is wanted: zohetiwa_holder gives its handle */
+#define ZOHETIWA_FROZEN 9          /* a settled lock or a version stands on a point that is wanted */
+#define ZOHETIWA_NO_ACCESS_ROW 10  /* no access row is free */
+#define ZOHETIWA_NO_LOCK_ROW 11    /* no lock row is free */
+#define ZOHETIWA_NO_VERSION_ROW 12 /* fewer version rows are free than records were written */
+#define ZOHETIWA_NO_SLOT 13        /* no edit slot is free */
+#define ZOHETIWA_NOT_COMMON 14     /* the named commit point is not one that the edit may commit at */
+#define ZOHETIWA_LOCKED_BELOW 15   /* an unsettled edit has a lock on the record at or below the new floor */
+#define ZOHETIWA_BAD_FORMAT 16     /* a count is out of range, or the length is not the one that the counts need */
+
+/* No refusal: the Commit found no point, and the edit has ended as aborted. */
+#define ZOHETIWA_NOPOINT 17
+
+/* `part` of Lock and Read: 0 wants all points or none (A), any other number takes a part (P). */
+#define ZOHETIWA_ALL UINT64_C(0)
+#define ZOHETIWA_PART UINT64_C(1)
+
+/* `keep` of Commit and Abort: 0 settles the edit at the end (S), any other number keeps its locks (K). */
+#define ZOHETIWA_SETTLE UINT64_C(0)
+#define ZOHETIWA_KEEP UINT64_C(1)
+
+/* `kind` of a granted Read. */
+#define ZOHETIWA_NEW 1   /* a new read: tr and end are set, tr + 1..end is now read-locked */
+#define ZOHETIWA_OWN 2   /* the edit's own pending value: tr and end are 0 */
+#define ZOHETIWA_AGAIN 3 /* the version that the edit read before: tr is set, end is 0 */
+
+/* What a returned number that is not 0 says: it is the refusal (or ZOHETIWA_NOPOINT), and for ZOHETIWA_HELD the handle
+ * of the edit that holds the point * 32 + 8. */
+static inline uint64_t zohetiwa_refusal(uint64_t code) { return code % 32; }
+static inline uint64_t zohetiwa_holder(uint64_t code) { return code / 32; }
+
+/* Point: a point of a clock reading (below 2^40) and a seat (below 64). Needs no store. Refusal: 6. */
+uint64_t zohetiwa_point(uint64_t clock, uint64_t seat, uint64_t *point);
+
+/* Format: lays out an empty store, whatever the array held. Counts: 1 to 1,024 records, 1 to 63 edits, 1 to 4,095 rows
+ * of each kind. The length is 8 + 3 * records + 4 * edits + 4 * versions + 5 * locks + 5 * accesses. Refusal: 16. */
+uint64_t zohetiwa_format(uint64_t *words, size_t length, size_t records, size_t edits, size_t versions, size_t locks,
+                         size_t accesses);
+
+/* Begin: opens an edit and gives its handle. Refusals: 1, 13. */
+uint64_t zohetiwa_begin(uint64_t *words, size_t length, uint64_t *handle);
+
+/* Write: the edit's pending value of the record, any 64 bits; it replaces an earlier one. Takes no lock.
+ * Refusals: 1, 2, 3, 5, 10. */
+uint64_t zohetiwa_write(uint64_t *words, size_t length, uint64_t handle, uint64_t record, uint64_t value);
+
+/* Lock: write-locks points of low..high of the record, first..last. All of them; or a part, from the first free point
+ * to just before the next blocked one, or to high. Refusals: 1, 2, 3, 5, 6, 7, 8, 9, 11. */
+uint64_t zohetiwa_lock(uint64_t *words, size_t length, uint64_t handle, uint64_t record, uint64_t low, uint64_t high,
+                       uint64_t part, uint64_t *first, uint64_t *last);
+
+/* Read up to m: the edit's own pending value, or the version that it read before, or else the newest version below m,
+ * whose point is tr; then tr + 1..end is read-locked: up to m, or for a part to just before the first point that
+ * another owner has write-locked. `written` is 0 and `value` 0 where the record was never written, else `written` is 1.
+ * Refusals: 1, 2, 3, 5, 6, 7, 8, 9, 10, 11. */
+uint64_t zohetiwa_read(uint64_t *words, size_t length, uint64_t handle, uint64_t record, uint64_t m, uint64_t part,
+                       uint64_t *kind, uint64_t *tr, uint64_t *end, uint64_t *written, uint64_t *value);
+
+/* Commit at the earliest or the latest point that the edit may commit at, or at a named one: all its written values
+ * become versions at `point`. If there is no such point the edit ends as aborted: ZOHETIWA_NOPOINT, also for a named
+ * one. Refusals: 1, 2, 3, 12; for a named point also 6, 14. */
+uint64_t zohetiwa_commit_earliest(uint64_t *words, size_t length, uint64_t handle, uint64_t keep, uint64_t *point);
+uint64_t zohetiwa_commit_latest(uint64_t *words, size_t length, uint64_t handle, uint64_t keep, uint64_t *point);
+uint64_t zohetiwa_commit_at(uint64_t *words, size_t length, uint64_t handle, uint64_t at, uint64_t keep,
+                            uint64_t *point);
+
+/* Abort: ends the edit; none of its values is stored. Refusals: 1, 2, 3. */
+uint64_t zohetiwa_abort(uint64_t *words, size_t length, uint64_t handle, uint64_t keep);
+
+/* Settle an edit that has ended: what must stay locked of a committed one stays, as settled locks; its other locks, its
+ * accesses and its slot become free. Refusals: 1, 2, 4. */
+uint64_t zohetiwa_settle(uint64_t *words, size_t length, uint64_t handle);
+
+/* Purge a record to b: its newest version at or below b becomes the floor; older versions go, and settled locks up to
+ * the floor. `versions` and `locks` count the rows freed, 0 and 0 if there is no such version or it is the floor
+ * already. Refusals: 1, 5, 6, 15. */
+uint64_t zohetiwa_purge(uint64_t *words, size_t length, uint64_t record, uint64_t b, uint64_t *versions,
+                        uint64_t *locks);
+
+/* View a record at p: the point and the value of its newest version at or below p; point 0, never written, if there is
+ * none. `written` and `value` as for Read. Changes no word. Refusals: 1, 5, 6, 7. */
+uint64_t zohetiwa_view(const uint64_t *words, size_t length, uint64_t record, uint64_t p, uint64_t *point,
+                       uint64_t *written, uint64_t *value);
+
+#ifdef __cplusplus
+}
+#endif
+
+#endif
