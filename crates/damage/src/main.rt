@@ -1,25 +1,131 @@
-// Formats stores and damages one: each clause of "A store is sound when" is broken by a change of one word, and the verdict of the check is
-// printed, 1 for sound and 0 for not, with what was changed.
+// Formats stores and damages one: each clause of "A store is sound when" is broken by a change of one word, and the
+// verdict of the check is printed, 1 for sound and 0 for not, with what was changed. A damage breaks the clause that
+// its group names and no other; where that cannot be, the comment says why. Rests on `format` and `soundness`.
+ghost use Prim.Native.Nat.{_<_};
+use meaning::COMMITTED;
 use meaning::Counts;
+use meaning::FREE;
 use meaning::FormatReply;
+use meaning::GENERATIONS;
+use meaning::LAST;
+use meaning::OPEN;
+use tables::A_FROM;
+use tables::A_NEXT;
+use tables::A_RECORD;
+use tables::A_VALUE;
+use tables::A_WRITTEN;
+use tables::ACCESS;
+use tables::FREE_ACCESS;
+use tables::FREE_LOCK;
+use tables::FREE_VERSION;
+use tables::H_ACCESSES;
+use tables::H_EDITS;
+use tables::H_LOCKS;
+use tables::H_RECORDS;
+use tables::H_VERSIONS;
+use tables::HEADER;
+use tables::L_HIGH;
+use tables::L_LOW;
+use tables::L_MODE;
+use tables::L_NEXT;
+use tables::L_RECORD;
+use tables::LOCK;
+use tables::R_FLOOR;
+use tables::R_LOCK;
+use tables::R_VERSION;
+use tables::RECORD;
+use tables::S_GENERATION;
+use tables::S_POINT;
+use tables::S_STATE;
+use tables::SLOT;
+use tables::V_NEXT;
+use tables::V_POINT;
+use tables::V_SPARE;
+use tables::VERSION;
+
+// The store 4 4 7 12 8: where its parts begin.
+const WORDS: usize = 164;
+
+const RECORDS: usize = HEADER;
+
+const SLOTS: usize = RECORDS + 4 * RECORD;
+
+const VERSIONS: usize = SLOTS + 4 * SLOT;
+
+const LOCKS: usize = VERSIONS + 7 * VERSION;
+
+const ACCESSES: usize = LOCKS + 12 * LOCK;
+
+// Rows and offsets stay far below any overflow.
+fn small(i: usize) -> usize
+    ensures { λ r. ⌜ r < 16 ⌝ }
+{
+    if i < 16 { i } else { 0 }
+}
+
+// The number of rows before row i.
+fn before(i: usize) -> usize
+    ensures { λ r. ⌜ r < 16 ⌝ }
+{
+    if i < 1 {
+        return 0;
+    }
+    small(i - 1)
+}
+
+// Where word o of a record, of a slot and of a row stands.
+
+fn record(r: usize, o: usize) -> usize {
+    RECORDS + small(r) * RECORD + small(o)
+}
+
+fn slot(k: usize, o: usize) -> usize {
+    SLOTS + before(k) * SLOT + small(o)
+}
+
+fn version(i: usize, o: usize) -> usize {
+    VERSIONS + before(i) * VERSION + small(o)
+}
+
+fn lock(i: usize, o: usize) -> usize {
+    LOCKS + before(i) * LOCK + small(o)
+}
+
+fn access(i: usize, o: usize) -> usize {
+    ACCESSES + before(i) * ACCESS + small(o)
+}
+
+// The mode word of a read lock and of a write lock of an owner; 0 is the owner of a settled lock.
+
+fn reads(owner: usize) -> u64 {
+    (small(owner) * 4 + 1) as u64
+}
+
+fn writes(owner: usize) -> u64 {
+    (small(owner) * 4 + 2) as u64
+}
+
+fn print(text: &[u8]) {
+    io::write_all(1, text);
+}
 
 fn print_verdict(good: bool) {
     if good {
-        io::write_all(1, b"1 ");
+        print(b"1 ");
     } else {
-        io::write_all(1, b"0 ");
+        print(b"0 ");
     }
 }
 
 fn print_reply(reply: FormatReply) {
     match reply {
         FormatReply::Done => {
-            io::write_all(1, b"ok ");
+            print(b"ok ");
         }
         FormatReply::Refused(r) => {
-            io::write_all(1, b"no ");
+            print(b"no ");
             io::print_decimal(1, meaning::refusal_number(r));
-            io::write_all(1, b" ");
+            print(b" ");
         }
     }
 }
@@ -28,26 +134,31 @@ fn print_reply(reply: FormatReply) {
 fn lay_out(w: &mut [u64], c: Counts, text: &[u8]) {
     print_reply(format::format(w, c));
     print_verdict(soundness::check(w));
-    io::write_all(1, text);
+    print(text);
+}
+
+fn with_word(state: [u64; 164], i: usize, v: u64) -> [u64; 164] {
+    let mut w = state;
+    if i < WORDS {
+        w[i] = v;
+    }
+    w
 }
 
 // The verdict on the state with v in word i.
-fn damage(state: [u64; 122], i: usize, v: u64, text: &[u8]) {
-    let mut w = state;
-    if i < 122 {
-        w[i] = v;
-        print_verdict(soundness::check(&w));
-        io::write_all(1, text);
-    }
+fn damage(state: [u64; 164], i: usize, v: u64) {
+    let w = with_word(state, i, v);
+    print_verdict(soundness::check(&w));
 }
 
-// A store of 2 records, 3 edits, 4 versions, 8 locks and 8 accesses: 122 words. Record 0 has versions 9, 7 and 5, which is its floor; record 1 has
-// version 3. Edit 1 read record 0 at 7, wrote it and committed at 9; edit 2 read record 1 at 0 and committed at 1; edit 3 is open and has written
-// record 1. The free access rows 5 to 8 are as Format left them.
+// The state. Record 0 has versions 12, 7 and 5, which is its floor; record 1 has version 3; record 2 version 4, its
+// floor; record 3 none. Edit 1 read record 0 at 7, wrote it and committed at 12; edit 2 read record 1 at 0, wrote
+// record 3 and committed at 1; edit 3 is open and has written record 1; slot 4 is free. Free are the version rows 6 and
+// 7, the lock rows 11 and 12, the access rows 6 to 8.
 
-fn row4(state: [u64; 122], at: usize, a: u64, b: u64, c: u64, d: u64) -> [u64; 122] {
+fn row4(state: [u64; 164], at: usize, a: u64, b: u64, c: u64, d: u64) -> [u64; 164] {
     let mut w = state;
-    if at < 118 {
+    if at < 160 {
         w[at] = a;
         w[at + 1] = b;
         w[at + 2] = c;
@@ -56,116 +167,252 @@ fn row4(state: [u64; 122], at: usize, a: u64, b: u64, c: u64, d: u64) -> [u64; 1
     w
 }
 
-fn row5(state: [u64; 122], at: usize, a: u64, b: u64, c: u64, d: u64, e: u64) -> [u64; 122] {
-    let mut w = state;
-    if at < 118 {
-        w[at] = a;
-        w[at + 1] = b;
-        w[at + 2] = c;
-        w[at + 3] = d;
+fn row5(state: [u64; 164], at: usize, a: u64, b: u64, c: u64, d: u64, e: u64) -> [u64; 164] {
+    let mut w = row4(state, at, a, b, c, d);
+    if at < 160 {
         w[at + 4] = e;
     }
     w
 }
 
-// The free chains, the records, the edit slots and the versions.
-fn with_versions(state: [u64; 122]) -> [u64; 122] {
-    let w = row4(state, 4, 8, 0, 0, 5);
-    let w = row5(w, 8, 1, 1, 5, 4, 5);
-    let w = row4(w, 14, 2, 1, 1, 9);
-    let w = row4(w, 18, 2, 3, 2, 1);
-    let w = row4(w, 22, 1, 0, 4, 0);
-    let w = row4(w, 26, 9, 42, 0, 2);
-    let w = row4(w, 30, 7, 501, 0, 3);
-    let w = row4(w, 34, 5, 500, 0, 0);
-    row4(w, 38, 3, 7, 0, 0)
+// The first version, the first lock and the floor of a record.
+fn with_record(state: [u64; 164], r: usize, a: u64, b: u64, c: u64) -> [u64; 164] {
+    let w = with_word(state, record(r, R_VERSION), a);
+    let w = with_word(w, record(r, R_LOCK), b);
+    with_word(w, record(r, R_FLOOR), c)
 }
 
-fn with_locks(state: [u64; 122]) -> [u64; 122] {
-    let w = row5(state, 42, 9, 9, 6, 0, 2);
-    let w = row5(w, 47, 8, 9, 5, 0, 3);
-    let w = row5(w, 52, 7, 7, 2, 0, 4);
-    let w = row5(w, 57, 6, 7, 1, 0, 6);
-    let w = row5(w, 62, 1, 2, 9, 1, 7);
-    let w = row5(w, 67, 9, 9, 5, 0, 0);
-    let w = row5(w, 72, 3, 3, 2, 1, 8);
-    row5(w, 77, 20, 30, 1, 1, 0)
+fn with_slots(state: [u64; 164]) -> [u64; 164] {
+    let w = with_word(state, FREE_VERSION, 6);
+    let w = with_word(w, FREE_LOCK, 11);
+    let w = with_word(w, FREE_ACCESS, 6);
+    let w = with_record(w, 0, 1, 1, 5);
+    let w = with_record(w, 1, 4, 6, 0);
+    let w = with_record(w, 2, 5, 0, 4);
+    let w = with_record(w, 3, 0, 10, 0);
+    let w = row4(w, slot(1, 0), COMMITTED, 1, 1, 12);
+    let w = row4(w, slot(2, 0), COMMITTED, 3, 2, 1);
+    let w = row4(w, slot(3, 0), OPEN, 0, 5, 0);
+    row4(w, slot(4, 0), FREE, 7, 0, 0)
 }
 
-fn with_accesses(state: [u64; 122]) -> [u64; 122] {
-    let w = row5(state, 82, 0, 8, 1, 42, 0);
-    let w = row5(w, 87, 1, 1, 0, 0, 3);
-    let w = row5(w, 92, 0, 0, 0, 0, 0);
-    row5(w, 97, 1, 0, 1, 5, 0)
+fn with_versions(state: [u64; 164]) -> [u64; 164] {
+    let w = row4(state, version(1, 0), 12, 42, 0, 2);
+    let w = row4(w, version(2, 0), 7, 501, 0, 3);
+    let w = row4(w, version(3, 0), 5, 500, 0, 0);
+    let w = row4(w, version(4, 0), 3, 7, 0, 0);
+    row4(w, version(5, 0), 4, 9, 0, 0)
 }
 
-fn damage_words(w: [u64; 122]) {
-    damage(w, 0, 5000, b"record count 5000\n");
-    damage(w, 1, 0, b"edit count 0\n");
-    damage(w, 4, 7, b"length does not fit the counts\n");
-    damage(w, 121, 8, b"a chain in a circle\n");
-    damage(w, 121, 9, b"a link past the table\n");
-    damage(w, 41, 2, b"a row on two chains\n");
-    damage(w, 7, 6, b"a row on no chain\n");
-    damage(w, 45, 1, b"a lock row that names another record\n");
-    damage(w, 99, 2, b"a written mark of 2\n");
+fn with_locks(state: [u64; 164]) -> [u64; 164] {
+    let w = row5(state, lock(1, 0), 11, 12, writes(1), 0, 2);
+    let w = row5(w, lock(2, 0), 8, 10, reads(1), 0, 3);
+    let w = row5(w, lock(3, 0), 9, 9, reads(1), 0, 4);
+    let w = row5(w, lock(4, 0), 6, 7, writes(0), 0, 5);
+    let w = row5(w, lock(5, 0), 6, 7, reads(0), 0, 0);
+    let w = row5(w, lock(6, 0), 1, 2, reads(2), 1, 7);
+    let w = row5(w, lock(7, 0), 3, 3, writes(0), 1, 8);
+    let w = row5(w, lock(8, 0), 20, 30, reads(0), 1, 9);
+    let w = row5(w, lock(9, 0), 1, 1, writes(2), 1, 0);
+    row5(w, lock(10, 0), 1, 1, writes(2), 3, 0)
 }
 
-fn damage_slots(w: [u64; 122]) {
-    damage(w, 22, 4, b"a state of 4\n");
-    damage(w, 23, 65536, b"a generation of 65536\n");
-    damage(w, 25, 3, b"a commit point of an open edit\n");
-    damage(w, 92, 2, b"an access of a record that there is not\n");
-    damage(w, 92, 1, b"an edit that names a record twice\n");
-    damage(w, 83, 9, b"a point read that is no version\n");
-    damage(w, 98, 1, b"a read without its lock\n");
-    damage(w, 64, 10, b"a read whose lock is a write lock\n");
-    damage(w, 62, 2, b"a read whose lock starts later\n");
-    damage(w, 21, 3, b"a commit point outside the common set\n");
-    damage(w, 22, 0, b"a free slot with accesses\n");
+fn with_accesses(state: [u64; 164]) -> [u64; 164] {
+    let w = row5(state, access(1, 0), 0, 8, 1, 42, 0);
+    let w = row5(w, access(2, 0), 1, 1, 0, 0, 3);
+    let w = row5(w, access(3, 0), 0, 0, 0, 0, 4);
+    let w = row5(w, access(4, 0), 3, 0, 1, 6, 0);
+    row5(w, access(5, 0), 1, 0, 1, 5, 0)
 }
 
-fn damage_versions(w: [u64; 122]) {
-    damage(w, 26, 7, b"versions that do not fall strictly\n");
-    damage(w, 26, 70368744177664, b"a version above LAST\n");
-    damage(w, 34, 4, b"a version below the floor\n");
-    damage(
-        w,
-        10,
-        4,
-        b"a version chain that does not end at the floor\n",
-    );
-    damage(w, 38, 0, b"a version with point 0\n");
-    damage(w, 74, 1, b"a version without a write lock\n");
-    damage(
-        w,
-        74,
-        10,
-        b"a version whose lock is of an edit that committed elsewhere\n",
-    );
-    damage(w, 84, 0, b"a version whose edit did not write the record\n");
+// "its length fits its counts, and they are in range". A changed count breaks the first, so that the words have no
+// parts of which the other clauses could speak. The second is never broken alone by one word: the sum of the counts
+// changes too.
+fn damage_header(w: [u64; 164]) {
+    damage(w, H_RECORDS, 3);
+    print(b"record count 3\n");
+    damage(w, H_EDITS, 3);
+    print(b"edit count 3\n");
+    damage(w, H_VERSIONS, 8);
+    print(b"version count 8\n");
+    damage(w, H_LOCKS, 11);
+    print(b"lock count 11\n");
+    damage(w, H_ACCESSES, 7);
+    print(b"access count 7\n");
+    damage(w, H_RECORDS, 5000);
+    print(b"record count 5000\n");
+    damage(w, H_EDITS, 0);
+    print(b"edit count 0\n");
+    damage(w, H_VERSIONS, 4096);
+    print(b"version count 4096\n");
+    damage(w, H_LOCKS, 18446744073709551615);
+    print(b"lock count 2^64 - 1\n");
+    damage(w, H_ACCESSES, 0);
+    print(b"access count 0\n");
 }
 
-fn damage_locks(w: [u64; 122]) {
-    damage(w, 79, 3, b"a mode of 3\n");
-    damage(w, 79, 0, b"a mode of 0\n");
-    damage(w, 57, 5, b"a lock at the floor\n");
-    damage(w, 58, 5, b"a lock with low above high\n");
-    damage(w, 78, 70368744177664, b"a lock above LAST\n");
-    damage(w, 79, 17, b"an owner slot that there is not\n");
-    damage(
-        w,
-        63,
-        3,
-        b"a write lock that shares a point with another owner\n",
-    );
+// "every row is on exactly one chain": broken on the free chains, which no other clause looks at.
+fn damage_chains(w: [u64; 164]) {
+    damage(w, version(7, V_NEXT), 6);
+    print(b"the free versions in a circle\n");
+    damage(w, version(7, V_NEXT), 8);
+    print(b"a version link past the table\n");
+    damage(w, version(7, V_NEXT), 1);
+    print(b"a version row on two chains\n");
+    damage(w, FREE_VERSION, 7);
+    print(b"a version row on no chain\n");
+    damage(w, lock(12, L_NEXT), 11);
+    print(b"the free locks in a circle\n");
+    damage(w, lock(12, L_NEXT), 13);
+    print(b"a lock link past the table\n");
+    damage(w, lock(12, L_NEXT), 10);
+    print(b"a lock row on two chains\n");
+    damage(w, FREE_LOCK, 12);
+    print(b"a lock row on no chain\n");
+    damage(w, access(8, A_NEXT), 8);
+    print(b"the free accesses in a circle\n");
+    damage(w, access(8, A_NEXT), 9);
+    print(b"an access link past the table\n");
+    damage(w, access(8, A_NEXT), 5);
+    print(b"an access row on two chains\n");
+    damage(w, FREE_ACCESS, 0);
+    print(b"access rows on no chain\n");
+}
+
+// The same on the chains of records and edits, where clauses on their rows are broken too.
+fn damage_used_chains(w: [u64; 164]) {
+    damage(w, version(3, V_NEXT), 1);
+    print(b"the versions of record 0 in a circle\n");
+    damage(w, version(4, V_NEXT), 2);
+    print(b"versions on the chains of two records\n");
+    damage(w, lock(5, L_NEXT), 1);
+    print(b"the locks of record 0 in a circle\n");
+    damage(w, access(4, A_NEXT), 2);
+    print(b"the accesses of edit 2 in a circle\n");
+}
+
+// "lock rows name their chain's record"; "states, generations, commit points, written marks and modes are among those
+// listed".
+fn damage_marks(w: [u64; 164]) {
+    damage(w, lock(1, L_RECORD), 1);
+    print(b"a lock row that names another record\n");
+    damage(w, slot(3, S_STATE), 4);
+    print(b"a state of 4\n");
+    damage(w, slot(3, S_GENERATION), GENERATIONS);
+    print(b"a generation of 65536\n");
+    damage(w, slot(3, S_POINT), 3);
+    print(b"a commit point of an open edit\n");
+    damage(w, slot(4, S_POINT), 3);
+    print(b"a commit point of a free slot\n");
+    damage(w, access(5, A_WRITTEN), 2);
+    print(b"a written mark of 2\n");
+    damage(w, lock(8, L_MODE), 3);
+    print(b"a mode of 3\n");
+    damage(w, lock(8, L_MODE), 0);
+    print(b"a mode of 0\n");
+}
+
+// "a version chain falls strictly in point"; ".. ends at the floor if that is above 0"; "while no row has point 0".
+fn damage_versions(w: [u64; 164]) {
+    damage(w, version(1, V_POINT), 7);
+    print(b"versions that do not fall strictly\n");
+    damage(w, version(3, V_POINT), 6);
+    print(b"versions that do not end at the floor\n");
+    damage(w, version(4, V_POINT), 0);
+    print(b"a version with point 0\n");
+}
+
+// ".. lies in floor..LAST": no change of one word breaks it alone. A chain that falls strictly and ends at the floor
+// has no version below it. A version above LAST and above the floor has no lock that lies as locks must; the last
+// damage changes the floor with it, two words, and breaks this clause alone.
+fn damage_range(w: [u64; 164]) {
+    damage(w, version(3, V_POINT), 4);
+    print(b"a version below the floor\n");
+    damage(w, record(2, R_FLOOR), 6);
+    print(b"a floor above the versions\n");
+    damage(w, version(4, V_POINT), LAST + 1);
+    print(b"a version above LAST\n");
+    let high = with_word(w, record(2, R_FLOOR), LAST + 1);
+    damage(high, version(5, V_POINT), LAST + 1);
+    print(b"a version and its floor above LAST\n");
+}
+
+// "locks lie in floor + 1..LAST with low ≤ high"; "owners are 0 or slots in use"; "no write lock shares a point with a
+// lock of another owner".
+fn damage_locks(w: [u64; 164]) {
+    damage(w, lock(5, L_LOW), 5);
+    print(b"a lock at the floor\n");
+    damage(w, lock(5, L_HIGH), 5);
+    print(b"a lock with low above high\n");
+    damage(w, lock(8, L_HIGH), LAST + 1);
+    print(b"a lock above LAST\n");
+    damage(w, lock(8, L_MODE), reads(4));
+    print(b"an owner that is a free slot\n");
+    damage(w, lock(8, L_MODE), reads(5));
+    print(b"an owner slot that there is not\n");
+    damage(w, lock(6, L_HIGH), 3);
+    print(b"a write lock that shares a point with another owner\n");
+}
+
+// "each version above the floor has a write lock on its point, settled or of an edit that wrote the record and
+// committed at that point".
+fn damage_backing(w: [u64; 164]) {
+    damage(w, lock(7, L_MODE), reads(0));
+    print(b"a version under a read lock\n");
+    damage(w, version(4, V_POINT), 4);
+    print(b"a version off its lock\n");
+    damage(w, access(1, A_WRITTEN), 0);
+    print(b"a version whose edit did not write the record\n");
+    damage(w, slot(1, S_POINT), 11);
+    print(b"a version whose edit committed elsewhere\n");
+    damage(w, lock(7, L_MODE), writes(3));
+    print(b"a version whose edit is open\n");
+}
+
+// "an edit names an existing record at most once"; "a point read is a present version, or 0 under floor 0" (a read at 0
+// above floor 0 breaks another clause too: its lock would start at or below the floor); "and the edit has a read lock
+// starting just after it".
+fn damage_accesses(w: [u64; 164]) {
+    damage(w, access(3, A_RECORD), 4);
+    print(b"an access of a record that there is not\n");
+    damage(w, access(3, A_RECORD), 1);
+    print(b"an edit that names a record twice\n");
+    damage(w, access(1, A_FROM), 9);
+    print(b"a point read that is no version\n");
+    damage(w, access(5, A_FROM), 1);
+    print(b"a read without a lock\n");
+    damage(w, lock(6, L_MODE), writes(2));
+    print(b"a read whose lock is a write lock\n");
+    damage(w, lock(6, L_LOW), 2);
+    print(b"a read whose lock starts later\n");
+}
+
+// "a committed edit's point is in its common set"; "free slots have no accesses".
+fn damage_ends(w: [u64; 164]) {
+    damage(w, slot(2, S_POINT), 2);
+    print(b"a commit point outside the write locks\n");
+    damage(w, lock(10, L_MODE), reads(2));
+    print(b"a commit point under a read lock only\n");
+    damage(w, lock(2, L_HIGH), 9);
+    print(b"a commit point past a gap in the own locks\n");
+    damage(w, slot(2, S_POINT), 0);
+    print(b"a commit point of 0\n");
+    damage(w, slot(3, S_STATE), FREE);
+    print(b"a free slot with accesses\n");
 }
 
 // What the clauses do not judge.
-fn damage_nothing(w: [u64; 122]) {
-    damage(w, 104, 77, b"words of a free row\n");
-    damage(w, 28, 9, b"a third word of a version\n");
-    damage(w, 90, 5, b"a value of an unwritten access\n");
+fn damage_nothing(w: [u64; 164]) {
+    damage(w, access(7, A_FROM), 77);
+    print(b"words of a free row\n");
+    damage(w, version(1, V_SPARE), 9);
+    print(b"a third word of a version\n");
+    damage(w, access(2, A_VALUE), 5);
+    print(b"a value of an unwritten access\n");
+    damage(w, slot(4, S_GENERATION), GENERATIONS - 1);
+    print(b"a generation of 65535\n");
+    damage(w, lock(8, L_LOW), 3);
+    print(b"a settled lock that shares a point with a settled write lock\n");
 }
 
 fn counts(records: usize, edits: usize, versions: usize, locks: usize, accesses: usize) -> Counts {
@@ -176,6 +423,16 @@ fn counts(records: usize, edits: usize, versions: usize, locks: usize, accesses:
         locks,
         accesses,
     }
+}
+
+// Slices without a whole header.
+fn check_short() {
+    let none = [0u64; 0];
+    print_verdict(soundness::check(&none));
+    print(b"no word\n");
+    let seven = [1u64; 7];
+    print_verdict(soundness::check(&seven));
+    print(b"seven words\n");
 }
 
 fn format_stores() {
@@ -201,13 +458,21 @@ fn format_stores() {
 
 fn main() {
     format_stores();
-    let mut words = [7u64; 122];
-    lay_out(&mut words, counts(2, 3, 4, 8, 8), b"store 2 3 4 8 8\n");
-    let state = with_accesses(with_locks(with_versions(words)));
-    damage(state, 0, 2, b"the state as it is\n");
-    damage_words(state);
-    damage_slots(state);
+    check_short();
+    let mut words = [7u64; 164];
+    lay_out(&mut words, counts(4, 4, 7, 12, 8), b"store 4 4 7 12 8\n");
+    let state = with_accesses(with_locks(with_versions(with_slots(words))));
+    damage(state, H_RECORDS, 4);
+    print(b"the state as it is\n");
+    damage_header(state);
+    damage_chains(state);
+    damage_used_chains(state);
+    damage_marks(state);
     damage_versions(state);
+    damage_range(state);
     damage_locks(state);
+    damage_backing(state);
+    damage_accesses(state);
+    damage_ends(state);
     damage_nothing(state);
 }

@@ -11,12 +11,19 @@ use Rattle.meaning.specs.Records.{goodCounts}
 use Rattle.meaning.specs.Replies.{Reply, ok, refusing}
 use Rattle.meaning.specs.Store.{fresh}
 use Rattle.meaning.specs.declared.Counts.{Counts}
-use Rattle.tables.specs.Layout.{HEADER, sizeOf, versionTable, lockTable, accessTable}
+use Rattle.tables.specs.Layout.{HEADER, H-RECORDS, H-EDITS, H-VERSIONS, H-LOCKS, H-ACCESSES, FREE-VERSION, FREE-LOCK, FREE-ACCESS, sizeOf, versionTable, lockTable, accessTable}
 use Rattle.tables.specs.Words.{lent, decode, soundWords}
 
 -- "Format writes the counts, free chains in rising order, and zero elsewhere": the header, with row 1 first on each free chain
+abbrev pub freeFirst : List ℕ → List ℕ
+freeFirst w = set (set (set w FREE-VERSION 1) FREE-LOCK 1) FREE-ACCESS 1
+
+abbrev pub withCounts : Counts → List ℕ → List ℕ
+withCounts c w =
+    set (set (set (set (set w H-RECORDS (c .records)) H-EDITS (c .edits)) H-VERSIONS (c .versions)) H-LOCKS (c .locks)) H-ACCESSES (c .accesses)
+
 abbrev pub headerWords : Counts → List ℕ
-headerWords c = c .records ∷ c .edits ∷ c .versions ∷ c .locks ∷ c .accesses ∷ 1 ∷ 1 ∷ 1 ∷ []
+headerWords c = freeFirst (withCounts c (replicate HEADER 0))
 
 unfoldable pub blankWords : Counts → List ℕ
 blankWords c = headerWords c ++ replicate (sizeOf c - HEADER) 0

@@ -7,7 +7,8 @@ use native.Mathlib.Omega.{arith}
 use borrow.Author.Tests.{le-leb, lt-leb, leb-true, leb-false, eqb-true, eqb-false, eq-eqb, ne-eqb}
 use lib.ListN.{length, getD, List·getD-eq-default}
 use lib.Dec.{leb, eqb}
-use Rattle.lines.specs.Fields.{isDigit, SPACE, LARGEST}
+use Rattle.printing.specs.Text.{SPACE, LARGEST}
+use Rattle.lines.specs.Fields.{isDigit}
 use Rattle.lines.specs.Cursor.{digitOf, endsAt}
 
 pub digit-in : (b : ℕ) → 48 ≤ b → b ≤ 57 → isDigit b ≡ true

@@ -3,7 +3,7 @@ use mathlib.Core.Path.{_≡_, refl}
 use Rattle.meaning.specs.Session.{session, sessionReplies}
 use Rattle.lines.specs.Fields.{first, others, digits, value, number, letterOr, done}
 use Rattle.lines.specs.Calls.{extent, finish, pick, formatting, beginning, writing, locking, reading, committing, aborting, settling, purging, viewing, called, parsed}
-use Rattle.lines.specs.Shown.{digitsOf, decimal, valueText, one, two, oneValue, twoValue}
+use Rattle.printing.specs.Shown.{digitsOf, decimal, valueText, one, two, oneValue, twoValue}
 use Rattle.lines.specs.Examples.{input, output, wrong, SessionRead, SessionShown, Accepted, WrongRefused}
 
 pub session-read : SessionRead

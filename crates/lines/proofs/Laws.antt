@@ -7,11 +7,12 @@ use native.Mathlib.Omega.{arith}
 use borrow.Author.Tests.{le-leb, eqb-true, ltb-true, ltb-false}
 use lib.ListN.{length, getD}
 use lib.Dec.{leb, eqb, ltb}
-use Rattle.lines.specs.Fields.{SPACE, LARGEST, first, others, isDigit, isNumber, digits, value, nonempty}
-use Rattle.lines.specs.Shown.{decimal}
+use Rattle.printing.specs.Text.{SPACE, LARGEST}
+use Rattle.lines.specs.Fields.{first, others, isDigit, isNumber, digits, value, nonempty}
+use Rattle.printing.specs.Shown.{decimal}
 use Rattle.lines.specs.Laws.{spaced, spaceless, allSpaceless, FieldsJoin, FieldsSpaceless, DecimalReads, DecimalNumber, DecimalLeads}
 use Rattle.lines.proofs.Digits.{digit-in}
-use Rattle.lines.proofs.Decimal.{decimal-small, decimal-more}
+use Rattle.printing.proofs.Decimal.{decimal-small, decimal-more}
 
 join-by : (b : ℕ) (bs : List ℕ) (q : Bool) → eqb b SPACE ≡ q → first bs ++ spaced (others bs) ≡ bs
     → first (b ∷ bs) ++ spaced (others (b ∷ bs)) ≡ b ∷ bs

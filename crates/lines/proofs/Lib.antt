@@ -2,7 +2,5 @@ pub mod Digits
 pub mod Scans
 pub mod Numbers
 pub mod Found
-pub mod Writes
-pub mod Decimal
 pub mod Examples
 pub mod Laws

@@ -10,7 +10,8 @@ use lib.ListN.{length, drop, getD}
 use lib.Seq.{drop-cons}
 use lib.Dec.{leb}
 use Rattle.lines.specs.declared.Parsed.the-variants.{Malformed}
-use Rattle.lines.specs.Fields.{LARGEST, number}
+use Rattle.printing.specs.Text.{LARGEST}
+use Rattle.lines.specs.Fields.{number}
 use Rattle.lines.proofs.Digits.{digit-says, digit-within}
 use Rattle.lines.proofs.Scans.{Next, going, going-digit, going-past, going-end, going-bad, ends-says, goes-says, number-starts}
 use Rattle.lines.specs.Cursor.{left, digitOf, endsAt}

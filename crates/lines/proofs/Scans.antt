@@ -12,7 +12,8 @@ use lib.Seq.{drop-cons}
 use lib.Dec.{leb, eqb}
 use Rattle.lines.specs.declared.Parsed.{Parsed}
 use Rattle.lines.specs.declared.Parsed.the-variants.{Malformed}
-use Rattle.lines.specs.Fields.{SPACE, LARGEST, first, others, isDigit, digits, value, number, letterOr}
+use Rattle.printing.specs.Text.{SPACE, LARGEST}
+use Rattle.lines.specs.Fields.{first, others, isDigit, digits, value, number, letterOr}
 use Rattle.lines.proofs.Digits.{Digit, digit-says, digit-within, digit-in, not-digit}
 use Rattle.lines.specs.Cursor.{left, digitOf, endsAt}
 

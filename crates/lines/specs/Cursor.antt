@@ -5,7 +5,8 @@ use mathlib.Core.Bool.{Bool, cond, _||_}
 use mathlib.Core.List.{List, []}
 use lib.ListN.{length, drop, getD}
 use lib.Dec.{leb, eqb}
-use Rattle.lines.specs.Fields.{SPACE, fields, isDigit}
+use Rattle.printing.specs.Text.{SPACE}
+use Rattle.lines.specs.Fields.{fields, isDigit}
 use Rattle.lines.specs.Calls.{ExtentNext, FinishNext, PickNext}
 use Rattle.lines.specs.declared.Parsed.{Parsed}
 use Rattle.lines.specs.declared.Parsed.the-variants as P

@@ -7,9 +7,9 @@ use lib.ListN.{replicate}
 use Rattle.meaning.specs.Session.{session, sessionReplies}
 use Rattle.meaning.specs.Calls as M
 use Rattle.meaning.specs.declared.Call.the-variants as C
-use Rattle.lines.specs.Text.{text}
+use Rattle.printing.specs.Text.{text}
 use Rattle.lines.specs.Calls.{handle, point, parsed}
-use Rattle.lines.specs.Shown.{shown, lineOf}
+use Rattle.printing.specs.Shown.{shown, lineOf}
 use Rattle.lines.specs.declared.Parsed.{Parsed}
 use Rattle.lines.specs.declared.Parsed.the-variants as P
 

@@ -4,15 +4,9 @@ use Prim.Native.Nat.{ℕ, _+_, _-_, _*_}
 use mathlib.Core.Bool.{Bool, true, false, cond, _&&_}
 use mathlib.Core.List.{List, [], _∷_}
 use lib.Dec.{leb, eqb}
+use Rattle.printing.specs.Text.{SPACE, LARGEST}
 use Rattle.lines.specs.declared.Parsed.{Parsed}
 use Rattle.lines.specs.declared.Parsed.the-variants.{Malformed}
-
-abbrev pub SPACE : ℕ
-SPACE = 32
-
--- 2^64 - 1
-abbrev pub LARGEST : ℕ
-LARGEST = 18446744073709551615
 
 -- the bytes before the first space, and the fields after it: two spaces in a row have an empty field between them
 unfoldable pub first : List ℕ → List ℕ

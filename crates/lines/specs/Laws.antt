@@ -7,8 +7,9 @@ use mathlib.Core.Bool.{Bool, true, false, not, _&&_}
 use mathlib.Core.List.{List, [], _∷_, _++_}
 use lib.ListN.{getD}
 use lib.Dec.{eqb}
-use Rattle.lines.specs.Fields.{SPACE, LARGEST, first, others, isNumber, digits, value}
-use Rattle.lines.specs.Shown.{decimal}
+use Rattle.printing.specs.Text.{SPACE, LARGEST}
+use Rattle.lines.specs.Fields.{first, others, isNumber, digits, value}
+use Rattle.printing.specs.Shown.{decimal}
 
 -- each field after the first, with a space before it
 unfoldable pub spaced : List (List ℕ) → List ℕ

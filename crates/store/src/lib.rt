@@ -1,25 +1,32 @@
 // The public calls of the store, on lent words. Each checks the words first (refusal 1) and then does what its definition says; none has a
 // `requires`. The contract of each settles its reply and what the words mean afterwards, for every slice and argument.
-ghost use Rattle.meaning.specs.Replies.{ofBegin, ofWrite, ofLock, ofRead, ofCommit, ofAbort, ofSettle, ofPurge, ofView};
+ghost use Rattle.meaning.specs.Replies.{ofPoint, ofFormat, ofBegin, ofWrite, ofLock, ofRead, ofCommit, ofAbort, ofSettle, ofPurge, ofView};
 ghost use Rattle.meaning.specs.Edits.{beginning, writing};
 ghost use Rattle.meaning.specs.Locking.{locking, reading};
 ghost use Rattle.meaning.specs.Ending.{committing, aborting, settling};
-ghost use Rattle.meaning.specs.Records.{purging, viewing};
+ghost use mathlib.Core.Path.{_≡_};
+ghost use Rattle.meaning.specs.Records.{purging, viewing, pointing};
+ghost use Rattle.format.specs.Format.{Formats};
 ghost use Rattle.meaning.specs.Calls.{act};
 ghost use Rattle.store.specs.Answers.{Does, Shows, ofAnswer};
 use meaning::AbortReply;
 use meaning::BeginReply;
 use meaning::Call;
 use meaning::CommitReply;
+use meaning::Counts;
 use meaning::Extent;
 use meaning::Finish;
+use meaning::FormatReply;
 use meaning::Handle;
 use meaning::LockReply;
 use meaning::Pick;
 use meaning::Point;
+use meaning::PointReply;
 use meaning::PurgeReply;
 use meaning::ReadReply;
+use meaning::Reading;
 use meaning::Refusal;
+use meaning::Seat;
 use meaning::SettleReply;
 use meaning::ViewReply;
 use meaning::WriteReply;
@@ -35,6 +42,20 @@ pub enum Answer {
     Settle(SettleReply),
     Purge(PurgeReply),
     View(ViewReply),
+}
+
+// The point of a clock reading and a seat.
+pub fn point(reading: Reading, seat: Seat) -> PointReply
+    ensures { λ r. ⌜ ofPoint r ≡ pointing (reading .0) (seat .0) ⌝ }
+{
+    meaning::make_point(reading, seat)
+}
+
+// A fresh store in the slice, whatever it held.
+pub fn format(words: &mut [u64], counts: Counts) -> FormatReply
+    ensures { λ r. ⌜ Formats counts (now (words .entry)) (now (words .exit)) (ofFormat r) ⌝ }
+{
+    format::format(words, counts)
 }
 
 pub fn begin(words: &mut [u64]) -> BeginReply

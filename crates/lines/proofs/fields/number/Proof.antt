@@ -8,7 +8,7 @@ use lib.ListN.{length}
 use borrow.Author.Tests.{leb-true, not-true, not-false}
 use Rattle.lines.proofs.Scans.{number-missing}
 use Rattle.lines.proofs.Numbers.{Scan, scan-starts, scan-within, scan-over, scan-again, scan-end, scan-bad}
-use Rattle.lines.specs.Fields.{LARGEST}
+use Rattle.printing.specs.Text.{LARGEST}
 use Rattle.lines.proofs.fields.number.Statement.{statement}
 use Rattle.lines.proofs.fields.number.Tie as tie
 

@@ -1,0 +1,30 @@
+-- `printing::writing::put_one_value` meets its contract: the parts are appended one after another, and each has room.
+-- Assumes nothing.
+use borrow.Author.Needs.{needs}
+use native.Mathlib.Omega.{arith}
+use Rattle.printing.specs.Shown.{oneValue}
+use Rattle.printing.proofs.Writes.{appended-then}
+use Rattle.printing.proofs.Decimal.{one-long}
+use Rattle.printing.proofs.writing.put_one_value.Statement.{statement}
+use Rattle.printing.proofs.writing.put_one_value.Tie as tie
+
+put-one-requires : tie.Need-put-one-requires
+put-one-requires c κs = search needs
+
+put-requires : tie.Need-put-requires
+put-requires c κs = let d = one-long (c .before .before .before .before .before .before .before .args .word .now) (c .before .before .before .before .before .before .before .args .n) (omega (arith, c .before .before .before .before .before .before .before .fits .n)) in omega (arith, c .before .before .before .before .before .before .before .pre, c .before .before .before .put-one .ensures .ends, c .before .before .before .put-one .ensures .long)
+
+put-value-requires : tie.Need-put-value-requires
+put-value-requires c κs = let d = one-long (c .before .before .before .before .before .before .before .before .before .before .before .args .word .now) (c .before .before .before .before .before .before .before .before .before .before .before .args .n) (omega (arith, c .before .before .before .before .before .before .before .before .before .before .before .fits .n)) in
+    omega (arith, c .before .before .before .before .before .before .before .before .before .before .before .pre, c .before .before .before .before .before .before .before .put-one .ensures .ends, c .before .before .before .before .before .before .before .put-one .ensures .long, c .before .before .before .put .ensures .ends, c .before .before .before .put .ensures .long)
+
+same-length : tie.Need-same-length
+same-length c = search needs
+
+returns : tie.Need-returns
+unfolding oneValue
+returns c = appended-then (c .before .before .before .before .before .before .before .before .before .before .put-one .ensures) (appended-then (c .before .before .before .before .before .before .put .ensures) (c .before .before .put-value .ensures))
+
+pub put-one-value-spec : {M : Type 1} → statement M
+put-one-value-spec =
+    tie.close (tie.spec put-one-requires put-requires put-value-requires same-length returns)

@@ -1,0 +1,3 @@
+-- What is printed.
+pub mod Text
+pub mod Shown

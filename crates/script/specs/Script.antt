@@ -1,0 +1,68 @@
+-- What a line of a script prints and what the program has after it: "Before the first F that succeeds every other call prints `no 1`; a refused F
+-- keeps the earlier store"; "It lays out at most 8,000 words (more: `no 16`)". Rests on the calls of meaning, the layout of tables, and lines.
+use Prim.Native.Nat.{ℕ, _≤_}
+use mathlib.Core.Path.{_≡_}
+use mathlib.Core.Bool.{Bool, true, false, cond, _&&_}
+use mathlib.Core.List.{List, []}
+use lib.ListN.{length, take}
+use lib.Dec.{leb}
+use Rattle.meaning.specs.Store.{Store, fresh}
+use Rattle.meaning.specs.Calls.{act}
+use Rattle.meaning.specs.Records.{goodCounts}
+use Rattle.meaning.specs.declared.Call.{Call}
+use Rattle.meaning.specs.declared.Counts.{Counts}
+use Rattle.tables.specs.Layout.{sizeOf}
+use Rattle.tables.specs.Words.{lent, decode, soundWords}
+use Rattle.printing.specs.Shown.{lineOf}
+use Rattle.printing.specs.declared.Line.{Line}
+use Rattle.printing.specs.declared.Line.the-variants as L
+use Rattle.lines.specs.declared.Parsed.{Parsed}
+use Rattle.lines.specs.declared.Parsed.the-variants as P
+
+-- the store, if a Format has succeeded
+pub data Has : Type 0 where
+  nothing : Has
+  one : Store → Has
+
+-- the words in use are what the program has
+abbrev pub Stands : Has → List ℕ → Type 0
+Stands nothing w = w ≡ []
+Stands (one s) w = (soundWords (lent w) ≡ true) × (decode (lent w) ≡ s)
+
+pub record Said : Type 0 where
+  pub line : Line
+  pub has : Has
+
+-- the counts are in range, and there is room for the words that they ask for
+unfoldable pub roomFor : ℕ → Counts → Bool
+roomFor room c = goodCounts c && leb (sizeOf c) room
+
+-- how many words Format is lent
+unfoldable pub wordsFor : ℕ → Counts → ℕ
+wordsFor room c = cond (roomFor room c) (sizeOf c) 0
+
+abbrev pub formatted : Counts → Bool → Has → Said
+formatted c true h = record { line = L.Ok; has = one (fresh c) }
+formatted c false h = record { line = L.No 16; has = h }
+
+abbrev pub called : Call → Has → Said
+called c nothing = record { line = L.No 1; has = nothing }
+called c (one s) = record { line = lineOf (act c s .reply); has = one (act c s .store) }
+
+abbrev pub kept : Has → Said
+kept h = record { line = L.Malformed; has = h }
+
+abbrev pub said : ℕ → Parsed → Has → Said
+said room P.Malformed = kept
+said room (P.Format c) = formatted c (roomFor room c)
+said room (P.Call c) = called c
+
+-- what is printed and left, whatever the program had
+pub record Says (f : Has → Said) (before : List ℕ) (l : Line) (after : List ℕ) : Type 0 where
+  pub line : (h : Has) → Stands h before → l ≡ f h .line
+  pub leaves : (h : Has) → Stands h before → Stands (f h .has) after
+
+-- the same of all words, of which the first are in use
+pub record Answers (f : Has → Said) (words : List ℕ) (used : ℕ) (l : Line) (words′ : List ℕ) (used′ : ℕ) : Type 0 where
+  pub inside : used′ ≤ length words′
+  pub says : Says f (take used words) l (take used′ words′)

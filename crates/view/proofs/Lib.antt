@@ -1,0 +1,2 @@
+-- Proofs of the chart reader.
+pub mod Seen

@@ -1,0 +1,39 @@
+-- A reader's answer, by the flag and the header, and that it is the reply of View where the flag is the check's. Rests on Words of `tables`.
+use Prim.Native.Nat.{ℕ}
+use mathlib.Core.Path.{_≡_, refl, sym, ap, _∙_}
+use mathlib.Core.Bool.{Bool, true, false, _&&_, cond}
+use mathlib.Core.List.{List, []}
+use Rattle.meaning.specs.Replies.{Reply, refusing}
+use Rattle.meaning.specs.Outcomes.{Outcome}
+use Rattle.meaning.specs.Records.{viewing}
+use Rattle.meaning.specs.Sound.{soundStore}
+use Rattle.tables.specs.Layout.{countsOf, headerOk}
+use Rattle.tables.specs.Words.{lent, decode, formedAt, formed, soundWords}
+use Rattle.view.specs.Seen.{asked, answered}
+
+module _ (r p : ℕ) (w : List ℕ) where
+  pub not-good : {good : Bool} → good ≡ false → refusing 1 [] ≡ answered good r p w
+  unfolding answered
+  not-good e = rw e refl
+
+  pub no-header : {good : Bool} → good ≡ true → headerOk w ≡ false → refusing 1 [] ≡ answered good r p w
+  unfolding answered
+  no-header e h = rw (e, h) refl
+
+  pub seen : {good : Bool} {q : Reply} → good ≡ true → headerOk w ≡ true → q ≡ viewing r p (decode (lent w)) .reply → q ≡ answered good r p w
+  unfolding answered
+  seen e h f = rw (e, h) f
+
+  -- sound words have a good header
+  pub as-asked : answered (soundWords (lent w)) r p w ≡ asked r p w
+  unfolding answered asked soundWords formed
+  as-asked =
+      ap (λ (b : Bool). cond b (viewing r p (decode (lent w)) .reply) (refusing 1 []))
+      (both (headerOk w) (formedAt (countsOf w) w) (soundStore (decode (lent w))))
+    where
+      both : (h f s : Bool) → (((h && f) && s) && h) ≡ ((h && f) && s)
+      both true true true = refl
+      both true true false = refl
+      both true false true = refl
+      both true false false = refl
+      both false f s = refl

@@ -1,0 +1,2 @@
+-- What a chart reader answers.
+pub mod Seen

@@ -1,0 +1,47 @@
+//! Each list has script lines on the left of `=` and answers on the right. `refusals` has the sixteen numbers, `calls` the session, the misreadings and
+//! the calls together, `scripts` the form of lines and the generator.
+
+mod calls;
+mod refusals;
+mod scripts;
+
+use crate::script::{self, Session};
+
+/// Runs a list of "line = answer" with the checks on.
+fn expect(list: &str) {
+    let mut session = Session::new(true);
+    for (i, pair) in list
+        .lines()
+        .map(str::trim)
+        .filter(|l| !l.is_empty())
+        .enumerate()
+    {
+        let (line, answer) = pair.split_once(" = ").expect("a pair");
+        let got = session.line(line.as_bytes()).expect("sound");
+        assert_eq!(got, answer, "pair {}: {line}", i + 1);
+    }
+    session.finish().expect("the plain run");
+}
+
+/// Runs bytes through the script program.
+fn run(input: &[u8]) -> String {
+    let mut output = vec![];
+    script::run(&mut &input[..], &mut output, true).expect("a run");
+    String::from_utf8(output).expect("text")
+}
+
+const SESSION: &str = "
+    F 2 2 4 8 8 = ok
+    B = edit 65
+    B = edit 66
+    R 65 0 6 A = read 0 6 -
+    L 66 0 4 9 P = locked 7 9
+    W 66 0 501 = ok
+    C 66 E S = commit 7
+    C 65 L S = commit 6
+    B = edit 129
+    R 129 0 9 A = read 7 9 501
+    L 129 0 3 3 A = no 9
+    P 0 8 = purged 0 2
+    R 65 0 6 A = no 2
+";
