@@ -44,7 +44,7 @@ pub extern "C" fn zohetiwa_point(clock: u64, seat: u64, point: &mut u64) -> u64
         (now (point .exit) ∷ [])
         ⌝ }
 {
-    let reply = meaning::make_point(meaning::reading_of(clock), meaning::seat_of(seat));
+    let reply = store::point(meaning::reading_of(clock), meaning::seat_of(seat));
     tell::point(reply, point)
 }
 
@@ -64,7 +64,7 @@ pub extern "C" fn zohetiwa_format(
         code [] []
         ⌝ }
 {
-    let reply = format::format(
+    let reply = store::format(
         words,
         Counts {
             records: records,

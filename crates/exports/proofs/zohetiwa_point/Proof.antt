@@ -1,4 +1,4 @@
--- `zohetiwa_point` meets its contract: the reply is that of `make_point`, and it is told. Assumes nothing.
+-- `zohetiwa_point` meets its contract: the reply is that of the call, and it is told. Assumes nothing.
 use borrow.Author.Needs.{needs}
 use Rattle.exports.proofs.Telling.{answered, made}
 use Rattle.exports.proofs.zohetiwa_point.Statement.{statement}
@@ -10,17 +10,17 @@ reading-of-requires c κs = search needs
 seat-of-requires : tie.Need-seat-of-requires
 seat-of-requires c κs = search needs
 
-make-point-requires : tie.Need-make-point-requires
-make-point-requires c κs = search needs
-
 point-requires : tie.Need-point-requires
 point-requires c κs = search needs
 
+point-requires-2 : tie.Need-point-requires-2
+point-requires-2 c κs = search needs
+
 returns : tie.Need-returns
 returns c =
-    answered (c .point .ensures)
+    answered (c .point2 .ensures)
     (made (c .before .before .before .before .reading-of .ensures)
-    (c .before .before .before .seat-of .ensures) (c .before .before .make-point .ensures))
+    (c .before .before .before .seat-of .ensures) (c .before .before .point .ensures))
 
 pub zohetiwa-point-spec : {M : Type 1} → statement M
 zohetiwa-point-spec =
@@ -28,6 +28,6 @@ zohetiwa-point-spec =
     (tie.spec
     reading-of-requires
     seat-of-requires
-    make-point-requires
     point-requires
+    point-requires-2
     returns)
