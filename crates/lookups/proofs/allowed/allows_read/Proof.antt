@@ -1,0 +1,31 @@
+-- `lookups::allowed::allows_read` meets its contract. Rests on Common.
+use denote.Ref.{now}
+use Rattle.meaning.specs.Points.{ownOn}
+use Rattle.tables.specs.Decode.{recordsOf}
+use Rattle.lookups.proofs.Common.{own-reach, read-none, read-below, read-is}
+use borrow.Author.Needs.{needs}
+use Rattle.lookups.proofs.allowed.allows_read.Statement.{statement}
+use Rattle.lookups.proofs.allowed.allows_read.Tie as tie
+
+returns : tie.Need-returns
+returns c = read-none (ownOn (recordsOf (c .before .before .before .args .c) (now (c .before .before .before .args .w))) (c .before .before .before .args .k) (c .before .before .before .args .a)) (c .before .before .before .args .a) (c .before .before .before .args .p) (c .if1 .taken)
+
+returns-2 : tie.Need-returns-2
+returns-2 c = read-below (ownOn (recordsOf (c .before .before .before .before .before .args .c) (now (c .before .before .before .before .before .args .w))) (c .before .before .before .before .before .args .k) (c .before .before .before .before .before .args .a)) (c .before .before .before .before .before .args .a) (c .before .before .before .before .before .args .p) (c .before .before .if1 .left) (c .if2 .taken)
+
+word-requires : tie.Need-word-requires
+word-requires c κs = search needs
+
+wide-requires : tie.Need-wide-requires
+wide-requires c κs = search needs
+
+first-free-requires : tie.Need-first-free-requires
+first-free-requires c κs = search needs
+
+returns-3 : tie.Need-returns-3
+returns-3 c = read-is (ownOn (recordsOf (c .before .before .before .before .before .before .before .before .args .c) (now (c .before .before .before .before .before .before .before .before .args .w))) (c .before .before .before .before .before .before .before .before .args .k) (c .before .before .before .before .before .before .before .before .args .a)) (c .before .before .before .before .before .before .before .before .args .a) (c .before .before .before .before .before .before .before .before .args .p) (c .before .before .before .before .before .if1 .left) (search needs) (own-reach (c .before .before .before .before .before .before .before .before .args .c) (now (c .before .before .before .before .before .before .before .before .args .w)) (c .before .before .before .before .before .before .before .before .args .k) (c .before .before .before .before .before .before .before .before .args .a) (c .before .before .before .before .before .before .before .before .pre .1) (c .before .before .word .ensures) (c .before .wide .ensures) _ (c .before .before .before .before .before .before .before .before .args .a .from) (c .first-free .ensures))
+
+pub allows-read-spec : {M : Type 1} → statement M
+allows-read-spec =
+    tie.close
+    (tie.spec returns returns-2 word-requires wide-requires first-free-requires returns-3)

@@ -1,0 +1,36 @@
+-- `lookups::edits::is_open` meets its contract. Rests on Slots.
+use denote.Ref.{now}
+use borrow.Author.Tests.{not-true, not-false}
+use Rattle.lookups.proofs.Slots.{used-row, open-no, open-is}
+use borrow.Author.Needs.{needs}
+use Rattle.lookups.proofs.edits.is_open.Statement.{statement}
+use Rattle.lookups.proofs.edits.is_open.Tie as tie
+
+slot-of-requires : tie.Need-slot-of-requires
+slot-of-requires c κs = search needs
+
+slot-used-requires : tie.Need-slot-used-requires
+slot-used-requires c κs = search needs
+
+returns : tie.Need-returns
+returns c = open-no (c .before .before .before .before .args .c) (now (c .before .before .before .before .args .w)) (c .before .before .before .before .args .h .0) (c .before .before .slot-of .result) (c .before .before .slot-of .ensures) (c .before .slot-used .ensures) (not-true _ (c .if1 .taken))
+
+wide-requires : tie.Need-wide-requires
+wide-requires c κs = search needs
+
+state-of-requires : tie.Need-state-of-requires
+state-of-requires c κs = (c .before .before .before .before .before .pre, rw (c .wide .ensures) (used-row (c .before .before .before .before .before .args .c) (now (c .before .before .before .before .before .args .w)) (c .before .before .before .slot-of .result) (c .before .before .slot-used .ensures) (not-false _ (c .before .if1 .left))))
+
+returns-2 : tie.Need-returns-2
+returns-2 c = open-is (c .before .before .before .before .before .before .args .c) (now (c .before .before .before .before .before .before .args .w)) (c .before .before .before .before .before .before .args .h .0) (c .before .before .before .before .slot-of .result) (c .before .before .before .before .slot-of .ensures) (c .before .before .before .slot-used .ensures) (not-false _ (c .before .before .if1 .left)) (c .before .wide .ensures) (c .state-of .ensures)
+
+pub is-open-spec : {M : Type 1} → statement M
+is-open-spec =
+    tie.close
+    (tie.spec
+    slot-of-requires
+    slot-used-requires
+    returns
+    wide-requires
+    state-of-requires
+    returns-2)

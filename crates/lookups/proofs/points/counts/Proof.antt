@@ -1,0 +1,19 @@
+-- `lookups::points::counts` meets its contract.
+use Rattle.lookups.specs.Search.{counts}
+use borrow.Author.Needs.{needs}
+use Rattle.lookups.proofs.points.counts.Statement.{statement}
+use Rattle.lookups.proofs.points.counts.Tie as tie
+
+returns : tie.Need-returns
+unfolding counts
+returns c = rw (c .before .if1 .taken)
+
+blocks-requires : tie.Need-blocks-requires
+blocks-requires c κs = search needs
+
+returns-2 : tie.Need-returns-2
+unfolding counts
+returns-2 c = rw (c .before .if1 .left) (c .blocks2 .ensures)
+
+pub counts-spec : {M : Type 1} → statement M
+counts-spec = tie.close (tie.spec returns blocks-requires returns-2)

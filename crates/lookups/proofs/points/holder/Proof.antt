@@ -1,0 +1,71 @@
+-- `lookups::points::holder` meets its contract: a loop that keeps the least owner. Rests on Extremes.
+use mathlib.Core.List.{map}
+use native.Mathlib.Omega.{arith}
+use denote.Ref.{now}
+use Rattle.chains.specs.Table.{link}
+use Rattle.chains.proofs.Walks.{row-of, fuel-of}
+use Rattle.chains.proofs.Loops.{Walk}
+use Rattle.meaning.specs.Limits.{SLOTS}
+use Rattle.meaning.specs.Lists.{least}
+use Rattle.meaning.specs.Points.{covers, blocks, blockers, holder}
+use Rattle.meaning.specs.declared.Lock.{Lock}
+use Rattle.tables.specs.Layout.{lockTable}
+use Rattle.tables.specs.Decode.{recordAt, lockAt}
+use Rattle.tables.proofs.Loops.{locks-start}
+use Rattle.lookups.proofs.Extremes.{valued, least-on, least-done}
+use Rattle.lookups.proofs.points.holder.Statement.{statement}
+use Rattle.lookups.proofs.points.holder.Tie as tie
+
+abbrev Inv-loop : tie.InvT-loop
+Inv-loop w c mode k r p n best₀ cur₀ left₀ best cur left = Walk (link (lockTable c) w) n (λ rs. least best (valued (covers p) (blocks mode k) (λ (l : Lock). l .owner) (map (lockAt c w) rs))) (holder mode k (recordAt c w r) p) cur left
+
+abbrev μ-loop : tie.MeasureT-loop
+μ-loop w c mode k r p n best₀ cur₀ left₀ best cur left = left
+
+first-lock-requires : tie.Need-first-lock-requires Inv-loop μ-loop
+first-lock-requires c κs = (c .before .pre .0, c .before .pre .1)
+
+loop-holds : tie.Need-loop-holds Inv-loop μ-loop
+unfolding holder blockers
+loop-holds c = locks-start _ _ _ (λ ls. least SLOTS (valued (covers (c .before .before .args .p)) (blocks (c .before .before .args .mode) (c .before .before .args .k)) (λ (l : Lock). l .owner) ls)) (c .first-lock .ensures)
+
+more-requires : tie.Need-more-requires Inv-loop μ-loop
+more-requires c κs = tt
+
+lock-at-requires : tie.Need-lock-at-requires Inv-loop μ-loop
+lock-at-requires c κs = (c .before .before .before .before .before .pre .0, row-of _ _ _ (c .before .more .ensures) (c .if1 .taken))
+
+lower-owner-requires : tie.Need-lower-owner-requires Inv-loop μ-loop
+lower-owner-requires c κs = tt
+
+next-lock-requires : tie.Need-next-lock-requires Inv-loop μ-loop
+next-lock-requires c κs = (c .before .before .before .before .before .before .before .pre .0, row-of _ _ _ (c .before .before .before .more .ensures) (c .before .before .if1 .taken))
+
+sub-left : tie.Need-sub-left Inv-loop μ-loop
+sub-left c = fuel-of _ _ _ (c .before .before .before .before .more .ensures) (c .before .before .before .if1 .taken)
+
+loop-less : tie.Need-loop-less Inv-loop μ-loop
+loop-less c = omega (arith, fuel-of _ _ _ (c .before .before .before .before .more .ensures) (c .before .before .before .if1 .taken))
+
+loop-again : tie.Need-loop-again Inv-loop μ-loop
+loop-again c = least-on _ _ _ (lockAt (c .before .before .before .before .before .before .before .before .args .c) (now (c .before .before .before .before .before .before .before .before .args .w))) (c .before .before .before .before .before .loop .inv) (c .before .before .before .before .more .ensures) (c .before .before .before .if1 .taken) (c .before .lower-owner .ensures) (c .before .before .lock-at .ensures) (c .next-lock .ensures)
+
+returns : tie.Need-returns Inv-loop μ-loop
+returns c = least-done _ _ _ (lockAt (c .before .before .before .before .before .args .c) (now (c .before .before .before .before .before .args .w))) (c .before .before .loop .inv) (c .before .more .ensures) (c .if1 .left)
+
+pub holder-spec : {M : Type 1} → statement M
+holder-spec =
+    tie.close
+    (tie.spec
+    Inv-loop
+    μ-loop
+    first-lock-requires
+    loop-holds
+    more-requires
+    lock-at-requires
+    lower-owner-requires
+    next-lock-requires
+    sub-left
+    loop-less
+    loop-again
+    returns)
