@@ -84,6 +84,19 @@ fn abort_obeys_the_flag() {
 }
 
 #[test]
+fn all_or_a_part() {
+    let mut words = fresh();
+    let w = &mut words[..];
+    let (holder, other) = (begin(w).unwrap(), begin(w).unwrap());
+    lock(w, holder, 0, p(4), p(9), Extent::All).unwrap();
+    assert_eq!(lock(w, other, 0, p(2), p(6), Extent::All), Err(Refusal::Held(holder)));
+    assert_eq!(lock(w, other, 0, p(2), p(6), Extent::Part), Ok(Locked { first: p(2), last: p(3) }));
+    assert_eq!(read(w, other, 0, p(6), Extent::All), Err(Refusal::Held(holder)));
+    let part = Read::New { tr: p(0), end: p(3), value: Value::Never };
+    assert_eq!(read(w, other, 0, p(6), Extent::Part), Ok(part));
+}
+
+#[test]
 fn never_written_is_not_zero() {
     let mut words = fresh();
     let w = &mut words[..];
