@@ -1,0 +1,27 @@
+//! One call, timed many times from the same words; the median, without the time that the clock itself takes.
+
+use std::hint::black_box;
+use std::time::Instant;
+
+fn median(mut times: Vec<u128>) -> u128 {
+    times.sort_unstable();
+    times[times.len() / 2]
+}
+
+/// Nanoseconds of `call` on a copy of `before`. The copy is made anew, and is not timed. `call` says whether it did
+/// what is to be timed.
+pub fn nanoseconds(runs: usize, before: &[u64], call: impl Fn(&mut [u64]) -> bool) -> f64 {
+    let mut words = before.to_vec();
+    let mut clock = Vec::with_capacity(runs);
+    let mut times = Vec::with_capacity(runs);
+    for _ in 0..runs {
+        words.copy_from_slice(before);
+        let start = Instant::now();
+        clock.push(start.elapsed().as_nanos());
+        let start = Instant::now();
+        let done = call(black_box(&mut words));
+        times.push(start.elapsed().as_nanos());
+        assert!(done, "the call timed had another reply");
+    }
+    median(times).saturating_sub(median(clock)) as f64
+}
