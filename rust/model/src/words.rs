@@ -217,3 +217,26 @@ pub fn ordered(mut store: Store) -> Store {
     }
     store
 }
+
+/// The words that Format writes: the counts, free chains in rising order, and zero elsewhere. For counts in range.
+pub fn fresh(counts: &Counts) -> Vec<u64> {
+    let Counts {
+        records,
+        edits,
+        versions,
+        locks,
+        accesses,
+    } = *counts;
+    let mut words = vec![records, edits, versions, locks, accesses, 1, 1, 1];
+    words.resize(
+        HEADER + RECORD * records as usize + EDIT * edits as usize,
+        0,
+    );
+    for (count, width) in [(versions, VERSION), (locks, LOCK), (accesses, ACCESS)] {
+        for row in 1..=count {
+            words.resize(words.len() + width - 1, 0);
+            words.push(if row < count { row + 1 } else { 0 });
+        }
+    }
+    words
+}
