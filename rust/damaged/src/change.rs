@@ -20,6 +20,10 @@ pub enum Kind {
     PointRead,
     Mark,
     Value,
+    /// Three words: the first row of a chain goes to another chain.
+    Moved,
+    /// Three words: a floor becomes 0, and a lock of the record the settled write lock that its version then needs.
+    Lowered,
 }
 
 /// How often each kind is taken: points and owners more, as most of the clauses are about them.
@@ -46,7 +50,7 @@ const KINDS: [Kind; 20] = [
     Kind::Value,
 ];
 
-pub const ALL: [Kind; 14] = [
+pub const ALL: [Kind; 16] = [
     Kind::Count,
     Kind::Head,
     Kind::Link,
@@ -61,6 +65,8 @@ pub const ALL: [Kind; 14] = [
     Kind::PointRead,
     Kind::Mark,
     Kind::Value,
+    Kind::Moved,
+    Kind::Lowered,
 ];
 
 /// A changed word.
@@ -167,6 +173,7 @@ impl Tables {
                 0 => self.accesses.word(3, random),
                 word => self.versions.word(word as usize, random),
             },
+            Kind::Moved | Kind::Lowered => unreachable!("changes of three words have no one place"),
         }
     }
 
@@ -199,5 +206,44 @@ impl Tables {
             words[at] = self.word(words, kind, at, random);
         }
         Change { kind, at, word: words[at] }
+    }
+
+    /// A head of a table's chains: the free one, or one of a record or an edit.
+    fn head(&self, table: usize, random: &mut Random) -> usize {
+        match table {
+            _ if random.percent(40) => 5 + table,
+            2 => self.edits.word(2, random),
+            word => self.records.word(word, random),
+        }
+    }
+
+    /// Moves the first row of a chain to the front of another. `None` if the chains met are empty or the same.
+    pub fn moved(&self, words: &mut [u64], random: &mut Random) -> Option<Change> {
+        let table = random.from(0, 2) as usize;
+        let rows = [&self.versions, &self.locks, &self.accesses][table];
+        let (from, to) = (self.head(table, random), self.head(table, random));
+        let row = words[from];
+        if from == to || row == 0 {
+            return None;
+        }
+        let link = rows.start + row as usize * rows.width - 1;
+        words[from] = words[link];
+        words[link] = words[to];
+        words[to] = row;
+        Some(Change { kind: Kind::Moved, at: from, word: words[from] })
+    }
+
+    /// Lowers a floor to 0. `None` if the record met has floor 0 or no lock.
+    pub fn lowered(&self, words: &mut [u64], random: &mut Random) -> Option<Change> {
+        let at = self.records.word(2, random);
+        let (floor, lock) = (words[at], words[at - 1]);
+        if floor == 0 || lock == 0 {
+            return None;
+        }
+        let lock = self.locks.start + (lock as usize - 1) * self.locks.width;
+        words[at] = 0;
+        words[lock] = floor;
+        words[lock + 2] = 2;
+        Some(Change { kind: Kind::Lowered, at, word: 0 })
     }
 }

@@ -10,7 +10,7 @@ pub struct Counted {
     pub stores: u64,
     /// By how many words are changed: not sound, sound.
     by_changes: BTreeMap<usize, [u64; 2]>,
-    /// Stores with just one changed word, by its kind: not sound, sound.
+    /// Stores with just one change, by its kind: not sound, sound.
     by_kind: BTreeMap<Kind, [u64; 2]>,
     /// By the letter of the call and its reply.
     replies: BTreeMap<String, u64>,
@@ -32,9 +32,9 @@ fn letter(call: Call) -> char {
 }
 
 impl Counted {
-    pub fn store(&mut self, changes: &[Change], sound: bool) {
+    pub fn store(&mut self, changed: usize, changes: &[Change], sound: bool) {
         self.stores += 1;
-        self.by_changes.entry(changes.len()).or_default()[usize::from(sound)] += 1;
+        self.by_changes.entry(changed).or_default()[usize::from(sound)] += 1;
         if let [change] = changes {
             self.by_kind.entry(change.kind).or_default()[usize::from(sound)] += 1;
         }
@@ -56,7 +56,7 @@ impl Counted {
             println!("{:>9}  with {changes} words changed, {sound} of them sound", not + sound);
         }
         for (kind, [not, sound]) in &self.by_kind {
-            println!("{:>9}  with one word changed, {kind:?}, {sound} of them sound", not + sound);
+            println!("{:>9}  with one change, {kind:?}, {sound} of them sound", not + sound);
         }
         for (kind, count) in &self.replies {
             println!("{count:>9}  {kind}");

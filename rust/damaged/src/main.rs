@@ -55,14 +55,30 @@ fn step(words: &mut Vec<u64>, session: &mut Session, call: Call) -> Result<(), S
     Ok(())
 }
 
+/// Changes 0 to 3 words: each by itself, or three that belong together.
+fn change(words: &mut [u64], random: &mut Random) -> Vec<Change> {
+    let tables = Tables::new(words);
+    let many = random.from(0, 3);
+    if many == 3 && random.percent(50) {
+        let together = match random.from(0, 1) {
+            0 => tables.moved(words, random),
+            _ => tables.lowered(words, random),
+        };
+        if let Some(change) = together {
+            return vec![change];
+        }
+    }
+    (0..many).map(|_| tables.change(words, random)).collect()
+}
+
 /// One damaged copy: how many words are changed, which, and what the next calls do with it.
 fn copy(words: &[u64], calls: &[Call], random: &mut Random, counted: &mut Counted) -> Result<(), (Vec<u64>, String)> {
+    let undamaged = words;
     let mut words = words.to_vec();
-    let tables = Tables::new(&words);
-    let many = random.from(0, 3);
-    let changes: Vec<Change> = (0..many).map(|_| tables.change(&mut words, random)).collect();
+    let changes = change(&mut words, random);
     let sound = decode(&words).is_some();
-    counted.store(&changes, sound);
+    let changed = undamaged.iter().zip(&words).filter(|(old, new)| old != new).count();
+    counted.store(changed, &changes, sound);
     for i in 0..CALLS {
         let before = words.clone();
         let call = call_at(calls, i);

@@ -5,7 +5,7 @@ use crate::generate::{self, Random};
 use crate::record::Mode;
 use crate::script::Session;
 use crate::store::{Counts, State, Store, LAST};
-use crate::words::{decode, decode_whole, ordered, sound};
+use crate::words::{self, decode, decode_whole, ordered, sound};
 
 const COUNTS: Counts = Counts {
     records: 2,
@@ -157,6 +157,7 @@ fn lay_out(store: &Store, choose: &mut dyn FnMut(u64) -> u64) -> Vec<u64> {
 fn the_layout_is_document_01s() {
     let store = Store::format(COUNTS).expect("a store");
     assert_eq!(lay_out(&store, &mut |_| 0), fresh());
+    assert_eq!(words::fresh(&COUNTS), fresh());
 }
 
 /// Every store of the random scripts is sound in any layout, and means itself.
