@@ -24,6 +24,8 @@ pub enum Kind {
     Moved,
     /// Three words: a floor becomes 0, and a lock of the record the settled write lock that its version then needs.
     Lowered,
+    /// Two words: a floor and the version on it get another point.
+    Shifted,
 }
 
 /// How often each kind is taken: points and owners more, as most of the clauses are about them.
@@ -50,7 +52,7 @@ const KINDS: [Kind; 20] = [
     Kind::Value,
 ];
 
-pub const ALL: [Kind; 16] = [
+pub const ALL: [Kind; 17] = [
     Kind::Count,
     Kind::Head,
     Kind::Link,
@@ -67,6 +69,7 @@ pub const ALL: [Kind; 16] = [
     Kind::Value,
     Kind::Moved,
     Kind::Lowered,
+    Kind::Shifted,
 ];
 
 /// A changed word.
@@ -173,7 +176,7 @@ impl Tables {
                 0 => self.accesses.word(3, random),
                 word => self.versions.word(word as usize, random),
             },
-            Kind::Moved | Kind::Lowered => unreachable!("changes of three words have no one place"),
+            Kind::Moved | Kind::Lowered | Kind::Shifted => unreachable!("changes of several words have no one place"),
         }
     }
 
@@ -245,5 +248,23 @@ impl Tables {
         words[lock] = floor;
         words[lock + 2] = 2;
         Some(Change { kind: Kind::Lowered, at, word: 0 })
+    }
+
+    /// Shifts a floor with its version, the last of its chain. `None` if the record met has floor 0.
+    pub fn shifted(&self, words: &mut [u64], random: &mut Random) -> Option<Change> {
+        let at = self.records.word(2, random);
+        let floor = words[at];
+        if floor == 0 {
+            return None;
+        }
+        let point = |row: u64| self.versions.start + (row as usize - 1) * self.versions.width;
+        let mut row = words[at - 2];
+        while words[point(row) + 3] != 0 {
+            row = words[point(row) + 3];
+        }
+        let word = random.pick(&[floor - 1, floor + 1, LAST, LAST + 1, u64::MAX]);
+        words[at] = word;
+        words[point(row)] = word;
+        Some(Change { kind: Kind::Shifted, at, word })
     }
 }

@@ -55,14 +55,15 @@ fn step(words: &mut Vec<u64>, session: &mut Session, call: Call) -> Result<(), S
     Ok(())
 }
 
-/// Changes 0 to 3 words: each by itself, or three that belong together.
+/// Changes 0 to 3 words: each by itself, or two or three that belong together.
 fn change(words: &mut [u64], random: &mut Random) -> Vec<Change> {
     let tables = Tables::new(words);
     let many = random.from(0, 3);
     if many == 3 && random.percent(50) {
-        let together = match random.from(0, 1) {
+        let together = match random.from(0, 2) {
             0 => tables.moved(words, random),
-            _ => tables.lowered(words, random),
+            1 => tables.lowered(words, random),
+            _ => tables.shifted(words, random),
         };
         if let Some(change) = together {
             return vec![change];

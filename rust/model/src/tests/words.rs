@@ -215,8 +215,7 @@ fn any_fresh([r, e, v, l, a]: [u64; 5]) -> Vec<u64> {
 }
 
 #[test]
-fn damaged_chains() {
-    let many = u64::MAX;
+fn damaged_version_chains() {
     judge(
         &[
             ("free versions in a circle", &[(version(6, 3), 5)]),
@@ -228,7 +227,7 @@ fn damaged_chains() {
             ("a version link just past the table", &[(version(6, 3), 7)]),
             (
                 "a version link far past the table",
-                &[(version(6, 3), many)],
+                &[(version(6, 3), u64::MAX)],
             ),
             ("a free version on no chain", &[(version(5, 3), 0)]),
             ("no free version, two rows on no chain", &[(5, 0)]),
@@ -244,17 +243,38 @@ fn damaged_chains() {
                 &[(record(1, 0), 4)],
             ),
             ("a first version past the table", &[(record(1, 0), 1 << 32)]),
+        ],
+        false,
+    );
+}
+
+#[test]
+fn damaged_lock_chains() {
+    judge(
+        &[
             ("free locks in a circle", &[(lock(10, 4), 9)]),
             ("a lock link just past the table", &[(lock(10, 4), 11)]),
-            ("a lock link far past the table", &[(lock(10, 4), many)]),
+            ("a lock link far past the table", &[(lock(10, 4), u64::MAX)]),
             ("a free lock on no chain", &[(lock(9, 4), 0)]),
             ("a first free lock that a record has", &[(6, 8)]),
             ("a record's lock on no chain", &[(lock(1, 4), 0)]),
             ("the locks of a record in a circle", &[(lock(5, 4), 3)]),
             ("a first lock past the table", &[(record(0, 1), 11)]),
+        ],
+        false,
+    );
+}
+
+#[test]
+fn damaged_access_chains() {
+    judge(
+        &[
             ("free accesses in a circle", &[(access(7, 4), 6)]),
             ("an access link just past the table", &[(access(7, 4), 8)]),
-            ("an access link far past the table", &[(access(7, 4), many)]),
+            (
+                "an access link far past the table",
+                &[(access(7, 4), u64::MAX)],
+            ),
             ("a free access on no chain", &[(access(6, 4), 0)]),
             ("an access on the chains of two edits", &[(slot(3, 2), 3)]),
             ("an edit's access on no chain", &[(access(1, 4), 0)]),
@@ -429,6 +449,10 @@ fn changed_and_sound() {
         ],
         true,
     );
+}
+
+#[test]
+fn words_that_no_clause_judges() {
     let (store, mut words) = damage_base();
     words[version(1, 2)] = 4;
     words[access(1, 3)] = 5;
