@@ -26,6 +26,8 @@ pub enum Kind {
     Lowered,
     /// Two words: a floor and the version on it get another point.
     Shifted,
+    /// Two words: a point read and the low end of its read lock shift together.
+    ReadShifted,
 }
 
 /// How often each kind is taken: points and owners more, as most of the clauses are about them.
@@ -52,7 +54,7 @@ const KINDS: [Kind; 20] = [
     Kind::Value,
 ];
 
-pub const ALL: [Kind; 17] = [
+pub const ALL: [Kind; 18] = [
     Kind::Count,
     Kind::Head,
     Kind::Link,
@@ -70,6 +72,7 @@ pub const ALL: [Kind; 17] = [
     Kind::Moved,
     Kind::Lowered,
     Kind::Shifted,
+    Kind::ReadShifted,
 ];
 
 /// A changed word.
@@ -101,6 +104,11 @@ impl Rows {
             }
         }
         Rows { start, width, count: count as usize, used }
+    }
+
+    /// Where a row begins; rows count from 1.
+    fn at(&self, row: u64) -> usize {
+        self.start + (row as usize - 1) * self.width
     }
 
     /// A word of some row, mostly of one in use.
@@ -176,7 +184,9 @@ impl Tables {
                 0 => self.accesses.word(3, random),
                 word => self.versions.word(word as usize, random),
             },
-            Kind::Moved | Kind::Lowered | Kind::Shifted => unreachable!("changes of several words have no one place"),
+            Kind::Moved | Kind::Lowered | Kind::Shifted | Kind::ReadShifted => {
+                unreachable!("changes of several words have no one place")
+            }
         }
     }
 
@@ -229,7 +239,7 @@ impl Tables {
         if from == to || row == 0 {
             return None;
         }
-        let link = rows.start + row as usize * rows.width - 1;
+        let link = rows.at(row) + rows.width - 1;
         words[from] = words[link];
         words[link] = words[to];
         words[to] = row;
@@ -243,7 +253,7 @@ impl Tables {
         if floor == 0 || lock == 0 {
             return None;
         }
-        let lock = self.locks.start + (lock as usize - 1) * self.locks.width;
+        let lock = self.locks.at(lock);
         words[at] = 0;
         words[lock] = floor;
         words[lock + 2] = 2;
@@ -257,14 +267,36 @@ impl Tables {
         if floor == 0 {
             return None;
         }
-        let point = |row: u64| self.versions.start + (row as usize - 1) * self.versions.width;
         let mut row = words[at - 2];
-        while words[point(row) + 3] != 0 {
-            row = words[point(row) + 3];
+        while words[self.versions.at(row) + 3] != 0 {
+            row = words[self.versions.at(row) + 3];
         }
         let word = random.pick(&[floor - 1, floor + 1, LAST, LAST + 1, u64::MAX]);
         words[at] = word;
-        words[point(row)] = word;
+        words[self.versions.at(row)] = word;
         Some(Change { kind: Kind::Shifted, at, word })
+    }
+
+    /// Shifts the point read of an edit's first access, with the read lock that starts just after it. `None` if the slot
+    /// met has no such access.
+    pub fn read_shifted(&self, words: &mut [u64], random: &mut Random) -> Option<Change> {
+        let slot = random.from(1, self.edits.count as u64);
+        let access = match words[self.edits.at(slot) + 2] {
+            0 => return None,
+            row => self.accesses.at(row),
+        };
+        let (record, after) = (words[access], words[access + 1]);
+        let mut row = words[self.records.at(record + 1) + 1];
+        while row != 0 {
+            let lock = self.locks.at(row);
+            if words[lock] == after && words[lock + 2] == 1 + 4 * slot {
+                let word = random.pick(&[after + 1, after - 1]);
+                words[access + 1] = word;
+                words[lock] = word;
+                return Some(Change { kind: Kind::ReadShifted, at: access + 1, word });
+            }
+            row = words[lock + 4];
+        }
+        None
     }
 }

@@ -60,10 +60,11 @@ fn change(words: &mut [u64], random: &mut Random) -> Vec<Change> {
     let tables = Tables::new(words);
     let many = random.from(0, 3);
     if many == 3 && random.percent(50) {
-        let together = match random.from(0, 2) {
+        let together = match random.from(0, 3) {
             0 => tables.moved(words, random),
             1 => tables.lowered(words, random),
-            _ => tables.shifted(words, random),
+            2 => tables.shifted(words, random),
+            _ => tables.read_shifted(words, random),
         };
         if let Some(change) = together {
             return vec![change];
