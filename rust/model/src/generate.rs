@@ -23,16 +23,16 @@ impl Random {
     }
 
     /// A number from low to high.
-    fn from(&mut self, low: u64, high: u64) -> u64 {
+    pub fn from(&mut self, low: u64, high: u64) -> u64 {
         low + self.next() % (high - low + 1)
     }
 
     /// True this many times in a hundred.
-    fn percent(&mut self, share: u64) -> bool {
+    pub fn percent(&mut self, share: u64) -> bool {
         self.next() % 100 < share
     }
 
-    fn pick<T: Copy>(&mut self, list: &[T]) -> T {
+    pub fn pick<T: Copy>(&mut self, list: &[T]) -> T {
         list[(self.next() % list.len() as u64) as usize]
     }
 }

@@ -6,17 +6,7 @@
 
 #![forbid(unsafe_code)]
 
-mod count;
-mod generate;
-mod record;
-mod reply;
-mod script;
-mod serial;
-mod sound;
-mod store;
-#[cfg(test)]
-mod tests;
-
+use model::{count, generate, script};
 use std::io::{self, Write};
 use std::process::ExitCode;
 

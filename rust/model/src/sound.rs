@@ -1,5 +1,5 @@
 //! "A store is sound when", each clause that speaks of the meaning.
-//! What the vectors cannot say wrongly (chains, written marks, modes) is left out.
+//! What the vectors cannot say wrongly (chains, written marks, modes) is left to `words`.
 
 use crate::record::{Lock, Mode, Record};
 use crate::store::{State, Store, LAST};

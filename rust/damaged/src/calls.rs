@@ -1,0 +1,127 @@
+//! A call of the model, done on lent words through the wrapper; its reply in the model's terms.
+
+use model::reply::{At, End, Refusal, Reply, Want};
+use model::script::Call;
+use zohetiwa as z;
+
+fn extent(want: Want) -> z::Extent {
+    match want {
+        Want::All => z::Extent::All,
+        Want::Part => z::Extent::Part,
+    }
+}
+
+fn finish(end: End) -> z::Finish {
+    match end {
+        End::Settle => z::Finish::Settle,
+        End::Keep => z::Finish::Keep,
+    }
+}
+
+fn pick(at: At) -> z::Pick {
+    match at {
+        At::Earliest => z::Pick::Earliest,
+        At::Latest => z::Pick::Latest,
+        At::Point(point) => z::Pick::Named(z::Point::of_word(point)),
+    }
+}
+
+fn value(value: z::Value) -> Option<u64> {
+    match value {
+        z::Value::Never => None,
+        z::Value::Written(bits) => Some(bits),
+    }
+}
+
+fn refusal(refusal: z::Refusal) -> Refusal {
+    match refusal {
+        z::Refusal::Unsound => Refusal::NotSound,
+        z::Refusal::NoEdit => Refusal::NoSuchEdit,
+        z::Refusal::EditEnded => Refusal::Ended,
+        z::Refusal::EditOpen => Refusal::StillOpen,
+        z::Refusal::NoRecord => Refusal::NoSuchRecord,
+        z::Refusal::BadPoint => Refusal::BadPoint,
+        z::Refusal::BelowFloor => Refusal::AtFloor,
+        z::Refusal::Held(holder) => Refusal::Held(holder.word()),
+        z::Refusal::Frozen => Refusal::Frozen,
+        z::Refusal::NoAccessRow => Refusal::NoAccessRow,
+        z::Refusal::NoLockRow => Refusal::NoLockRow,
+        z::Refusal::NoVersionRow => Refusal::NoVersionRow,
+        z::Refusal::NoSlot => Refusal::NoFreeSlot,
+        z::Refusal::NotCommon => Refusal::NotCommon,
+        z::Refusal::LockedBelow => Refusal::InUse,
+        z::Refusal::BadFormat => Refusal::BadFormat,
+    }
+}
+
+fn read(read: z::Read) -> Reply {
+    match read {
+        z::Read::New { tr, end, value: v } => Reply::Read(tr.word(), end.word(), value(v)),
+        z::Read::Own(bits) => Reply::Own(bits),
+        z::Read::Again { tr, value: v } => Reply::Again(tr.word(), value(v)),
+    }
+}
+
+fn commit(commit: z::Commit) -> Reply {
+    match commit {
+        z::Commit::At(point) => Reply::Commit(point.word()),
+        z::Commit::NoPoint => Reply::NoPoint,
+    }
+}
+
+/// Does a call on a store.
+pub fn call(words: &mut [u64], call: Call) -> Reply {
+    let edit = z::Handle::of_word;
+    let point = z::Point::of_word;
+    let answer = match call {
+        Call::Format(counts) => z::format(words, sizes(counts)).map(|()| Reply::Ok),
+        Call::Begin => z::begin(words).map(|handle| Reply::Edit(handle.word())),
+        Call::Write(handle, record, value) => z::write(words, edit(handle), record, value).map(|()| Reply::Ok),
+        Call::Lock(handle, record, low, high, want) => {
+            z::lock(words, edit(handle), record, point(low), point(high), extent(want))
+                .map(|locked| Reply::Locked(locked.first.word(), locked.last.word()))
+        }
+        Call::Read(handle, record, m, want) => z::read(words, edit(handle), record, point(m), extent(want)).map(read),
+        Call::Commit(handle, at, end) => z::commit(words, edit(handle), pick(at), finish(end)).map(commit),
+        Call::Abort(handle, end) => z::abort(words, edit(handle), finish(end)).map(|()| Reply::Ok),
+        Call::Settle(handle) => z::settle(words, edit(handle)).map(|()| Reply::Ok),
+        Call::Purge(record, b) => {
+            z::purge(words, record, point(b)).map(|purged| Reply::Purged(purged.versions, purged.locks))
+        }
+        Call::View(record, p) => {
+            z::view(words, record, point(p)).map(|shown| Reply::At(shown.point.word(), value(shown.value)))
+        }
+    };
+    answer.unwrap_or_else(|no| Reply::No(refusal(no)))
+}
+
+fn sizes(counts: model::store::Counts) -> z::Counts {
+    // A count that is no usize is out of range, as the greatest usize is.
+    let size = |count| usize::try_from(count).unwrap_or(usize::MAX);
+    z::Counts {
+        records: size(counts.records),
+        edits: size(counts.edits),
+        versions: size(counts.versions),
+        locks: size(counts.locks),
+        accesses: size(counts.accesses),
+    }
+}
+
+/// The words that a script's Format lays out, as the script program does: new ones of the right length where the counts
+/// are in range and not above 8,000 words, else the words as they are, which a refusal leaves alone.
+pub fn format(words: &mut Vec<u64>, format: Call) -> Reply {
+    let fits = |counts: &model::store::Counts| counts.in_range() && counts.words() <= 8_000;
+    match format {
+        Call::Format(counts) if fits(&counts) => {
+            // What the slice held before must not matter.
+            *words = vec![0xdead_beef_dead_beef; counts.words() as usize];
+            call(words, format)
+        }
+        _ => {
+            let before = words.clone();
+            let reply = call(words, format);
+            assert!(*words == before, "a refused Format changed words");
+            reply
+        }
+    }
+}

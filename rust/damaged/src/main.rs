@@ -1,0 +1,148 @@
+//! Damaged stores: stores made by random calls through the wrapper, with 0 to 3 words changed at random. A call is
+//! refused with 1 exactly if the model's `words::sound` says no; every other call gives the model's reply and leaves
+//! words that mean the model's store.
+//!
+//!     damaged STORES FILE     exits with 1 at the first difference, and keeps it in FILE with the words
+
+#![forbid(unsafe_code)]
+
+mod calls;
+mod change;
+mod compare;
+mod counts;
+
+use change::{Change, Tables};
+use counts::Counted;
+use model::generate::{script, Random};
+use model::script::{parse, Call, Session};
+use model::store::LAST;
+use model::words::{decode, fresh, ordered};
+use std::process::ExitCode;
+
+/// Lines of one random script.
+const LINES: usize = 100;
+/// Damaged copies of each store that the script makes.
+const COPIES: usize = 2;
+/// Calls on one damaged copy that is sound.
+const CALLS: usize = 4;
+
+/// The call at an index. A Format ends the store it is given, and past the end there is none: a View instead.
+fn call_at(calls: &[Call], index: usize) -> Call {
+    match calls.get(index) {
+        None | Some(Call::Format(_)) => Call::View(0, LAST),
+        Some(call) => *call,
+    }
+}
+
+/// One step of the undamaged store; the session has gone from its Format by the model alone.
+fn step(words: &mut Vec<u64>, session: &mut Session, call: Call) -> Result<(), String> {
+    let expected = session.call(call)?;
+    let reply = match call {
+        Call::Format(_) => calls::format(words, call),
+        _ => compare::call(words, call)?,
+    };
+    if reply != expected {
+        return Err(format!("{call:?} replied {reply:?}, in the model {expected:?}"));
+    }
+    if let (Call::Format(counts), model::reply::Reply::Ok) = (call, reply) {
+        if *words != fresh(&counts) {
+            return Err(format!("{call:?} wrote other words than document 01 says"));
+        }
+    }
+    if decode(words).map(ordered) != session.store.clone().map(ordered) {
+        return Err(format!("after {call:?} the words mean another store than the model's"));
+    }
+    Ok(())
+}
+
+/// Changes 0 to 3 words: each by itself, or two or three that belong together.
+fn change(words: &mut [u64], random: &mut Random) -> Vec<Change> {
+    let tables = Tables::new(words);
+    let many = random.from(0, 3);
+    if many == 3 && random.percent(50) {
+        let together = match random.from(0, 3) {
+            0 => tables.moved(words, random),
+            1 => tables.lowered(words, random),
+            2 => tables.shifted(words, random),
+            _ => tables.read_shifted(words, random),
+        };
+        if let Some(change) = together {
+            return vec![change];
+        }
+    }
+    (0..many).map(|_| tables.change(words, random)).collect()
+}
+
+/// One damaged copy: how many words are changed, which, and what the next calls do with it.
+fn copy(words: &[u64], calls: &[Call], random: &mut Random, counted: &mut Counted) -> Result<(), (Vec<u64>, String)> {
+    let undamaged = words;
+    let mut words = words.to_vec();
+    let changes = change(&mut words, random);
+    let sound = decode(&words).is_some();
+    let changed = undamaged.iter().zip(&words).filter(|(old, new)| old != new).count();
+    counted.store(changed, &changes, sound);
+    for i in 0..CALLS {
+        let before = words.clone();
+        let call = call_at(calls, i);
+        let reply = compare::call(&mut words, call).map_err(|e| (before, format!("{e}\nchanges {changes:?}")))?;
+        counted.reply(call, reply);
+        if !sound {
+            break;
+        }
+    }
+    Ok(())
+}
+
+/// The stores of one script, each with its damaged copies.
+fn one_script(seed: u64, stores: u64, counted: &mut Counted) -> Result<(), (Vec<u64>, String)> {
+    let calls: Vec<Call> = script(seed, LINES, true).iter().filter_map(|line| parse(line)).collect();
+    let mut random = Random::new(seed);
+    let mut session = Session::new(false);
+    let mut words = vec![];
+    for (i, &call) in calls.iter().enumerate() {
+        let before = words.clone();
+        step(&mut words, &mut session, call).map_err(|e| (before, e))?;
+        if session.store.is_none() {
+            continue;
+        }
+        for _ in 0..COPIES {
+            if counted.stores < stores {
+                copy(&words, &calls[i + 1..], &mut random, counted)?;
+            }
+        }
+    }
+    Ok(())
+}
+
+fn run(stores: u64, file: &str) -> Result<(), String> {
+    let mut counted = Counted::default();
+    for seed in 1.. {
+        if counted.stores >= stores {
+            break;
+        }
+        one_script(seed, stores, &mut counted).map_err(|(words, message)| {
+            let text = format!("seed {seed}: {message}\nwords before the call {words:?}\n");
+            match std::fs::write(file, &text) {
+                Ok(()) => format!("seed {seed}: {message}; the words are kept in {file}"),
+                Err(e) => format!("{text}{file}: {e}"),
+            }
+        })?;
+    }
+    counted.print();
+    counted.reached()
+}
+
+fn main() -> ExitCode {
+    let arguments: Vec<String> = std::env::args().skip(1).collect();
+    let result = match &arguments[..] {
+        [stores, file] => stores.parse().map_err(|e| format!("{stores}: {e}")).and_then(|n| run(n, file)),
+        _ => Err("usage: damaged STORES FILE".to_string()),
+    };
+    match result {
+        Ok(()) => ExitCode::SUCCESS,
+        Err(message) => {
+            eprintln!("damaged: {message}");
+            ExitCode::FAILURE
+        }
+    }
+}

@@ -1,0 +1,17 @@
+//! A model of the shared plan store, written from document 01 alone: the calls on a store kept in vectors (`store`),
+//! script lines (`script`), random scripts (`generate`), the plain run (`serial`), and the soundness and the meaning of
+//! lent words (`words`).
+
+#![forbid(unsafe_code)]
+
+pub mod count;
+pub mod generate;
+pub mod record;
+pub mod reply;
+pub mod script;
+pub mod serial;
+pub mod sound;
+pub mod store;
+#[cfg(test)]
+mod tests;
+pub mod words;
