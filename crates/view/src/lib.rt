@@ -16,6 +16,7 @@ pub struct Chart<'a> {
     good: bool,
 }
 
+// The check of soundness, as a function of this crate: the walks by hand of `open` and `at` cite functions of their own crate alone.
 fn check(words: &[u64]) -> bool
     ensures { λ r. ⌜ r ≡ soundWords (lent (now (words .entry))) ⌝ }
 {
