@@ -10,6 +10,7 @@ ghost use Rattle.meaning.specs.declared.Pick.the-variants.{Earliest, Latest};
 ghost use Rattle.format.specs.Format.{Formats};
 ghost use Rattle.store.specs.Answers.{Does, Shows};
 ghost use Rattle.codes.specs.Codes.{Answers, extentOf, finishOf, named, counts};
+ghost use Rattle.batch.specs.Runs.{Runs};
 use meaning::Counts;
 use meaning::Pick;
 
@@ -253,4 +254,17 @@ pub extern "C" fn zohetiwa_view(
 {
     let reply = store::view(words, rec, meaning::point_of_word(p));
     codes::view(reply, point, written, value)
+}
+
+// Many calls after one check of the words: how many were done. What the words of a call and of a reply say is in the
+// crate `batch`.
+#[no_mangle]
+pub extern "C" fn zohetiwa_batch(words: &mut [u64], calls: &[u64], replies: &mut [u64]) -> u64
+    ensures { λ n. ⌜
+        Runs (now (calls .entry))
+        (now (words .entry)) (now (words .exit))
+        (now (replies .entry)) (now (replies .exit)) n
+        ⌝ }
+{
+    batch::run(words, calls, replies) as u64
 }
