@@ -188,8 +188,8 @@ pub fn commit(r: CommitReply, point: &mut u64) -> u64
     ensures { λ n. ⌜ Tells (ofCommit r) n (now (point .entry) ∷ []) (now (point .exit) ∷ []) ⌝ }
 {
     match r {
-        CommitReply::Commit(p) => {
-            *point = meaning::word_of_point(p);
+        CommitReply::Commit(t) => {
+            *point = meaning::word_of_point(t);
             0
         }
         CommitReply::NoPoint => NOPOINT,
@@ -240,8 +240,8 @@ pub fn view(r: ViewReply, point: &mut u64, written: &mut u64, value: &mut u64) -
         ⌝ }
 {
     match r {
-        ViewReply::At(p, v) => {
-            *point = meaning::word_of_point(p);
+        ViewReply::At(at, v) => {
+            *point = meaning::word_of_point(at);
             *written = mark(v);
             *value = bits(v);
             0
