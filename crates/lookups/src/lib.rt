@@ -31,12 +31,16 @@ pub use lifting::earliest;
 pub use points::counts;
 pub use points::first_blocked;
 pub use points::first_free;
-pub use points::frozen;
-pub use points::holder;
 pub use sinking::latest;
 pub use versions::newest_at;
 pub use versions::newest_below;
 pub use versions::version_on;
+
+// What a search for a blocked point found: the point, and who blocks it: SETTLED if it is frozen, else the lowest slot.
+pub struct Blocked {
+    pub point: u64,
+    pub by: u64,
+}
 
 // The least point that an edit may commit at.
 const LOWEST: u64 = 1;
