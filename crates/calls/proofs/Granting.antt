@@ -1,12 +1,12 @@
 -- What is granted, from what the searches answered, and what a grant says of its test. Rests on specs/Grants and Spans
 -- of `meaning`.
-use Prim.Native.Nat.{ℕ, suc, _-_, _≤_, _<_}
+use Prim.Native.Nat.{ℕ, _-_, _≤_, _<_}
 use mathlib.Core.Path.{_≡_, refl, sym, ap, _∙_}
 use mathlib.Core.Logic.{_⊎_, inl, inr}
 use mathlib.Core.Bool.{Bool, true, false, cond}
 use mathlib.Core.List.{List}
 use native.Mathlib.Omega.{arith}
-use lib.Dec.{leb, ltb}
+use lib.Dec.{ltb}
 use borrow.Author.Tests.{ltb-true, ltb-false, leb-false, lt-ltb, le-ltb, le-leb, lt-leb}
 use Rattle.meaning.specs.Limits.{READ, WRITE}
 use Rattle.meaning.specs.Store.{Rec, Store, recAt}
@@ -21,7 +21,6 @@ use Rattle.tables.specs.Decode.{recordAt, decodeAt}
 use Rattle.tables.proofs.Decoded.{rec-at}
 use Rattle.lookups.specs.declared.Blocked.{Blocked}
 use Rattle.lookups.specs.Search.{counts, counted, firstJudged}
-use Rattle.calls.specs.declared.Grant.{Grant}
 use Rattle.calls.specs.declared.Grant.the-variants.{Taken, Judged}
 use Rattle.calls.specs.Grants.{lockGrant, readGrant}
 

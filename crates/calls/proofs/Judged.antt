@@ -1,14 +1,14 @@
 -- How a blocked point is refused, from the judgement that the search answered. Rests on Judged of `lookups`.
-use Prim.Native.Nat.{ℕ, _≤_, _<_}
-use mathlib.Core.Path.{_≡_, refl, sym, ap, _∙_}
+use Prim.Native.Nat.{ℕ, _≤_}
+use mathlib.Core.Path.{_≡_, refl, ap, _∙_}
 use mathlib.Core.Logic.{_⊎_, inl, inr}
 use mathlib.Core.Bool.{Bool, true, false, cond}
-use mathlib.Core.List.{List, [], _∷_, map}
+use mathlib.Core.List.{[], _∷_, map}
 use native.Mathlib.Omega.{arith}
 use native.Mathlib.Nat.{le-refl}
 use lib.Dec.{leb}
 use borrow.Author.Tests.{le-leb, eq-eqb, ne-eqb}
-use Rattle.meaning.specs.Lists.{least, keep}
+use Rattle.meaning.specs.Lists.{keep}
 use Rattle.meaning.specs.Limits.{SLOTS, SETTLED}
 use Rattle.meaning.specs.Store.{Store, recAt}
 use Rattle.meaning.specs.Points.{covers, blockers, firstBlocked, frozen, holder}

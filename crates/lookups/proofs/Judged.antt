@@ -3,7 +3,7 @@
 use Prim.Native.Nat.{ℕ, suc, _≤_, _<_, max}
 use mathlib.Core.Path.{_≡_, refl, sym, ap, _∙_}
 use mathlib.Core.Logic.{_⊎_, inl, inr}
-use mathlib.Core.Bool.{Bool, true, false, cond, _&&_}
+use mathlib.Core.Bool.{Bool, true, false, cond}
 use mathlib.Core.List.{List, [], _∷_, map, List·Memᴰ·head, List·Memᴰ·tail, Memᴰ·map, Memᴰ·of-map}
 use native.Mathlib.Omega.{arith}
 use lib.Dec.{leb, eqb}
@@ -11,7 +11,7 @@ use borrow.Author.Tests.{le-leb, lt-leb, eqb-true, eq-eqb}
 use Rattle.meaning.specs.Limits.{SLOTS, SETTLED}
 use Rattle.meaning.specs.Lists.{_∈_, any, keep, least}
 use Rattle.meaning.specs.Points.{covers, meets, blocks, blockers, firstCovered, firstBlocked, frozen, holder}
-use Rattle.meaning.specs.Pointwise.{Proper, SettledOn, VersionOn, Frozen}
+use Rattle.meaning.specs.Pointwise.{Proper, SettledOn, Frozen}
 use Rattle.meaning.specs.Store.{Rec, Store, recAt}
 use Rattle.meaning.specs.declared.Lock.{Lock}
 use Rattle.meaning.specs.declared.Counts.{Counts}

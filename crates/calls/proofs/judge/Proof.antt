@@ -1,7 +1,6 @@
 -- `calls::judge` meets its contract: a frozen point, or one held by a slot. Rests on Judged.
 use Rattle.calls.proofs.Acting.{generation-fits}
 use Rattle.calls.proofs.Judged.{refused-frozen, refused-held}
-use borrow.Author.Needs.{needs}
 use Rattle.calls.proofs.judge.Statement.{statement}
 use Rattle.calls.proofs.judge.Tie as tie
 

@@ -4,7 +4,6 @@ use denote.Ref.{now}
 use native.Mathlib.Omega.{arith}
 use Rattle.meaning.proofs.JudgeLocking.{proper}
 use Rattle.calls.proofs.Granting.{later-judged, later-taken, later-above}
-use borrow.Author.Needs.{needs}
 use Rattle.calls.proofs.later_grant.Statement.{statement}
 use Rattle.calls.proofs.later_grant.Tie as tie
 
