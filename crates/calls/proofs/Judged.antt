@@ -1,31 +1,68 @@
--- How a blocked point is judged, from what the searches answered. Rests on Acting.
-use Prim.Native.Nat.{ℕ, _≤_, _<_}
-use mathlib.Core.Path.{_≡_, sym, ap, _∙_}
-use mathlib.Core.Bool.{Bool, true, false}
-use mathlib.Core.List.{List, [], _∷_, map}
-use Rattle.meaning.specs.Lists.{least, keep}
-use Rattle.meaning.specs.Limits.{SLOTS}
-use Rattle.meaning.specs.Store.{Rec, recAt}
-use Rattle.meaning.specs.Points.{covers, blockers, frozen, holder}
+-- How a blocked point is refused, from the judgement that the search answered. Rests on Judged of `lookups`.
+use Prim.Native.Nat.{ℕ, _≤_}
+use mathlib.Core.Path.{_≡_, refl, ap, _∙_}
+use mathlib.Core.Logic.{_⊎_, inl, inr}
+use mathlib.Core.Bool.{Bool, true, false, cond}
+use mathlib.Core.List.{[], _∷_, map}
+use native.Mathlib.Omega.{arith}
+use native.Mathlib.Nat.{le-refl}
+use lib.Dec.{leb}
+use borrow.Author.Tests.{le-leb, eq-eqb, ne-eqb}
+use Rattle.meaning.specs.Lists.{keep}
+use Rattle.meaning.specs.Limits.{SLOTS, SETTLED}
+use Rattle.meaning.specs.Store.{Store, recAt}
+use Rattle.meaning.specs.Points.{covers, blockers, firstBlocked, frozen, holder}
 use Rattle.meaning.specs.Outcomes.{refuse, handleAt, judge}
-use Rattle.meaning.specs.declared.Counts.{Counts}
 use Rattle.meaning.specs.declared.Lock.{Lock}
-use Rattle.meaning.proofs.Lists.{least-default}
-use Rattle.tables.specs.Decode.{recordAt, decodeAt}
-use Rattle.tables.proofs.Decoded.{rec-at}
+use Rattle.meaning.proofs.Lists.{test, least-default}
+use Rattle.lookups.specs.declared.Blocked.{Blocked}
+use Rattle.lookups.specs.Search.{blockedBy, firstJudged}
+use Rattle.lookups.proofs.Judged.{not-settled}
+use Rattle.calls.specs.Grants.{refusalBy}
 
-pub holder-small : (mode k : ℕ) (x : Rec) (p o : ℕ) → o ≡ holder mode k x p → o ≤ SLOTS
-unfolding holder
-holder-small mode k x p o e = rw e (least-default SLOTS (map (λ (l : Lock). l .owner) (keep (covers p) (blockers mode k x))))
+-- the two refusals, as the code gives them
+module _ (s : Store) (o : ℕ) where
+  pub refused-frozen : o ≡ SETTLED → refuse 9 [] ≡ refusalBy s o
+  unfolding refusalBy
+  refused-frozen e = rw (eq-eqb o SETTLED e) refl
 
-module _ (c : Counts) (w : List ℕ) (r mode k p : ℕ) where
-  pub judged-frozen : frozen (decodeAt c w) r mode p ≡ true → refuse 9 [] ≡ judge (decodeAt c w) r mode k p
-  unfolding judge
-  judged-frozen e = rw e
+  pub refused-held : (h : ℕ) → (o ≡ SETTLED → ⊥) → h ≡ handleAt s o → refuse 8 (h ∷ []) ≡ refusalBy s o
+  unfolding refusalBy
+  refused-held h n e = rw (ne-eqb o SETTLED n) (ap (λ (x : ℕ). refuse 8 (x ∷ [])) e)
 
-  pub judged-held : (o h : ℕ) → r < c .records → frozen (decodeAt c w) r mode p ≡ false → o ≡ holder mode k (recordAt c w r) p
-      → h ≡ handleAt (decodeAt c w) o → refuse 8 (h ∷ []) ≡ judge (decodeAt c w) r mode k p
-  unfolding judge
-  judged-held o h l e f g =
-      let o′ : o ≡ holder mode k (recAt (decodeAt c w) r) p = f ∙ ap (λ (x : Rec). holder mode k x p) (sym (rec-at c w r l)) in
-      rw e (ap (λ (n : ℕ). refuse 8 (n ∷ [])) (g ∙ ap (handleAt (decodeAt c w)) o′))
+-- who blocks is SETTLED or a slot
+module _ (s : Store) (r mode k : ℕ) where
+  holder-small : (p : ℕ) → holder mode k (recAt s r) p ≤ SLOTS
+  unfolding holder
+  holder-small p = least-default SLOTS (map (λ (l : Lock). l .owner) (keep (covers p) (blockers mode k (recAt s r))))
+
+  either-small : (a b : Bool) (h : ℕ) → h ≤ SLOTS → cond a (cond b SETTLED h) SLOTS ≤ SLOTS
+  either-small true true h l = omega arith
+  either-small true false h l = l
+  either-small false b h l = le-refl SLOTS
+
+  pub by-small : (low high : ℕ) (b : Blocked) → b ≡ firstJudged s r mode k low high → b .by ≤ SLOTS
+  unfolding firstJudged blockedBy
+  by-small low high b e =
+      let p : ℕ = firstBlocked mode k (recAt s r) low high in
+      rw e (either-small (leb p high) (frozen s r mode p) (holder mode k (recAt s r) p) (holder-small p))
+
+  -- the refusal is that of the point judged
+  refusal-at : (p : ℕ) → refusalBy s (blockedBy s r mode k p) ≡ judge s r mode k p
+  unfolding refusalBy blockedBy judge
+  refusal-at p = go (test (frozen s r mode p))
+    where
+      go : (frozen s r mode p ≡ true) ⊎ (frozen s r mode p ≡ false)
+          → refusalBy s (blockedBy s r mode k p) ≡ judge s r mode k p
+      go (inl e) = rw e refl
+      go (inr e) = rw (e, ne-eqb (holder mode k (recAt s r) p) SETTLED (not-settled s r mode k p e)) refl
+
+  pub refusal-is : (low high : ℕ) (b : Blocked) → b ≡ firstJudged s r mode k low high
+      → firstBlocked mode k (recAt s r) low high ≤ high
+      → refusalBy s (b .by) ≡ judge s r mode k (firstBlocked mode k (recAt s r) low high)
+  unfolding firstJudged
+  refusal-is low high b e l =
+      let p : ℕ = firstBlocked mode k (recAt s r) low high in
+      ap (λ (y : Blocked). refusalBy s (y .by)) e
+      ∙ ap (λ (t : Bool). refusalBy s (cond t (blockedBy s r mode k p) SLOTS)) (le-leb p high l)
+      ∙ refusal-at p

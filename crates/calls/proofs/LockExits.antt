@@ -1,20 +1,23 @@
 -- The ways that Lock ends, one law for each return of the code. Rests on Verdicts and Granting.
-use Prim.Native.Nat.{ℕ}
+use Prim.Native.Nat.{ℕ, _≤_}
 use mathlib.Core.Path.{_≡_, sym, ap, _∙_}
 use mathlib.Core.Bool.{Bool, true, false, _&&_}
 use mathlib.Core.List.{List, []}
 use lib.Dec.{leb, ltb}
-use Rattle.meaning.specs.Limits.{LAST, WRITE}
+use Rattle.meaning.specs.Limits.{LAST, WRITE, SLOTS}
 use Rattle.meaning.specs.Store.{Store, slotOf, recAt}
 use Rattle.meaning.specs.Points.{firstBlocked}
 use Rattle.meaning.specs.Replies.{locked, refusing}
 use Rattle.meaning.specs.Outcomes.{Outcome, replies, Verdict, pass, refuse, needs, unless, knows, isOpen, hasRecord, judge, lockRoom}
 use Rattle.meaning.specs.Locking.{lockFrom, lockEnd, lockGranted, withLock, lockVerdict, lockChecks, lockWanted, locking}
 use Rattle.meaning.specs.declared.Extent.{Extent}
-use Rattle.calls.specs.declared.Grant.the-variants.{Taken, Blocked}
-use Rattle.calls.specs.Grants.{lockGrant}
+use Rattle.lookups.specs.declared.Blocked.{Blocked}
+use Rattle.lookups.specs.Search.{firstJudged}
+use Rattle.calls.specs.declared.Grant.the-variants.{Taken, Judged}
+use Rattle.calls.specs.Grants.{lockGrant, refusalBy}
 use Rattle.calls.proofs.Verdicts.{needs-fails, needs-holds, else-fails, else-holds, no-edit, edit-ended, edit-open}
-use Rattle.calls.proofs.Granting.{grant-blocked, grant-taken}
+use Rattle.calls.proofs.Granting.{grant-judged, grant-taken, lock-refused}
+use Rattle.calls.proofs.Judged.{by-small, refusal-is}
 
 module _ (s : Store) (h r low high : ℕ) (w : Extent) where
   abbrev lock-order : Bool
@@ -72,18 +75,30 @@ module _ (s : Store) (k r low high : ℕ) (w : Extent) where
   abbrev lock-made : Outcome
   lock-made = replies (withLock s r WRITE k lock-from lock-end) (locked lock-from lock-end)
 
-  pub lock-blocked : (p n : ℕ) (more : List ℕ) → Blocked p ≡ lockGrant w k (recAt s r) low high → refuse n more ≡ judge s r WRITE k p
-      → lockWanted s k r low high w ≡ replies s (refusing n more)
-  unfolding lockGrant lockWanted lockVerdict
-  lock-blocked p n more e f =
-      let g = grant-blocked lock-granted lock-from lock-end lock-first p (sym e) in
-      else-fails s lock-made lock-granted n more (judge s r WRITE k lock-first) (needs (lockRoom s) 11 pass) (g .0) (f ∙ ap (judge s r WRITE k) (sym (g .1)))
+  abbrev lock-judged : Blocked
+  lock-judged = firstJudged s r WRITE k low high
 
-  module _ (from end : ℕ) (e : Taken from end ≡ lockGrant w k (recAt s r) low high) where
+  module _ (b : Blocked) (e : Judged b ≡ lockGrant w s k r low high) where
+    judged : (lock-granted ≡ false) × (lock-judged ≡ b)
+    unfolding lockGrant
+    judged = grant-judged lock-granted lock-from lock-end lock-judged b (sym e)
+
+    pub lock-by-small : b .by ≤ SLOTS
+    lock-by-small = by-small s r WRITE k low high b (sym (judged .1))
+
+    pub lock-blocked : (n : ℕ) (more : List ℕ) → low ≤ high → refuse n more ≡ refusalBy s (b .by)
+        → lockWanted s k r low high w ≡ replies s (refusing n more)
+    unfolding lockWanted lockVerdict
+    lock-blocked n more order f =
+        let i = lock-refused w k (recAt s r) low high order (judged .0) in
+        else-fails s lock-made lock-granted n more (judge s r WRITE k lock-first) (needs (lockRoom s) 11 pass)
+        (judged .0) (f ∙ refusal-is s r WRITE k low high b (sym (judged .1)) i)
+
+  module _ (from end : ℕ) (e : Taken from end ≡ lockGrant w s k r low high) where
     lock-taken : lockWanted s k r low high w ≡ unless s (needs (lockRoom s) 11 pass) (replies (withLock s r WRITE k from end) (locked from end))
     unfolding lockGrant lockWanted lockVerdict
     lock-taken =
-        let g = grant-taken lock-granted lock-from lock-end lock-first from end (sym e) in
+        let g = grant-taken lock-granted lock-from lock-end lock-judged from end (sym e) in
         else-holds s lock-made lock-granted (judge s r WRITE k lock-first) (needs (lockRoom s) 11 pass) (g .0)
         ∙ ap (λ (x : ℕ). unless s (needs (lockRoom s) 11 pass) (replies (withLock s r WRITE k x lock-end) (locked x lock-end))) (g .1)
         ∙ ap (λ (x : ℕ). unless s (needs (lockRoom s) 11 pass) (replies (withLock s r WRITE k from x) (locked from x))) (g .2)

@@ -7,11 +7,11 @@ use native.Mathlib.Omega.{arith}
 use lib.Dec.{leb, ltb}
 use borrow.Author.Tests.{ltb-true, lt-ltb, le-ltb, le-leb, lt-leb}
 use Rattle.chains.specs.Walk.{IsRow}
-use Rattle.meaning.specs.Limits.{LAST, WRITE}
+use Rattle.meaning.specs.Limits.{LAST, WRITE, SLOTS}
 use Rattle.meaning.specs.Store.{Rec, Store, slotOf, recAt}
 use Rattle.meaning.specs.Points.{addLock}
 use Rattle.meaning.specs.Replies.{Reply, locked, refusing}
-use Rattle.meaning.specs.Outcomes.{Outcome, refuse, knows, isOpen, hasRecord, judge, lockRoom}
+use Rattle.meaning.specs.Outcomes.{Outcome, refuse, knows, isOpen, hasRecord, lockRoom}
 use Rattle.meaning.specs.Locking.{withLock, lockWanted, locking}
 use Rattle.meaning.specs.declared.Counts.{Counts}
 use Rattle.meaning.specs.declared.Extent.{Extent}
@@ -22,25 +22,31 @@ use Rattle.tables.specs.Decode.{recordAt, decodeAt}
 use Rattle.tables.specs.Words.{lent, soundWords}
 use Rattle.tables.proofs.Decoded.{rec-at}
 use Rattle.changes.specs.Becomes.{Becomes, onLocks}
+use Rattle.lookups.specs.declared.Blocked.{Blocked}
 use Rattle.calls.specs.Contract.{Acts, Ready, Makes}
-use Rattle.calls.specs.Grants.{lockGrant}
+use Rattle.calls.specs.Grants.{lockGrant, refusalBy}
 use Rattle.calls.specs.declared.Grant.{Grant}
-use Rattle.calls.specs.declared.Grant.the-variants.{Taken, Blocked}
+use Rattle.calls.specs.declared.Grant.the-variants.{Taken, Judged}
 use Rattle.calls.proofs.Acting.{ready, makes-refused, makes-done, makes-as, acts}
 use Rattle.calls.proofs.Handles.{has-record-is}
-use Rattle.calls.proofs.LockExits.{lock-no-edit, lock-ended, lock-no-record, lock-bad-point, lock-below, lock-passes, lock-blocked, lock-no-room, lock-done}
+use Rattle.calls.proofs.LockExits.{lock-no-edit, lock-ended, lock-no-record, lock-bad-point}
+use Rattle.calls.proofs.LockExits.{lock-below, lock-passes, lock-by-small, lock-blocked, lock-no-room, lock-done}
 
 -- the points wanted, by the open edit of slot k
-module _ (c : Counts) (w : List ℕ) (R : Ready c w) (k r low high : ℕ) (x : Extent) (l : r < c .records) (g : Grant)
-    (e : g ≡ lockGrant x k (recordAt c w r) low high) where
-  granted : {h : Grant} → g ≡ h → h ≡ lockGrant x k (recAt (decodeAt c w) r) low high
-  granted f = sym f ∙ e ∙ ap (λ (y : Rec). lockGrant x k y low high) (sym (rec-at c w r l))
+module _ (c : Counts) (w : List ℕ) (R : Ready c w) (k r low high : ℕ) (x : Extent) (g : Grant)
+    (e : g ≡ lockGrant x (decodeAt c w) k r low high) where
+  granted : {h : Grant} → g ≡ h → h ≡ lockGrant x (decodeAt c w) k r low high
+  granted f = sym f ∙ e
 
-  pub wanted-blocked : (p n : ℕ) (more : List ℕ) → g ≡ Blocked p → refuse n more ≡ judge (decodeAt c w) r WRITE k p
-      → Makes c (lockWanted (decodeAt c w) k r low high x) w w (refusing n more)
-  wanted-blocked p n more f j =
-      makes-refused c w (lockWanted (decodeAt c w) k r low high x) n more (R .well)
-      (lock-blocked (decodeAt c w) k r low high x p n more (granted f) j)
+  module _ (b : Blocked) (f : g ≡ Judged b) where
+    pub wanted-by-small : b .by ≤ SLOTS
+    wanted-by-small = lock-by-small (decodeAt c w) k r low high x b (granted f)
+
+    pub wanted-blocked : (n : ℕ) (more : List ℕ) → low ≤ high → refuse n more ≡ refusalBy (decodeAt c w) (b .by)
+        → Makes c (lockWanted (decodeAt c w) k r low high x) w w (refusing n more)
+    wanted-blocked n more order j =
+        makes-refused c w (lockWanted (decodeAt c w) k r low high x) n more (R .well)
+        (lock-blocked (decodeAt c w) k r low high x b (granted f) n more order j)
 
   module _ (from end : ℕ) (f : g ≡ Taken from end) where
     pub wanted-no-room : lockRoom (decodeAt c w) ≡ false → Makes c (lockWanted (decodeAt c w) k r low high x) w w (refusing 11 [])

@@ -1,11 +1,11 @@
 -- The ways that Read ends, one law for each return of the code. Rests on Verdicts and Granting.
-use Prim.Native.Nat.{ℕ, _-_, _<_}
+use Prim.Native.Nat.{ℕ, _-_, _≤_, _<_}
 use mathlib.Core.Path.{_≡_, refl, sym, ap, _∙_}
-use mathlib.Core.Bool.{Bool, true, false, cond}
+use mathlib.Core.Bool.{Bool, true, false}
 use mathlib.Core.List.{List, []}
 use lib.Dec.{ltb}
 use borrow.Author.Tests.{lt-ltb}
-use Rattle.meaning.specs.Limits.{READ}
+use Rattle.meaning.specs.Limits.{READ, SLOTS}
 use Rattle.meaning.specs.Store.{Store, slotOf, editAt, recAt, accessOf, hasRead, versionOn}
 use Rattle.meaning.specs.Points.{firstBlocked}
 use Rattle.meaning.specs.Replies.{read, own, again, refusing}
@@ -14,11 +14,14 @@ use Rattle.meaning.specs.Locking.{readVersion, readFrom, readEnd, readGranted, 
 use Rattle.meaning.specs.declared.Version.{Version}
 use Rattle.meaning.specs.declared.Access.{Access}
 use Rattle.meaning.specs.declared.Extent.{Extent}
-use Rattle.calls.specs.declared.Grant.the-variants.{Taken, Blocked}
-use Rattle.calls.specs.Grants.{readGrant}
+use Rattle.lookups.specs.declared.Blocked.{Blocked}
+use Rattle.lookups.specs.Search.{firstJudged}
+use Rattle.calls.specs.declared.Grant.the-variants.{Taken, Judged}
+use Rattle.calls.specs.Grants.{readGrant, refusalBy}
 use Rattle.calls.specs.Parts.{readTaken}
 use Rattle.calls.proofs.Verdicts.{needs-fails, needs-holds, else-fails, else-holds, no-edit, edit-ended, edit-open}
-use Rattle.calls.proofs.Granting.{grant-blocked, grant-taken}
+use Rattle.calls.proofs.Granting.{grant-judged, grant-taken, read-refused}
+use Rattle.calls.proofs.Judged.{by-small, refusal-is}
 
 module _ (s : Store) (h r m : ℕ) (w : Extent) where
   abbrev read-rest : Verdict
@@ -73,6 +76,9 @@ module _ (s : Store) (k r m : ℕ) (w : Extent) where
   abbrev read-blocked-at : ℕ
   read-blocked-at = firstBlocked READ k (recAt s r) (readFrom s r m) m
 
+  abbrev read-first-judged : Blocked
+  read-first-judged = firstJudged s r READ k (readFrom s r m) m
+
   abbrev read-made : Outcome
   read-made =
       replies (readStore s k r (readFrom s r m) (readEnd s k r m w)) (read (readVersion s r m .point) (readEnd s k r m w) (readVersion s r m .value))
@@ -92,18 +98,27 @@ module _ (s : Store) (k r m : ℕ) (w : Extent) where
     unfolding readNew readVerdict
     read-above = needs-holds s read-made (ltb (recAt s r .floor) m) 7 read-judged above
 
-    pub read-blocked : (p n : ℕ) (more : List ℕ) → Blocked p ≡ readGrant w k (recAt s r) (readFrom s r m) m → refuse n more ≡ judge s r READ k p
-        → readNew s k r m w ≡ replies s (refusing n more)
-    unfolding readGrant
-    read-blocked p n more e f =
-        let g = grant-blocked read-granted (readFrom s r m) (readEnd s k r m w) read-blocked-at p (sym e) in
-        read-above ∙ else-fails s read-made read-granted n more (judge s r READ k read-blocked-at) read-rooms (g .0) (f ∙ ap (judge s r READ k) (sym (g .1)))
+    module _ (b : Blocked) (e : Judged b ≡ readGrant w s k r (readFrom s r m) m) where
+      judged : (read-granted ≡ false) × (read-first-judged ≡ b)
+      unfolding readGrant
+      judged = grant-judged read-granted (readFrom s r m) (readEnd s k r m w) read-first-judged b (sym e)
 
-    pub read-granted-is : (from end : ℕ) → Taken from end ≡ readGrant w k (recAt s r) (readFrom s r m) m
+      pub read-by-small : b .by ≤ SLOTS
+      read-by-small = by-small s r READ k (readFrom s r m) m b (sym (judged .1))
+
+      pub read-blocked : (n : ℕ) (more : List ℕ) → readFrom s r m ≤ m → refuse n more ≡ refusalBy s (b .by)
+          → readNew s k r m w ≡ replies s (refusing n more)
+      read-blocked n more order f =
+          let i = read-refused w k (recAt s r) (readFrom s r m) m order (judged .0) in
+          read-above
+          ∙ else-fails s read-made read-granted n more (judge s r READ k read-blocked-at) read-rooms (judged .0)
+          (f ∙ refusal-is s r READ k (readFrom s r m) m b (sym (judged .1)) i)
+
+    pub read-granted-is : (from end : ℕ) → Taken from end ≡ readGrant w s k r (readFrom s r m) m
         → readNew s k r m w ≡ readTaken s k r from end (readVersion s r m)
     unfolding readGrant readTaken
     read-granted-is from end e =
-        let g = grant-taken read-granted (readFrom s r m) (readEnd s k r m w) read-blocked-at from end (sym e) in
+        let g = grant-taken read-granted (readFrom s r m) (readEnd s k r m w) read-first-judged from end (sym e) in
         let v = readVersion s r m in
         read-above
         ∙ else-holds s read-made read-granted (judge s r READ k read-blocked-at) read-rooms (g .0)

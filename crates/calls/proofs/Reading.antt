@@ -7,11 +7,11 @@ use native.Mathlib.Omega.{arith}
 use lib.Dec.{leb, ltb}
 use borrow.Author.Tests.{ltb-true, lt-ltb, le-ltb, le-leb, lt-leb}
 use Rattle.chains.specs.Walk.{IsRow}
-use Rattle.meaning.specs.Limits.{LAST, READ}
+use Rattle.meaning.specs.Limits.{LAST, READ, SLOTS}
 use Rattle.meaning.specs.Store.{Rec, Edit, Store, slotOf, editAt, recAt, accessOf, newestBelow, versionOn, locksUsed}
 use Rattle.meaning.specs.Points.{addLock}
 use Rattle.meaning.specs.Replies.{Reply, read, own, again, refusing}
-use Rattle.meaning.specs.Outcomes.{Outcome, replies, refuse, knows, isOpen, hasRecord, isPoint, judge, accessRoom, lockRoom}
+use Rattle.meaning.specs.Outcomes.{Outcome, replies, refuse, knows, isOpen, hasRecord, isPoint, accessRoom, lockRoom}
 use Rattle.meaning.specs.Edits.{withAccess}
 use Rattle.meaning.specs.Locking.{withLock, readVersion, readFrom, readStore, readNew, readOpen, reading}
 use Rattle.meaning.specs.declared.Access.{Access}
@@ -26,15 +26,18 @@ use Rattle.tables.specs.Decode.{recordAt, slotAt, decodeAt}
 use Rattle.tables.specs.Words.{lent, soundWords, Well}
 use Rattle.tables.proofs.Decoded.{rec-at, edit-at}
 use Rattle.changes.specs.Becomes.{Becomes, onLocks, onEdit}
+use Rattle.lookups.specs.declared.Blocked.{Blocked}
 use Rattle.calls.specs.Contract.{Acts, Ready, Makes}
-use Rattle.calls.specs.Grants.{readGrant}
+use Rattle.calls.specs.Grants.{readGrant, refusalBy}
 use Rattle.calls.specs.Parts.{readTaken}
 use Rattle.calls.specs.declared.Grant.{Grant}
-use Rattle.calls.specs.declared.Grant.the-variants.{Taken, Blocked}
+use Rattle.calls.specs.declared.Grant.the-variants.{Taken, Judged}
 use Rattle.calls.proofs.Acting.{ready, facts, makes-refused, makes-done, makes-as, acts}
 use Rattle.calls.proofs.Handles.{has-record-is}
 use Rattle.calls.proofs.Rooms.{lock-free, edit-leaves-room, edit-then-lock}
-use Rattle.calls.proofs.ReadExits.{read-no-edit, read-ended, read-no-record, read-bad-point, read-passes, read-own, read-again, read-first, read-below, read-blocked, read-granted-is, read-no-access, read-no-lock, read-done}
+use Rattle.calls.proofs.ReadExits.{read-no-edit, read-ended, read-no-record, read-bad-point, read-passes}
+use Rattle.calls.proofs.ReadExits.{read-own, read-again, read-first, read-below, read-by-small}
+use Rattle.calls.proofs.ReadExits.{read-blocked, read-granted-is, read-no-access, read-no-lock, read-done}
 
 -- the lock and the access of a read, of the version v
 module _ (c : Counts) (w : List ℕ) (R : Ready c w) (k r from end : ℕ) (v : Version) where
@@ -94,16 +97,23 @@ module _ (c : Counts) (w : List ℕ) (R : Ready c w) (k r m : ℕ) (x : Extent) 
         let b = read-at (decodeAt c w .edits) r (recAt (decodeAt c w) r) (facts c w R .recs r) m (omega arith) .below in
         omega (arith, ap (λ (y : Version). y .point) version-is)
 
-    module _ (g : Grant) (d : g ≡ readGrant x k (recordAt c w r) (v .point + 1) m) where
-      granted : {h : Grant} → g ≡ h → h ≡ readGrant x k (recAt (decodeAt c w) r) (readFrom (decodeAt c w) r m) m
-      granted q =
-          let t : v .point + 1 ≡ readFrom (decodeAt c w) r m = omega (arith, ap (λ (y : Version). y .point) version-is) in
-          sym q ∙ d ∙ ap (λ (y : Rec). readGrant x k y (v .point + 1) m) (sym here) ∙ ap (λ (y : ℕ). readGrant x k (recAt (decodeAt c w) r) y m) t
+    module _ (g : Grant) (d : g ≡ readGrant x (decodeAt c w) k r (v .point + 1) m) where
+      from-is : v .point + 1 ≡ readFrom (decodeAt c w) r m
+      from-is = omega (arith, ap (λ (y : Version). y .point) version-is)
 
-      pub new-blocked : (p j : ℕ) (more : List ℕ) → g ≡ Blocked p → refuse j more ≡ judge (decodeAt c w) r READ k p
-          → Makes c (readNew (decodeAt c w) k r m x) w w (refusing j more)
-      new-blocked p j more q u =
-          makes-refused c w (readNew (decodeAt c w) k r m x) j more (R .well) (read-blocked (decodeAt c w) k r m x above p j more (granted q) u)
+      granted : {h : Grant} → g ≡ h → h ≡ readGrant x (decodeAt c w) k r (readFrom (decodeAt c w) r m) m
+      granted q = sym q ∙ d ∙ ap (λ (y : ℕ). readGrant x (decodeAt c w) k r y m) from-is
+
+      module _ (b : Blocked) (q : g ≡ Judged b) where
+        pub new-by-small : b .by ≤ SLOTS
+        new-by-small = read-by-small (decodeAt c w) k r m x above b (granted q)
+
+        pub new-blocked : (j : ℕ) (more : List ℕ) → refuse j more ≡ refusalBy (decodeAt c w) (b .by)
+            → Makes c (readNew (decodeAt c w) k r m x) w w (refusing j more)
+        new-blocked j more u =
+            let order : readFrom (decodeAt c w) r m ≤ m = omega (arith, version-below, from-is) in
+            makes-refused c w (readNew (decodeAt c w) k r m x) j more (R .well)
+            (read-blocked (decodeAt c w) k r m x above b (granted q) j more order u)
 
       pub new-taken : (from end : ℕ) (w′ : List ℕ) (q : Reply) → g ≡ Taken from end → Makes c (readTaken (decodeAt c w) k r from end v) w w′ q
           → Makes c (readNew (decodeAt c w) k r m x) w w′ q

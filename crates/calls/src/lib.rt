@@ -8,18 +8,21 @@ ghost use Prim.Native.Nat.{_≤_, _<_};
 ghost use lib.Dec.{ltb};
 ghost use Rattle.chains.specs.Walk.{IsRow};
 ghost use Rattle.meaning.specs.Edits.{beginning, writing};
-ghost use Rattle.meaning.specs.Limits.{LAST, SLOTS, GENERATIONS};
+ghost use Rattle.meaning.specs.Limits.{LAST, WRITE, SLOTS, GENERATIONS};
 ghost use Rattle.meaning.specs.Locking.{lockWanted, locking, readNew, readOpen, reading};
-ghost use Rattle.meaning.specs.Outcomes.{refuse, handleAt, judge};
+ghost use Rattle.meaning.specs.Outcomes.{refuse, handleAt};
 ghost use Rattle.meaning.specs.Records.{viewing};
 ghost use Rattle.meaning.specs.Replies.{number, details, ofBegin, ofWrite, ofLock, ofRead, ofView};
 ghost use Rattle.meaning.specs.Store.{slotOf, editAt};
-ghost use Rattle.tables.specs.Decode.{recordAt, decodeAt, AccessRow};
+ghost use Rattle.meaning.specs.declared.Extent.the-variants.{Part};
+ghost use Rattle.tables.specs.Decode.{decodeAt, AccessRow};
 ghost use Rattle.tables.specs.Layout.{headerOk, Fits};
 ghost use Rattle.tables.specs.Words.{lent, decode, soundWords};
+ghost use Rattle.lookups.specs.Search.{firstJudged};
 ghost use Rattle.calls.specs.Contract.{Acts, Ready, Makes};
-ghost use Rattle.calls.specs.Grants.{lockGrant, readGrant};
+ghost use Rattle.calls.specs.Grants.{lockGrant, readGrant, refusalBy};
 ghost use Rattle.calls.specs.Parts.{writeOpen, readTaken};
+use lookups::Blocked;
 use meaning::Access;
 use meaning::BeginReply;
 use meaning::Counts;
@@ -32,15 +35,16 @@ use meaning::Point;
 use meaning::READ;
 use meaning::ReadReply;
 use meaning::Refusal;
+use meaning::SETTLED;
 use meaning::Version;
 use meaning::ViewReply;
 use meaning::WRITE;
 use meaning::WriteReply;
 
-// What Lock and Read get of the points that they want: a run of points, or the point at which they are judged.
+// What Lock and Read get of the points that they want: a run of points, or the first blocked point with its judgement.
 pub enum Grant {
     Taken(u64, u64),
-    Blocked(u64),
+    Judged(Blocked),
 }
 
 // Reads that several calls share.
@@ -73,63 +77,74 @@ pub fn handle_at(w: &[u64], c: Counts, k: usize) -> Handle
     meaning::make_handle(g as u16, k as u8)
 }
 
-// Why slot k cannot have point p of record r: it is frozen, or held by the lowest slot.
-pub fn judge(w: &[u64], c: Counts, r: usize, mode: u64, k: u64, p: u64) -> Refusal
-    requires { ⌜ Ready c (now w) × (r < c .records) ⌝ }
-    ensures { λ q. ⌜ refuse (number q) (details q) ≡ judge (decodeAt c (now (w .entry))) r mode k p ⌝ }
+// Why a blocked point cannot be had: it is frozen, or held by a slot.
+pub fn judge(w: &[u64], c: Counts, b: Blocked) -> Refusal
+    requires { ⌜ Ready c (now w) × (b .by ≤ SLOTS) ⌝ }
+    ensures { λ q. ⌜ refuse (number q) (details q) ≡ refusalBy (decodeAt c (now (w .entry))) (b .by) ⌝ }
 {
-    if lookups::frozen(w, c, r, mode, p) {
+    if b.by == SETTLED {
         return Refusal::Frozen;
     }
-    let o = lookups::holder(w, c, mode, k, r, p);
-    Refusal::Held(handle_at(w, c, o as usize))
+    Refusal::Held(handle_at(w, c, b.by as usize))
+}
+
+// P of Lock where low is blocked, with judgement b: the run from the first free point, if there is one.
+fn later_grant(w: &[u64], c: Counts, k: u64, r: usize, low: u64, high: u64, b: Blocked) -> Grant
+    requires { ⌜
+        Ready c (now w) × (r < c .records) × (1 ≤ low) × (low ≤ high) × (high ≤ LAST) × (1 ≤ k)
+        × (b ≡ firstJudged (decodeAt c (now w)) r WRITE k low high)
+        ⌝ }
+    ensures { λ q. ⌜ q ≡ lockGrant Part (decodeAt c (now (w .entry))) k r low high ⌝ }
+{
+    let from = lookups::first_free(w, c, false, WRITE, k, r, low, high);
+    if high < from {
+        return Grant::Judged(b);
+    }
+    let next = lookups::first_blocked(w, c, WRITE, k, r, from, high);
+    Grant::Taken(from, next.point - 1)
 }
 
 fn lock_grant(w: &[u64], c: Counts, extent: Extent, k: u64, r: usize, low: u64, high: u64) -> Grant
-    requires { ⌜ Fits c (now w) × (r < c .records) × (1 ≤ low) × (low ≤ high) × (high ≤ LAST) ⌝ }
-    ensures { λ q. ⌜ q ≡ lockGrant extent k (recordAt c (now (w .entry)) r) low high ⌝ }
+    requires { ⌜ Ready c (now w) × (r < c .records) × (1 ≤ low) × (low ≤ high) × (high ≤ LAST) × (1 ≤ k) ⌝ }
+    ensures { λ q. ⌜ q ≡ lockGrant extent (decodeAt c (now (w .entry))) k r low high ⌝ }
 {
+    let b = lookups::first_blocked(w, c, WRITE, k, r, low, high);
     match extent {
         Extent::All => {
-            let p = lookups::first_blocked(w, c, WRITE, k, r, low, high);
-            if high < p {
+            if high < b.point {
                 Grant::Taken(low, high)
             } else {
-                Grant::Blocked(p)
+                Grant::Judged(b)
             }
         }
         Extent::Part => {
-            let from = lookups::first_free(w, c, false, WRITE, k, r, low, high);
-            if high < from {
-                Grant::Blocked(lookups::first_blocked(w, c, WRITE, k, r, low, high))
+            if low < b.point {
+                Grant::Taken(low, b.point - 1)
             } else {
-                Grant::Taken(
-                    from,
-                    lookups::first_blocked(w, c, WRITE, k, r, from, high) - 1,
-                )
+                later_grant(w, c, k, r, low, high, b)
             }
         }
     }
 }
 
 fn read_grant(w: &[u64], c: Counts, extent: Extent, k: u64, r: usize, low: u64, high: u64) -> Grant
-    requires { ⌜ Fits c (now w) × (r < c .records) × (1 ≤ low) × (low ≤ high) × (high ≤ LAST) ⌝ }
-    ensures { λ q. ⌜ q ≡ readGrant extent k (recordAt c (now (w .entry)) r) low high ⌝ }
+    requires { ⌜ Ready c (now w) × (r < c .records) × (1 ≤ low) × (low ≤ high) × (high ≤ LAST) × (1 ≤ k) ⌝ }
+    ensures { λ q. ⌜ q ≡ readGrant extent (decodeAt c (now (w .entry))) k r low high ⌝ }
 {
-    let p = lookups::first_blocked(w, c, READ, k, r, low, high);
+    let b = lookups::first_blocked(w, c, READ, k, r, low, high);
     match extent {
         Extent::All => {
-            if high < p {
+            if high < b.point {
                 Grant::Taken(low, high)
             } else {
-                Grant::Blocked(p)
+                Grant::Judged(b)
             }
         }
         Extent::Part => {
-            if low < p {
-                Grant::Taken(low, p - 1)
+            if low < b.point {
+                Grant::Taken(low, b.point - 1)
             } else {
-                Grant::Blocked(p)
+                Grant::Judged(b)
             }
         }
     }
@@ -207,7 +222,7 @@ fn lock_wanted(
     ensures { λ q. ⌜ Makes c (lockWanted (decodeAt c (now (w .entry))) k r low high extent) (now (w .entry)) (now (w .exit)) (ofLock q) ⌝ }
 {
     match lock_grant(w, c, extent, k as u64, r, low, high) {
-        Grant::Blocked(p) => LockReply::Refused(judge(w, c, r, WRITE, k as u64, p)),
+        Grant::Judged(b) => LockReply::Refused(judge(w, c, b)),
         Grant::Taken(from, end) => {
             if !lookups::lock_room(w, c) {
                 return LockReply::Refused(Refusal::NoLockRow);
@@ -333,7 +348,7 @@ fn read_new(
     }
     let v = lookups::newest_below(w, c, r, m);
     match read_grant(w, c, extent, k as u64, r, v.point + 1, m) {
-        Grant::Blocked(p) => ReadReply::Refused(judge(w, c, r, READ, k as u64, p)),
+        Grant::Judged(b) => ReadReply::Refused(judge(w, c, b)),
         Grant::Taken(from, end) => read_taken(w, c, k, r, i, from, end, v),
     }
 }

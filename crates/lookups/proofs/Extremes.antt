@@ -17,7 +17,7 @@ greatest-shift : (b x : ℕ) (xs : List ℕ) → greatest (max b x) xs ≡ max x
 greatest-shift b x [] = omega arith
 greatest-shift b x (y ∷ xs) = omega (arith, greatest-shift b x xs)
 
-least-shift : (b x : ℕ) (xs : List ℕ) → least (min b x) xs ≡ min x (least b xs)
+pub least-shift : (b x : ℕ) (xs : List ℕ) → least (min b x) xs ≡ min x (least b xs)
 least-shift b x [] = omega arith
 least-shift b x (y ∷ xs) = omega (arith, least-shift b x xs)
 
@@ -95,11 +95,12 @@ module _ {A : Type 0} (p q : A → Bool) where
       go false ih = ih
 
 -- one turn, as the code takes it: the first test fails, the second fails, both hold
-pub turn-other : {q a : Bool} (b : Bool) (x y : ℕ) → q ≡ a → q ≡ false → y ≡ cond (a && b) x y
+pub turn-other : {A : Type 0} {q a : Bool} (b : Bool) (x y : A) → q ≡ a → q ≡ false → y ≡ cond (a && b) x y
 turn-other b x y d e = rw (sym d ∙ e) refl
 
-pub turn-off : {q a t b : Bool} (x y : ℕ) → q ≡ a → q ≡ true → t ≡ b → t ≡ false → y ≡ cond (a && b) x y
+pub turn-off : {A : Type 0} {q a t b : Bool} (x y : A) → q ≡ a → q ≡ true → t ≡ b → t ≡ false → y ≡ cond (a && b) x y
 turn-off x y d e g f = rw (sym d ∙ e, sym g ∙ f) refl
 
-pub turn-on : {q a t b : Bool} {z x : ℕ} (y : ℕ) → q ≡ a → q ≡ true → t ≡ b → t ≡ true → z ≡ x → z ≡ cond (a && b) x y
+pub turn-on : {A : Type 0} {q a t b : Bool} {z x : A} (y : A) → q ≡ a → q ≡ true → t ≡ b → t ≡ true → z ≡ x
+    → z ≡ cond (a && b) x y
 turn-on y d e g f k = rw (sym d ∙ e, sym g ∙ f) k

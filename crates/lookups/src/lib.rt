@@ -1,7 +1,8 @@
 // The searches of the calls: read-only, each equal to a function of the decoded store.
 //
 // A caller proves that the words have these counts (`Fits`) and that records and slots are in range, so the functions
-// have `requires`; beyond that they are exact on any words. They also serve the soundness check.
+// have `requires`; `first_blocked` also asks that the record's locks are spans (`Proper`). Beyond that they are exact
+// on any words. They also serve the soundness check.
 //
 // This file has the names; `edits`, `accesses` and `versions` look one up, `points` has the points of a record under
 // its locks, `allowed` the common set of an edit, `lifting` and `sinking` its earliest and latest point, `free_rows` the
@@ -31,12 +32,16 @@ pub use lifting::earliest;
 pub use points::counts;
 pub use points::first_blocked;
 pub use points::first_free;
-pub use points::frozen;
-pub use points::holder;
 pub use sinking::latest;
 pub use versions::newest_at;
 pub use versions::newest_below;
 pub use versions::version_on;
+
+// What a search for a blocked point found: the point, and who blocks it: SETTLED if it is frozen, else the lowest slot.
+pub struct Blocked {
+    pub point: u64,
+    pub by: u64,
+}
 
 // The least point that an edit may commit at.
 const LOWEST: u64 = 1;

@@ -1,13 +1,16 @@
-// Points of a record r under its locks: free, blocked and frozen points, and who holds one.
+// Points of a record r under its locks: the first free one, and the first blocked one with who blocks it.
 // `mine` picks slot k's own locks, else those of others that block it in the mode.
 ghost use mathlib.Core.Path.{_≡_};
 ghost use Prim.Native.Nat.{_≤_, _<_, min, max};
 ghost use Rattle.meaning.specs.Limits.{LAST};
-ghost use Rattle.meaning.specs.Lists.{any};
-ghost use Rattle.meaning.specs.Points.{meets, firstFree, firstBlocked, frozen, holder};
+ghost use Rattle.meaning.specs.Points.{meets, firstFree};
+ghost use Rattle.meaning.specs.Pointwise.{Proper};
+ghost use Rattle.meaning.specs.Store.{recAt};
 ghost use Rattle.tables.specs.Layout.{Fits};
 ghost use Rattle.tables.specs.Decode.{decodeAt, recordAt};
-ghost use Rattle.lookups.specs.Search.{counts, counted, pastOf, further, nearer, lowerOwner, settles};
+ghost use Rattle.lookups.specs.Search.{counts, counted, pastOf, further};
+ghost use Rattle.lookups.specs.Search.{joined, nearer, nearest, nobody, firstJudged};
+use crate::Blocked;
 use crate::versions::version_stands;
 use meaning::Counts;
 use meaning::Lock;
@@ -105,7 +108,26 @@ fn meets(low: u64, high: u64, l: Lock) -> bool
     low <= l.high
 }
 
-fn nearer(mode: u64, k: u64, low: u64, high: u64, best: u64, l: Lock) -> u64
+// The nearer of the best so far and a lock of owner o that starts at q; of those as near, the lowest owner.
+fn joined(best: Blocked, q: u64, o: u64) -> Blocked
+    ensures { λ b. ⌜ b ≡ joined best q o ⌝ }
+{
+    if best.point < q {
+        return best;
+    }
+    if q < best.point {
+        return Blocked {
+            point: q,
+            by: smaller(SLOTS, o),
+        };
+    }
+    if best.by < o {
+        return best;
+    }
+    Blocked { point: q, by: o }
+}
+
+fn nearer(mode: u64, k: u64, low: u64, high: u64, best: Blocked, l: Lock) -> Blocked
     ensures { λ q. ⌜ q ≡ nearer mode k low high best l ⌝ }
 {
     if !meaning::blocks(mode, k, l) {
@@ -114,16 +136,19 @@ fn nearer(mode: u64, k: u64, low: u64, high: u64, best: u64, l: Lock) -> u64
     if !meets(low, high, l) {
         return best;
     }
-    smaller(best, larger(low, l.low))
+    joined(best, larger(low, l.low), l.owner)
 }
 
-// The least blocked point of low..high, or high + 1.
-pub fn first_blocked(w: &[u64], c: Counts, mode: u64, k: u64, r: usize, low: u64, high: u64) -> u64
+// The first point of low..high under a lock that blocks slot k, with the lowest owner of those that start there.
+fn nearest(w: &[u64], c: Counts, mode: u64, k: u64, r: usize, low: u64, high: u64) -> Blocked
     requires { ⌜ Fits c (now w) × (r < c .records) × (high ≤ LAST) ⌝ }
-    ensures { λ q. ⌜ q ≡ firstBlocked mode k (recordAt c (now (w .entry)) r) low high ⌝ }
+    ensures { λ q. ⌜ q ≡ nearest mode k low high (nobody high) (recordAt c (now (w .entry)) r .locks) ⌝ }
 {
     let n = c.locks;
-    let mut best = high + 1;
+    let mut best = Blocked {
+        point: high + 1,
+        by: SLOTS,
+    };
     let mut cur = tables::first_lock(w, c, r);
     let mut left = n;
     while chains::more(n, left, cur) {
@@ -134,73 +159,35 @@ pub fn first_blocked(w: &[u64], c: Counts, mode: u64, k: u64, r: usize, low: u64
     best
 }
 
-fn settles(mode: u64, p: u64, l: Lock) -> bool
-    ensures { λ q. ⌜ q ≡ settles mode p l ⌝ }
+// The least blocked point of low..high with its judgement, or high + 1 with nobody. One walk of the locks: a settled
+// lock has the lowest owner, so it is the one that is named. Versions are looked at only where there is none.
+pub fn first_blocked(
+    w: &[u64],
+    c: Counts,
+    mode: u64,
+    k: u64,
+    r: usize,
+    low: u64,
+    high: u64,
+) -> Blocked
+    requires { ⌜
+        Fits c (now w) × (r < c .records) × (low ≤ high) × (high ≤ LAST) × (1 ≤ k)
+        × Proper (recAt (decodeAt c (now w)) r)
+        ⌝ }
+    ensures { λ q. ⌜ q ≡ firstJudged (decodeAt c (now (w .entry))) r mode k low high ⌝ }
 {
-    if l.owner != SETTLED {
-        return false;
+    let b = nearest(w, c, mode, k, r, low, high);
+    if high < b.point {
+        return b;
     }
-    if !meaning::conflicts(mode, l) {
-        return false;
+    if b.by == SETTLED {
+        return b;
     }
-    meaning::covers(p, l)
-}
-
-fn settled_on(w: &[u64], c: Counts, r: usize, mode: u64, p: u64) -> bool
-    requires { ⌜ Fits c (now w) × (r < c .records) ⌝ }
-    ensures { λ q. ⌜ q ≡ any (settles mode p) (recordAt c (now (w .entry)) r .locks) ⌝ }
-{
-    let n = c.locks;
-    let mut cur = tables::first_lock(w, c, r);
-    let mut left = n;
-    while chains::more(n, left, cur) {
-        if settles(mode, p, tables::lock_at(w, c, cur)) {
-            return true;
-        }
-        cur = tables::next_lock(w, c, cur);
-        left -= 1;
+    if version_stands(w, c, r, b.point) {
+        return Blocked {
+            point: b.point,
+            by: SETTLED,
+        };
     }
-    false
-}
-
-pub fn frozen(w: &[u64], c: Counts, r: usize, mode: u64, p: u64) -> bool
-    requires { ⌜ Fits c (now w) × (r < c .records) ⌝ }
-    ensures { λ q. ⌜ q ≡ frozen (decodeAt c (now (w .entry))) r mode p ⌝ }
-{
-    if settled_on(w, c, r, mode, p) {
-        return true;
-    }
-    version_stands(w, c, r, p)
-}
-
-fn lower_owner(mode: u64, k: u64, p: u64, best: u64, l: Lock) -> u64
-    ensures { λ q. ⌜ q ≡ lowerOwner mode k p best l ⌝ }
-{
-    if !meaning::blocks(mode, k, l) {
-        return best;
-    }
-    if !meaning::covers(p, l) {
-        return best;
-    }
-    if best < l.owner {
-        return best;
-    }
-    l.owner
-}
-
-// The lowest slot that blocks slot k at p.
-pub fn holder(w: &[u64], c: Counts, mode: u64, k: u64, r: usize, p: u64) -> u64
-    requires { ⌜ Fits c (now w) × (r < c .records) ⌝ }
-    ensures { λ q. ⌜ q ≡ holder mode k (recordAt c (now (w .entry)) r) p ⌝ }
-{
-    let n = c.locks;
-    let mut best = SLOTS;
-    let mut cur = tables::first_lock(w, c, r);
-    let mut left = n;
-    while chains::more(n, left, cur) {
-        best = lower_owner(mode, k, p, best, tables::lock_at(w, c, cur));
-        cur = tables::next_lock(w, c, cur);
-        left -= 1;
-    }
-    best
+    b
 }

@@ -1,20 +1,26 @@
 -- `calls::lock_wanted` meets its contract: blocked, no lock row, or the points locked. Rests on Locking.
 use Rattle.calls.proofs.Answers.{off, on}
 use Rattle.calls.proofs.Rooms.{lock-free, owner-small}
-use Rattle.calls.proofs.Locking.{wanted-blocked, wanted-no-room, wanted-done}
+use Rattle.calls.proofs.Locking.{wanted-by-small, wanted-blocked, wanted-no-room, wanted-done}
 use native.Mathlib.Omega.{arith}
 use borrow.Author.Needs.{needs}
 use Rattle.calls.proofs.lock_wanted.Statement.{statement}
 use Rattle.calls.proofs.lock_wanted.Tie as tie
 
 lock-grant-requires : tie.Need-lock-grant-requires
-lock-grant-requires c κs = (c .before .before .pre .0 .well .fits, c .before .before .pre .2, c .before .before .pre .3, c .before .before .pre .4, c .before .before .pre .5)
+lock-grant-requires c κs =
+    let s = c .before .before in (s .pre .0, s .pre .2, s .pre .3, s .pre .4, s .pre .5, s .pre .1 .low)
 
-enum-known-p : tie.Need-enum-known-p
-enum-known-p c = search needs
+enum-known-b : tie.Need-enum-known-b
+enum-known-b c = search needs
 
 judge-requires : tie.Need-judge-requires
-judge-requires c κs = (c .before .before .before .before .before .before .before .pre .0, c .before .before .before .before .before .before .before .pre .2)
+judge-requires c κs =
+    let s = c .before .before .before .before .before .before .before in (
+      s .pre .0,
+      wanted-by-small _ _ (s .pre .0) _ _ _ _ _ _ (c .before .before .before .before .lock-grant .ensures) _
+          (c .before .before .b .given .1),
+    )
 
 enum-known-from : tie.Need-enum-known-from
 enum-known-from c = search needs
@@ -26,7 +32,11 @@ same-length : tie.Need-same-length
 same-length c = search needs
 
 returns : tie.Need-returns
-returns c = wanted-no-room _ _ (c .before .before .before .before .before .before .before .before .before .pre .0) _ _ _ _ _ (c .before .before .before .before .before .before .before .before .before .pre .2) _ (c .before .before .before .before .before .before .lock-grant .ensures) _ _ (c .before .before .before .before .from .given .1) (off (c .before .lock-room .ensures) (c .if1 .taken))
+returns c =
+    let s = c .before .before .before .before .before .before .before .before .before in
+    wanted-no-room _ _ (s .pre .0) _ _ _ _ _ _
+    (c .before .before .before .before .before .before .lock-grant .ensures) _ _
+    (c .before .before .before .before .from .given .1) (off (c .before .lock-room .ensures) (c .if1 .taken))
 
 add-lock-requires : tie.Need-add-lock-requires
 add-lock-requires c κs = (c .before .before .before .before .before .before .before .before .before .before .pre .0 .well, c .before .before .before .before .before .before .before .before .before .before .pre .2, omega arith, owner-small _ _ (c .before .before .before .before .before .before .before .before .before .before .pre .0 .well .fits) _ (c .before .before .before .before .before .before .before .before .before .before .pre .1), lock-free _ _ (on (c .before .before .lock-room .ensures) (c .before .if1 .left)))
@@ -41,20 +51,30 @@ same-length-2 : tie.Need-same-length-2
 same-length-2 c = search needs
 
 returns-2 : tie.Need-returns-2
-returns-2 c = wanted-blocked _ _ (c .before .before .before .before .before .before .before .before .pre .0) _ _ _ _ _ (c .before .before .before .before .before .before .before .before .pre .2) _ (c .before .before .before .before .before .lock-grant .ensures) _ _ _ (c .before .before .before .p .given .1) (c .judge .ensures)
+returns-2 c =
+    let s = c .before .before .before .before .before .before .before .before in
+    wanted-blocked _ _ (s .pre .0) _ _ _ _ _ _ (c .before .before .before .before .before .lock-grant .ensures) _
+    (c .before .before .before .b .given .1) _ _ (s .pre .4) (c .judge .ensures)
 
 same-length-3 : tie.Need-same-length-3
 same-length-3 c = search needs
 
 returns-3 : tie.Need-returns-3
-returns-3 c = wanted-done _ _ (c .before .before .before .before .before .before .before .before .before .before .before .before .before .before .before .pre .0) _ _ _ _ _ (c .before .before .before .before .before .before .before .before .before .before .before .before .before .before .before .pre .2) _ (c .before .before .before .before .before .before .before .before .before .before .before .before .lock-grant .ensures) _ _ (c .before .before .before .before .before .before .before .before .before .before .from .given .1) (on (c .before .before .before .before .before .before .before .lock-room .ensures) (c .before .before .before .before .before .before .if1 .left)) _ _ _ (c .before .before .before .before .add-lock .ensures) (c .before .point-of-word .ensures) (c .point-of-word2 .ensures)
+returns-3 c =
+    let g = c .before .before .before .before .before .before .before .before .before .before .before .before in
+    let s = g .before .before .before in
+    let t = c .before .before .before .before .before .before in
+    wanted-done _ _ (s .pre .0) _ _ _ _ _ _ (g .lock-grant .ensures) _ _
+    (t .before .before .before .before .from .given .1)
+    (on (t .before .lock-room .ensures) (t .if1 .left)) _ _ _ (c .before .before .before .before .add-lock .ensures)
+    (c .before .point-of-word .ensures) (c .point-of-word2 .ensures)
 
 pub lock-wanted-spec : {M : Type 1} → statement M
 lock-wanted-spec =
     tie.close
     (tie.spec
     lock-grant-requires
-    enum-known-p
+    enum-known-b
     judge-requires
     enum-known-from
     lock-room-requires

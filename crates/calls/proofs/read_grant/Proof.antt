@@ -1,11 +1,15 @@
 -- `calls::read_grant` meets its contract: all points or none, or those up to the first blocked one. Rests on Granting.
-use Rattle.calls.proofs.Granting.{read-all-taken, read-all-blocked, read-part-taken, read-part-blocked}
+use native.Mathlib.Omega.{arith}
+use Rattle.meaning.proofs.JudgeLocking.{proper}
+use Rattle.calls.proofs.Granting.{read-all-taken, read-all-judged, read-part-taken, read-part-judged}
 use borrow.Author.Needs.{needs}
 use Rattle.calls.proofs.read_grant.Statement.{statement}
 use Rattle.calls.proofs.read_grant.Tie as tie
 
 first-blocked-requires : tie.Need-first-blocked-requires
-first-blocked-requires c κs = search needs
+first-blocked-requires c κs =
+    let s = c .before in
+    (s .pre .0 .well .fits, s .pre .1, s .pre .3, s .pre .4, s .pre .5, proper _ (s .pre .0 .store) _)
 
 enum-told : tie.Need-enum-told
 enum-told c = search needs
@@ -14,19 +18,28 @@ enum-told-2 : tie.Need-enum-told-2
 enum-told-2 c = search needs
 
 sub-t14 : tie.Need-sub-t14
-sub-t14 c = search needs
+sub-t14 c = omega (arith, c .before .if2 .taken)
 
 returns : tie.Need-returns
-returns c = rw (c .before .enum-told .given .1) (read-all-taken _ _ _ _ _ (c .before .before .before .first-blocked .ensures) (c .if1 .taken))
+returns c =
+    rw (c .before .before .enum-told .given .1)
+    (read-all-taken _ _ _ _ _ _ (c .before .before .before .before .first-blocked .ensures) (c .if1 .taken))
 
 returns-2 : tie.Need-returns-2
-returns-2 c = rw (c .before .enum-told .given .1) (read-all-blocked _ _ _ _ _ (c .before .before .before .first-blocked .ensures) (c .if1 .left))
+returns-2 c =
+    rw (c .before .before .enum-told .given .1)
+    (read-all-judged _ _ _ _ _ _ (c .before .before .before .before .first-blocked .ensures) (c .if1 .left))
 
 returns-3 : tie.Need-returns-3
-returns-3 c = rw (c .before .enum-told2 .given .1) (read-part-taken _ _ _ _ _ (c .before .before .before .first-blocked .ensures) (c .if2 .taken))
+returns-3 c =
+    rw (c .before .before .before .enum-told2 .given .1)
+    (read-part-taken _ _ _ _ _ _ (c .before .before .before .before .before .first-blocked .ensures)
+    (c .before .if2 .taken))
 
 returns-4 : tie.Need-returns-4
-returns-4 c = rw (c .before .enum-told2 .given .1) (read-part-blocked _ _ _ _ _ (c .before .before .before .first-blocked .ensures) (c .if2 .left))
+returns-4 c =
+    rw (c .before .before .enum-told2 .given .1)
+    (read-part-judged _ _ _ _ _ _ (c .before .before .before .before .first-blocked .ensures) (c .if2 .left))
 
 pub read-grant-spec : {M : Type 1} → statement M
 read-grant-spec =

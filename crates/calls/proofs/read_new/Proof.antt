@@ -1,6 +1,6 @@
 -- `calls::read_new` meets its contract: below the floor, blocked, or what `read_taken` makes. Rests on Reading.
 use native.Mathlib.Omega.{arith}
-use Rattle.calls.proofs.Reading.{new-below, version-below, new-blocked, new-taken}
+use Rattle.calls.proofs.Reading.{new-below, version-below, new-by-small, new-blocked, new-taken}
 use borrow.Author.Needs.{needs}
 use Rattle.calls.proofs.read_new.Statement.{statement}
 use Rattle.calls.proofs.read_new.Tie as tie
@@ -21,13 +21,27 @@ add-read-grant : tie.Need-add-read-grant
 add-read-grant c = let l = version-below _ _ (c .before .before .before .before .before .before .before .before .pre .0) (c .before .before .before .before .before .before .before .before .args .k) _ _ (c .before .before .before .before .before .before .before .before .args .extent) (c .before .before .before .before .before .before .before .before .pre .2) _ (c .before .before .before .before .before .floor-of .ensures) (c .before .before .before .before .if1 .left) _ (c .before .before .newest-below .ensures) in omega (arith, c .before .before .before .before .before .before .before .before .pre .3)
 
 read-grant-requires : tie.Need-read-grant-requires
-read-grant-requires c κs = (c .before .before .before .before .before .before .before .before .pre .0 .well .fits, c .before .before .before .before .before .before .before .before .pre .2, omega arith, version-below _ _ (c .before .before .before .before .before .before .before .before .pre .0) (c .before .before .before .before .before .before .before .before .args .k) _ _ (c .before .before .before .before .before .before .before .before .args .extent) (c .before .before .before .before .before .before .before .before .pre .2) _ (c .before .before .before .before .before .floor-of .ensures) (c .before .before .before .before .if1 .left) _ (c .before .before .newest-below .ensures), c .before .before .before .before .before .before .before .before .pre .3)
+read-grant-requires c κs =
+    let f = c .before .before .before .before in
+    let s = f .before .before .before .before in
+    let below =
+    version-below _ _ (s .pre .0) (s .args .k) _ _ (s .args .extent) (s .pre .2) _ (f .before .floor-of .ensures)
+    (f .if1 .left) _ (c .before .before .newest-below .ensures) in
+    (s .pre .0, s .pre .2, omega arith, below, s .pre .3, s .pre .1 .low)
 
-enum-known-p : tie.Need-enum-known-p
-enum-known-p c = search needs
+enum-known-b : tie.Need-enum-known-b
+enum-known-b c = search needs
 
 judge-requires : tie.Need-judge-requires
-judge-requires c κs = (c .before .before .before .before .before .before .before .before .before .before .before .before .before .pre .0, c .before .before .before .before .before .before .before .before .before .before .before .before .before .pre .2)
+judge-requires c κs =
+    let g = c .before .before .before .before in
+    let v = g .before .before .before in
+    let f = v .before .before in
+    let s = f .before .before .before .before in
+    let small =
+    new-by-small _ _ (s .pre .0) _ _ _ _ (s .pre .2) _ (f .before .floor-of .ensures) (f .if1 .left) _
+    (v .newest-below .ensures) _ (g .read-grant .ensures) _ (c .before .before .b .given .1) in
+    (s .pre .0, small)
 
 enum-known-from : tie.Need-enum-known-from
 enum-known-from c = search needs
@@ -39,7 +53,14 @@ same-length-2 : tie.Need-same-length-2
 same-length-2 c = search needs
 
 returns-2 : tie.Need-returns-2
-returns-2 c = new-blocked _ _ (c .before .before .before .before .before .before .before .before .before .before .before .before .before .before .pre .0) _ _ _ _ (c .before .before .before .before .before .before .before .before .before .before .before .before .before .before .pre .2) _ (c .before .before .before .before .before .before .before .before .before .before .before .floor-of .ensures) (c .before .before .before .before .before .before .before .before .before .before .if1 .left) _ (c .before .before .before .before .before .before .before .before .newest-below .ensures) _ (c .before .before .before .before .before .read-grant .ensures) _ _ _ (c .before .before .before .p .given .1) (c .judge .ensures)
+returns-2 c =
+    let g = c .before .before .before .before .before in
+    let v = g .before .before .before in
+    let f = v .before .before in
+    let s = f .before .before .before .before in
+    new-blocked _ _ (s .pre .0) _ _ _ _ (s .pre .2) _ (f .before .floor-of .ensures) (f .if1 .left) _
+    (v .newest-below .ensures) _ (g .read-grant .ensures) _ (c .before .before .before .b .given .1) _ _
+    (c .judge .ensures)
 
 same-length-3 : tie.Need-same-length-3
 same-length-3 c = search needs
@@ -57,7 +78,7 @@ read-new-spec =
     newest-below-requires
     add-read-grant
     read-grant-requires
-    enum-known-p
+    enum-known-b
     judge-requires
     enum-known-from
     read-taken-requires

@@ -1,77 +1,47 @@
--- `lookups::points::first_blocked` meets its contract: a loop that keeps the least start. Rests on Extremes.
-use Prim.Native.Nat.{suc, max}
-use mathlib.Core.List.{map}
-use native.Mathlib.Omega.{arith}
-use native.Mathlib.Numerals.{add-one}
+-- `lookups::points::first_blocked` meets its contract: nobody blocks, a settled lock, a version or the lowest slot.
+-- Rests on Judged.
 use denote.Ref.{now}
-use Rattle.chains.specs.Table.{link}
-use Rattle.chains.proofs.Walks.{row-of, fuel-of}
-use Rattle.chains.proofs.Loops.{Walk}
-use Rattle.meaning.specs.Lists.{least}
-use Rattle.meaning.specs.Points.{meets, blocks, blockers, firstCovered, firstBlocked}
-use Rattle.meaning.specs.declared.Lock.{Lock}
-use Rattle.tables.specs.Layout.{lockTable}
-use Rattle.tables.specs.Decode.{recordAt, lockAt}
-use Rattle.tables.proofs.Loops.{locks-start}
-use Rattle.lookups.proofs.Extremes.{valued, least-on, least-done}
+use Rattle.lookups.proofs.Judged.{judged-nobody, judged-settled, judged-version, judged-held}
 use borrow.Author.Needs.{needs}
 use Rattle.lookups.proofs.points.first_blocked.Statement.{statement}
 use Rattle.lookups.proofs.points.first_blocked.Tie as tie
 
-abbrev Inv-loop : tie.InvT-loop
-Inv-loop w c mode k r low high n best₀ cur₀ left₀ best cur left = Walk (link (lockTable c) w) n (λ rs. least best (valued (meets low high) (blocks mode k) (λ (l : Lock). max low (l .low)) (map (lockAt c w) rs))) (firstBlocked mode k (recordAt c w r) low high) cur left
+nearest-requires : tie.Need-nearest-requires
+nearest-requires c κs = search needs
 
-abbrev μ-loop : tie.MeasureT-loop
-μ-loop w c mode k r low high n best₀ cur₀ left₀ best cur left = left
+returns : tie.Need-returns
+returns c =
+    let n = c .before .before in
+    let s = n .before .before in
+    judged-nobody (s .args .c) (now (s .args .w)) _ _ _ _ _ (s .pre .1) (s .pre .2) _ (n .nearest .ensures)
+    (c .if1 .taken)
 
-add-best : tie.Need-add-best Inv-loop μ-loop
-add-best c = search needs
+returns-2 : tie.Need-returns-2
+returns-2 c =
+    let n = c .before .before .before .before in
+    let s = n .before .before in
+    judged-settled (s .args .c) (now (s .args .w)) _ _ _ _ _ (s .pre .1) (s .pre .2) _ (n .nearest .ensures) (s .pre .5)
+    (c .before .before .if1 .left) (c .if2 .taken)
 
-first-lock-requires : tie.Need-first-lock-requires Inv-loop μ-loop
-first-lock-requires c κs = (c .before .pre .0, c .before .pre .1)
+version-stands-requires : tie.Need-version-stands-requires
+version-stands-requires c κs = search needs
 
-loop-holds : tie.Need-loop-holds Inv-loop μ-loop
-unfolding firstCovered blockers
-loop-holds c = rw add-one (locks-start _ _ _ (λ ls. least (suc (c .before .before .args .high)) (valued (meets (c .before .before .args .low) (c .before .before .args .high)) (blocks (c .before .before .args .mode) (c .before .before .args .k)) (λ (l : Lock). max (c .before .before .args .low) (l .low)) ls)) (c .first-lock .ensures))
+returns-3 : tie.Need-returns-3
+returns-3 c =
+    let n = c .before .before .before .before .before .before in
+    let s = n .before .before in
+    judged-version (s .args .c) (now (s .args .w)) _ _ _ _ _ (s .pre .1) (s .pre .2) _ (n .nearest .ensures) (s .pre .5)
+    (c .before .before .before .before .if1 .left) (c .before .version-stands .ensures) (c .if3 .taken)
 
-more-requires : tie.Need-more-requires Inv-loop μ-loop
-more-requires c κs = tt
-
-lock-at-requires : tie.Need-lock-at-requires Inv-loop μ-loop
-lock-at-requires c κs = (c .before .before .before .before .before .pre .0, row-of _ _ _ (c .before .more .ensures) (c .if1 .taken))
-
-nearer-requires : tie.Need-nearer-requires Inv-loop μ-loop
-nearer-requires c κs = tt
-
-next-lock-requires : tie.Need-next-lock-requires Inv-loop μ-loop
-next-lock-requires c κs = (c .before .before .before .before .before .before .before .pre .0, row-of _ _ _ (c .before .before .before .more .ensures) (c .before .before .if1 .taken))
-
-sub-left : tie.Need-sub-left Inv-loop μ-loop
-sub-left c = fuel-of _ _ _ (c .before .before .before .before .more .ensures) (c .before .before .before .if1 .taken)
-
-loop-less : tie.Need-loop-less Inv-loop μ-loop
-loop-less c = omega (arith, fuel-of _ _ _ (c .before .before .before .before .more .ensures) (c .before .before .before .if1 .taken))
-
-loop-again : tie.Need-loop-again Inv-loop μ-loop
-loop-again c = least-on _ _ _ (lockAt (c .before .before .before .before .before .before .before .before .args .c) (now (c .before .before .before .before .before .before .before .before .args .w))) (c .before .before .before .before .before .loop .inv) (c .before .before .before .before .more .ensures) (c .before .before .before .if1 .taken) (c .before .nearer .ensures) (c .before .before .lock-at .ensures) (c .next-lock .ensures)
-
-returns : tie.Need-returns Inv-loop μ-loop
-returns c = least-done _ _ _ (lockAt (c .before .before .before .before .before .args .c) (now (c .before .before .before .before .before .args .w))) (c .before .before .loop .inv) (c .before .more .ensures) (c .if1 .left)
+returns-4 : tie.Need-returns-4
+returns-4 c =
+    let n = c .before .before .before .before .before .before in
+    let s = n .before .before in
+    judged-held (s .args .c) (now (s .args .w)) _ _ _ _ _ (s .pre .1) (s .pre .2) _ (n .nearest .ensures) (s .pre .5)
+    (c .before .before .before .before .if1 .left) (c .before .version-stands .ensures) (s .pre .4)
+    (c .before .before .if2 .left) (c .if3 .left)
 
 pub first-blocked-spec : {M : Type 1} → statement M
 first-blocked-spec =
     tie.close
-    (tie.spec
-    Inv-loop
-    μ-loop
-    add-best
-    first-lock-requires
-    loop-holds
-    more-requires
-    lock-at-requires
-    nearer-requires
-    next-lock-requires
-    sub-left
-    loop-less
-    loop-again
-    returns)
+    (tie.spec nearest-requires returns returns-2 version-stands-requires returns-3 returns-4)

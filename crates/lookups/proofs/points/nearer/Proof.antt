@@ -1,7 +1,7 @@
--- `lookups::points::nearer` meets its contract: one turn of first_blocked. Rests on Extremes.
-use Prim.Native.Nat.{min}
+-- `lookups::points::nearer` meets its contract: one turn of nearest. Rests on Extremes.
 use mathlib.Core.Path.{ap, _∙_}
 use borrow.Author.Tests.{not-true, not-false}
+use Rattle.lookups.specs.Search.{joined, nearer}
 use Rattle.lookups.proofs.Extremes.{turn-other, turn-off, turn-on}
 use borrow.Author.Needs.{needs}
 use Rattle.lookups.proofs.points.nearer.Statement.{statement}
@@ -11,22 +11,32 @@ blocks-requires : tie.Need-blocks-requires
 blocks-requires c κs = search needs
 
 returns : tie.Need-returns
+unfolding nearer
 returns c = turn-other _ _ _ (c .before .blocks2 .ensures) (not-true _ (c .if1 .taken))
 
 meets-requires : tie.Need-meets-requires
 meets-requires c κs = search needs
 
 returns-2 : tie.Need-returns-2
-returns-2 c = turn-off _ _ (c .before .before .before .blocks2 .ensures) (not-false _ (c .before .before .if1 .left)) (c .before .meets .ensures) (not-true _ (c .if2 .taken))
+unfolding nearer
+returns-2 c =
+    turn-off _ _ (c .before .before .before .blocks2 .ensures) (not-false _ (c .before .before .if1 .left))
+    (c .before .meets .ensures) (not-true _ (c .if2 .taken))
 
 larger-requires : tie.Need-larger-requires
 larger-requires c κs = search needs
 
-smaller-requires : tie.Need-smaller-requires
-smaller-requires c κs = search needs
+joined-requires : tie.Need-joined-requires
+joined-requires c κs = search needs
 
 returns-3 : tie.Need-returns-3
-returns-3 c = turn-on _ (c .before .before .before .before .before .blocks2 .ensures) (not-false _ (c .before .before .before .before .if1 .left)) (c .before .before .before .meets .ensures) (not-false _ (c .before .before .if2 .left)) (c .smaller .ensures ∙ ap (min (c .before .before .before .before .before .before .args .best)) (c .before .larger .ensures))
+unfolding nearer
+returns-3 c =
+    let s = c .before .before .before .before .before .before in
+    turn-on _ (c .before .before .before .before .before .blocks2 .ensures)
+    (not-false _ (c .before .before .before .before .if1 .left)) (c .before .before .before .meets .ensures)
+    (not-false _ (c .before .before .if2 .left))
+    (c .joined .ensures ∙ ap (λ q. joined (s .args .best) q (s .args .l .owner)) (c .before .larger .ensures))
 
 pub nearer-spec : {M : Type 1} → statement M
 nearer-spec =
@@ -37,5 +47,5 @@ nearer-spec =
     meets-requires
     returns-2
     larger-requires
-    smaller-requires
+    joined-requires
     returns-3)
