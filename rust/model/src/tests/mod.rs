@@ -1,6 +1,6 @@
-//! Each list has script lines on the left of `=` and answers on the right. `refusals` has the sixteen numbers, `calls` the session, the misreadings and
-//! the calls together, `scripts` the form of lines and the generator.
-//! `words` has lent words, laid out by hand or from a store (`layout`), and damaged.
+//! Each list has script lines on the left of `=` and answers on the right. `refusals` has the sixteen numbers, `calls`
+//! the session, the misreadings and the calls together, `scripts` the form of lines and the generator. `words` has lent
+//! words, laid out by hand or from a store (`layout`), and damaged.
 
 mod calls;
 mod layout;
