@@ -81,14 +81,14 @@ refusal-changes-nothing c s e =
     refusal-reason (judging c s) (w .0) (w .1 .0) (w .1 .1) .1
 
 -- the owner of a lock is below SLOTS
-few-edits : (c : Counts) → goodCounts c ≡ true → c .edits < SLOTS
+pub few-edits : (c : Counts) → goodCounts c ≡ true → c .edits < SLOTS
 few-edits c e = go (decLt (c .edits) SLOTS)
   where
     go : Dec (c .edits < SLOTS) → c .edits < SLOTS
     go (yes h) = h
     go (no h) = absurd (counts-test c .free e (edits (inr (omega arith))))
 
-owner-slot : (s : Store) → soundStore s ≡ true → (r mode k p o : ℕ) → BlockedBy mode k (recAt s r) p o → o < SLOTS
+pub owner-slot : (s : Store) → soundStore s ≡ true → (r mode k p o : ℕ) → BlockedBy mode k (recAt s r) p o → o < SLOTS
 owner-slot s g r mode k p o b = go (sound-out s g .recs r .owner (b .lock) (b .member))
   where
     go : (b .lock .owner ≡ SETTLED) ⊎ (editOf (s .edits) (b .lock .owner) .state ≡ FREE → ⊥) → o < SLOTS
