@@ -18,6 +18,12 @@ pub struct Chart<'a> {
     good: bool,
 }
 
+// The replies of two asks.
+pub struct Pair {
+    pub first: ViewReply,
+    pub second: ViewReply,
+}
+
 // The check of soundness, as a function of this crate: the walks by hand of `open` and `at` cite functions of their own
 // crate alone.
 fn check(words: &[u64]) -> bool
@@ -59,4 +65,23 @@ pub fn view(words: &[u64], rec: u64, p: Point) -> ViewReply
     ensures { λ r. ⌜ Viewed rec (p .0) (now (words .entry)) (ofView r) ⌝ }
 {
     at(open(words), rec, p)
+}
+
+fn paired(first: ViewReply, second: ViewReply) -> Pair
+    ensures { λ r. ⌜ (r .first ≡ first) × (r .second ≡ second) ⌝ }
+{
+    Pair { first, second }
+}
+
+// Two asks of one reader: the words are checked once.
+pub fn view_pair(words: &[u64], rec: u64, p: Point, other: u64, o: Point) -> Pair
+    ensures { λ r. ⌜
+        Viewed rec (p .0) (now (words .entry)) (ofView (r .first))
+        × Viewed other (o .0) (now (words .entry)) (ofView (r .second))
+        ⌝ }
+{
+    let chart = open(words);
+    let first = at(chart, rec, p);
+    let second = at(chart, other, o);
+    paired(first, second)
 }
