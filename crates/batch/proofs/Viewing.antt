@@ -12,9 +12,8 @@ use Rattle.meaning.specs.Records.{viewing}
 use Rattle.tables.specs.Words.{lent, decode, soundWords}
 use Rattle.codes.specs.Codes.{Tells}
 use Rattle.store.specs.Answers.{Shows}
-use Rattle.view.specs.Seen.{asked}
 use Rattle.batch.specs.Encoding.{rowOf, rowsOf}
-use Rattle.batch.specs.Views.{ASK-WORDS, VIEW-NUMBERS, VIEW-WORDS, askedAt, repliesOf, Views, AskedShows}
+use Rattle.batch.specs.Views.{ASK-WORDS, VIEW-NUMBERS, VIEW-WORDS, asked, askedAt, repliesOf, Views, AskedShows}
 use Rattle.batch.proofs.Telling.{told-row, Told, told-none, told-more}
 
 -- what View replies on sound words and on others

@@ -1,14 +1,19 @@
--- What the many views promise: the reply of View to each ask of the list, as rows of words. Rests on Encoding and on
--- Seen of the crate `view`.
+-- What the many views promise: the reply of View to each ask of the list, as rows of words. Rests on Encoding and
+-- Records of `meaning`.
 use Prim.Native.Nat.{ℕ, zero, suc, _+_, _*_, _/_, min}
 use mathlib.Core.Path.{_≡_}
+use mathlib.Core.Bool.{cond}
 use mathlib.Core.List.{List, [], _∷_, _++_}
 use lib.ListN.{length, drop}
-use Rattle.meaning.specs.Replies.{Reply}
+use Rattle.meaning.specs.Replies.{Reply, refusing}
 use Rattle.meaning.specs.Records.{viewing}
 use Rattle.store.specs.Answers.{Shows}
-use Rattle.view.specs.Seen.{asked}
+use Rattle.tables.specs.Words.{lent, decode, soundWords}
 use Rattle.batch.specs.Encoding.{wordAt, rowsOf}
+
+-- View of record r at p, or refusal 1 where the words are not sound
+unfoldable pub asked : ℕ → ℕ → List ℕ → Reply
+asked r p w = cond (soundWords (lent w)) (viewing r p (decode (lent w)) .reply) (refusing 1 [])
 
 -- an ask is a record and a point
 abbrev pub ASK-WORDS : ℕ

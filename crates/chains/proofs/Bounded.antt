@@ -1,4 +1,4 @@
--- Sums and tests over the numbers below a bound.
+-- Sums and tests over the numbers below a bound. Rests on nothing.
 use Prim.Native.Nat.{ℕ, zero, suc, _+_, _≤_, _<_}
 use mathlib.Core.Path.{_≡_, refl, sym, ap, _∙_}
 use mathlib.Core.Bool.{Bool, true, false, _&&_, false≢true}
@@ -55,7 +55,8 @@ sum-le f (suc m) h = omega (arith, sum-le f m (λ i l. h i (omega arith)), h m (
 pub sum-ge : (f : ℕ → ℕ) (m a : ℕ) → a < m → f a ≤ sumTo m f
 unfolding sumTo
 sum-ge f zero a h = absurd (omega arith)
-sum-ge f (suc m) a h = elim (ℕ-discrete a m) [ yes p ↦ omega (arith, ap f p) | no p ↦ omega (arith, sum-ge f m a (omega arith)) ]
+sum-ge f (suc m) a h =
+    elim (ℕ-discrete a m) [ yes p ↦ omega (arith, ap f p) | no p ↦ omega (arith, sum-ge f m a (omega arith)) ]
 
 pub sum-ge2 : (f : ℕ → ℕ) (m a b : ℕ) → a < m → b < m → (a ≡ b → ⊥) → f a + f b ≤ sumTo m f
 unfolding sumTo
@@ -72,7 +73,9 @@ sum-ge2 f (suc m) a b h k d = go (ℕ-discrete a m) (ℕ-discrete b m) (sum-ge2 
 pub sum-front : (f : ℕ → ℕ) (m k : ℕ) → k < m → sumTo k f + f k ≤ sumTo m f
 unfolding sumTo
 sum-front f zero k l = absurd (omega arith)
-sum-front f (suc m) k l = elim (ℕ-discrete k m) [ yes p ↦ omega (arith, ap f p, ap (λ j. sumTo j f) p) | no p ↦ omega (arith, sum-front f m k (omega arith)) ]
+sum-front f (suc m) k l =
+    elim (ℕ-discrete k m)
+    [ yes p ↦ omega (arith, ap f p, ap (λ j. sumTo j f) p) | no p ↦ omega (arith, sum-front f m k (omega arith)) ]
 
 -- a change of one summand
 pub sum-one : (f g : ℕ → ℕ) (m a : ℕ) → a < m → ((j : ℕ) → (j ≡ a → ⊥) → f j ≡ g j) → sumTo m f + g a ≡ sumTo m g + f a
@@ -80,7 +83,8 @@ unfolding sumTo
 sum-one f g zero a h e = absurd (omega arith)
 sum-one f g (suc m) a h e = go (ℕ-discrete a m) (sum-one f g m a)
   where
-    go : Dec (a ≡ m) → (a < m → ((j : ℕ) → (j ≡ a → ⊥) → f j ≡ g j) → sumTo m f + g a ≡ sumTo m g + f a) → sumTo (suc m) f + g a ≡ sumTo (suc m) g + f a
+    go : Dec (a ≡ m) → (a < m → ((j : ℕ) → (j ≡ a → ⊥) → f j ≡ g j) → sumTo m f + g a ≡ sumTo m g + f a)
+        → sumTo (suc m) f + g a ≡ sumTo (suc m) g + f a
     go (yes p) ih = omega (arith, ap f p, ap g p, sum-ext f g m (λ j l. e j (omega arith)))
     go (no p) ih = omega (arith, ih (omega arith) e, e m (omega arith))
 
@@ -96,7 +100,8 @@ mix-off : (f g : ℕ → ℕ) (a j : ℕ) → (j ≡ a → ⊥) → mix f g a j 
 unfolding mix
 mix-off f g a j h = rw (ne-eqb j a h, mix)
 
-pub sum-two : (f g : ℕ → ℕ) (m a b : ℕ) → a < m → b < m → (a ≡ b → ⊥) → ((j : ℕ) → (j ≡ a → ⊥) → (j ≡ b → ⊥) → f j ≡ g j) → f a + f b ≡ g a + g b → sumTo m f ≡ sumTo m g
+pub sum-two : (f g : ℕ → ℕ) (m a b : ℕ) → a < m → b < m → (a ≡ b → ⊥)
+    → ((j : ℕ) → (j ≡ a → ⊥) → (j ≡ b → ⊥) → f j ≡ g j) → f a + f b ≡ g a + g b → sumTo m f ≡ sumTo m g
 sum-two f g m a b h k d e s =
     let u = sum-one f (mix f g a) m a h (λ j p. sym (mix-off f g a j p)) in
     let v = sum-one (mix f g a) g m b k (λ j p. go j p (ℕ-discrete j a)) in
@@ -119,7 +124,8 @@ sum-full f zero h e i l = absurd (omega arith)
 sum-full f (suc n) h e i l =
     let b = sum-le f n (λ i l. h i (omega arith)) in
     let o = h n (omega arith) in
-    elim (ℕ-discrete i n) [ yes p ↦ omega (arith, ap f p) | no p ↦ sum-full f n (λ i l. h i (omega arith)) (omega arith) i (omega arith) ]
+    elim (ℕ-discrete i n)
+    [ yes p ↦ omega (arith, ap f p) | no p ↦ sum-full f n (λ i l. h i (omega arith)) (omega arith) i (omega arith) ]
 
 -- a sum of sums, in either order
 sum-add : (f g : ℕ → ℕ) (n : ℕ) → sumTo n (λ i. f i + g i) ≡ sumTo n f + sumTo n g

@@ -1,5 +1,5 @@
--- Where the words of rows and the head words lie: within the slice, and apart. Stores to them. Rests on specs.Table; only here and in
--- the proofs of `at` and `head_at` are products seen.
+-- Where the words of rows and the head words lie: within the slice, and apart. Stores to them. Rests on specs.Table;
+-- only here and in the proofs of `at` and `head_at` are products seen.
 use Prim.Native.Nat.{ℕ, zero, suc, _+_, _*_, _-_, _≤_, _<_}
 use mathlib.Core.Path.{_≡_, refl, sym, ap}
 use mathlib.Core.List.{List}
@@ -22,7 +22,8 @@ row-end (suc j) n s p q =
 
 -- Words of rows
 
-pub place-lt : (t : Table) (w : List ℕ) (i o : ℕ) → Lies t w → IsRow (t .count) i → o < t .stride → place t i o < length w
+pub place-lt : (t : Table) (w : List ℕ) (i o : ℕ) → Lies t w → IsRow (t .count) i → o < t .stride
+    → place t i o < length w
 unfolding place
 place-lt t w i o l r k = omega (arith, row-end i (t .count) (t .stride) (r .low) (r .high), l .inside)
 
@@ -34,7 +35,8 @@ apart i (suc j) s o v b h p q e =
     omega (arith, row-end i j s p (omega arith))
 
 -- words of two rows, or two words of a row, lie apart
-pub place-ne : (t : Table) (i j o v : ℕ) → 1 ≤ i → 1 ≤ j → o < t .stride → v < t .stride → ((i ≡ j) × (o ≡ v) → ⊥) → place t i o ≡ place t j v → ⊥
+pub place-ne : (t : Table) (i j o v : ℕ) → 1 ≤ i → 1 ≤ j → o < t .stride → v < t .stride → ((i ≡ j) × (o ≡ v) → ⊥)
+    → place t i o ≡ place t j v → ⊥
 unfolding place
 place-ne t i j o v p q k l h e = go (decLt i j) (decLt j i)
   where
@@ -51,11 +53,13 @@ unfolding place
 base-le t i o = omega arith
 
 -- a row's word after a store to a row's word
-pub field-same : (t : Table) (w : List ℕ) (i o v : ℕ) → Lies t w → IsRow (t .count) i → o < t .stride → field t (set w (place t i o) v) i o ≡ v
+pub field-same : (t : Table) (w : List ℕ) (i o v : ℕ) → Lies t w → IsRow (t .count) i → o < t .stride
+    → field t (set w (place t i o) v) i o ≡ v
 unfolding field
 field-same t w i o v l r k = getD-set-same w (place t i o) v 0 (place-lt t w i o l r k)
 
-pub field-other : (t : Table) (w : List ℕ) (i j o u v : ℕ) → 1 ≤ i → 1 ≤ j → o < t .stride → u < t .stride → ((j ≡ i) × (u ≡ o) → ⊥) → field t (set w (place t i o) v) j u ≡ field t w j u
+pub field-other : (t : Table) (w : List ℕ) (i j o u v : ℕ) → 1 ≤ i → 1 ≤ j → o < t .stride → u < t .stride
+    → ((j ≡ i) × (u ≡ o) → ⊥) → field t (set w (place t i o) v) j u ≡ field t w j u
 unfolding field
 field-other t w i j o u v p q k l h = getD-set-other w (place t i o) (place t j u) v 0 (place-ne t j i u o q p l k h)
 
@@ -89,10 +93,20 @@ pub lies : {t : Table} {h : Heads} {w : List ℕ} → Laid t h w → Lies t w
 lies l = record { inside = l .inside; within = l .within }
 
 pub heads-lie : {t : Table} {h : Heads} {w : List ℕ} → Laid t h w → HeadsLie h w
-heads-lie l = record { free-in = omega (arith, l .inside, l .free-first, l .heads-before); heads-in = omega (arith, l .inside, l .heads-before); step-pos = l .step-pos }
+heads-lie l = record {
+  free-in = omega (arith, l .inside, l .free-first, l .heads-before);
+  heads-in = omega (arith, l .inside, l .heads-before);
+  step-pos = l .step-pos;
+}
 
 pub laid-same : {t : Table} {h : Heads} {w : List ℕ} (u : List ℕ) → length u ≡ length w → Laid t h w → Laid t h u
-laid-same {t} {h} {w} u e l = record { inside = rw e (l .inside); within = l .within; free-first = l .free-first; heads-before = l .heads-before; step-pos = l .step-pos }
+laid-same {t} {h} {w} u e l = record {
+  inside = rw e (l .inside);
+  within = l .within;
+  free-first = l .free-first;
+  heads-before = l .heads-before;
+  step-pos = l .step-pos;
+}
 
 pub laid-set : {t : Table} {h : Heads} {w : List ℕ} (c v : ℕ) → Laid t h w → Laid t h (set w c v)
 laid-set {t} {h} {w} c v l = laid-same (set w c v) (length-set w c v) l
@@ -122,7 +136,8 @@ module _ {t : Table} {h : Heads} {w : List ℕ} (l : Laid t h w) where
 
   pub head-place : (i o v j : ℕ) → j ≤ h .owners → headOf h (set w (place t i o) v) j ≡ headOf h w j
   unfolding headOf
-  head-place i o v j q = getD-set-other w (place t i o) (headCell h j) v 0 (λ e. omega (arith, head-below j q, base-le t i o))
+  head-place i o v j q =
+      getD-set-other w (place t i o) (headCell h j) v 0 (λ e. omega (arith, head-below j q, base-le t i o))
 
   -- links after a store to a head word, and to a link word
   pub link-head : (k v i : ℕ) → k ≤ h .owners → link t (set w (headCell h k) v) i ≡ link t w i
@@ -150,13 +165,15 @@ pub after-head : (t : Table) (h : Heads) (w : List ℕ) (a p : ℕ) → p ≡ 0 
 unfolding headOf
 after-head t h w a p e = ap (λ c. getD w c 0) (after-start t h a p e)
 
-pub after-link : (t : Table) (h : Heads) (w : List ℕ) (a p : ℕ) → (p ≡ 0 → ⊥) → getD w (afterCell t h a p) 0 ≡ link t w p
+pub after-link : (t : Table) (h : Heads) (w : List ℕ) (a p : ℕ) → (p ≡ 0 → ⊥)
+    → getD w (afterCell t h a p) 0 ≡ link t w p
 unfolding field
 after-link t h w a p e = ap (λ c. getD w c 0) (after-row t h a p e)
 
 -- stores to the word after place p of chain a
 module _ {t : Table} {h : Heads} {w : List ℕ} (l : Laid t h w) where
-  pub link-after : (a p v x : ℕ) → a ≤ h .owners → 1 ≤ x → (x ≡ p → ⊥) → link t (set w (afterCell t h a p) v) x ≡ link t w x
+  pub link-after : (a p v x : ℕ) → a ≤ h .owners → 1 ≤ x → (x ≡ p → ⊥)
+      → link t (set w (afterCell t h a p) v) x ≡ link t w x
   unfolding afterCell
   link-after a zero v x ha q d = link-head l a v x ha
   link-after a (suc p) v x ha q d = link-set-other l (suc p) v x (omega arith) q d
@@ -176,13 +193,16 @@ module _ {t : Table} {h : Heads} {w : List ℕ} (l : Laid t h w) where
   head-after-start a zero v q z = head-set l a v q
   head-after-start a (suc p) v q z = absurd (omega arith)
 
-  pub head-after-row : (a p v : ℕ) → a ≤ h .owners → (p ≡ 0 → ⊥) → headOf h (set w (afterCell t h a p) v) a ≡ headOf h w a
+  pub head-after-row : (a p v : ℕ) → a ≤ h .owners → (p ≡ 0 → ⊥)
+      → headOf h (set w (afterCell t h a p) v) a ≡ headOf h w a
   unfolding afterCell
   head-after-row a zero v q z = absurd (z refl)
   head-after-row a (suc p) v q z = head-place l (suc p) (t .off) v a q
 
   pub after-kept : (a p v c : ℕ) → a ≤ h .owners → p ≤ t .count
-      → ((k : ℕ) → k ≤ h .owners → c ≡ headCell h k → ⊥) → ((i : ℕ) → IsRow (t .count) i → c ≡ linkCell t i → ⊥) → getD (set w (afterCell t h a p) v) c 0 ≡ getD w c 0
+      → ((k : ℕ) → k ≤ h .owners → c ≡ headCell h k → ⊥) → ((i : ℕ) → IsRow (t .count) i → c ≡ linkCell t i → ⊥)
+      → getD (set w (afterCell t h a p) v) c 0 ≡ getD w c 0
   unfolding afterCell
   after-kept a zero v c ha q f g = getD-set-other w (headCell h a) c v 0 (f a ha)
-  after-kept a (suc p) v c ha q f g = getD-set-other w (linkCell t (suc p)) c v 0 (g (suc p) (record { low = omega arith; high = q }))
+  after-kept a (suc p) v c ha q f g =
+      getD-set-other w (linkCell t (suc p)) c v 0 (g (suc p) (record { low = omega arith; high = q }))

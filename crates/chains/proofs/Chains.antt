@@ -1,5 +1,6 @@
--- The chains of a table as lists, Rep, and the one law of every mutation, rechain: two chains are changed over the same rows, and the heads of
--- the other chains and the links of their rows stay; then the other chains stay, and every row is still on exactly one chain. Rests on Segments.
+-- The chains of a table as lists, Rep, and the one law of every mutation, rechain: two chains are changed over the same
+-- rows, and the heads of the other chains and the links of their rows stay; then the other chains stay, and every row
+-- is still on exactly one chain. Rests on Segments.
 use Prim.Native.Nat.{ℕ, zero, suc, _+_, _≤_, _<_}
 use mathlib.Core.Path.{_≡_, refl, sym, ap, _∙_}
 use mathlib.Core.Bool.{true, false}
@@ -50,13 +51,16 @@ module _ {n m : ℕ} {nx hd : ℕ → ℕ} {C : ℕ → List ℕ} (R : Rep n m n
   -- nor twice on its own
   pub single : (a x : ℕ) → a < m → occ x (C a) ≤ 1
   single a x h = elim (decLe 1 (occ x (C a))) [
-    | yes o ↦ (let r = seg-in nx n (C a) (hd a) 0 x (R .segs a h) o in omega (arith, row-once x r, sum-ge (λ j. occ x (C j)) m a h))
+    | yes o ↦ (let r = seg-in nx n (C a) (hd a) 0 x (R .segs a h) o in
+        omega (arith, row-once x r, sum-ge (λ j. occ x (C j)) m a h))
     | no o ↦ omega arith
   ]
 
   -- so a chain has no more rows than the table
   pub short : (a : ℕ) → a < m → length (C a) ≤ n
-  short a h = omega (arith, occ-sum nx n (C a) (hd a) 0 (R .segs a h), sum-le (λ i. occ (suc i) (C a)) n (λ i l. single a (suc i) h))
+  short a h =
+      omega
+      (arith, occ-sum nx n (C a) (hd a) 0 (R .segs a h), sum-le (λ i. occ (suc i) (C a)) n (λ i l. single a (suc i) h))
 
   -- the law
   pub rechain : (nx′ hd′ : ℕ → ℕ) (a b : ℕ) (A B : List ℕ) → a < m → b < m → (a ≡ b → ⊥)
@@ -81,10 +85,13 @@ module _ {n m : ℕ} {nx hd : ℕ → ℕ} {C : ℕ → List ℕ} (R : Rep n m n
           (λ x o. en x (seg-in nx n (C k) (hd k) 0 x (R .segs k l) o) (alone k a x l ha p o) (alone k b x l hb q o)))
 
 -- the lengths of all chains count the rows
-pub lengths-of : (n m : ℕ) (nx hd : ℕ → ℕ) (C : ℕ → List ℕ) → ((k : ℕ) → k < m → Seg nx n (hd k) (C k) 0) → sumTo m (λ k. length (C k)) ≡ sumTo n (λ i. sumTo m (λ k. occ (suc i) (C k)))
+pub lengths-of : (n m : ℕ) (nx hd : ℕ → ℕ) (C : ℕ → List ℕ) → ((k : ℕ) → k < m → Seg nx n (hd k) (C k) 0)
+    → sumTo m (λ k. length (C k)) ≡ sumTo n (λ i. sumTo m (λ k. occ (suc i) (C k)))
 lengths-of n m nx hd C s =
-    sum-ext (λ k. length (C k)) (λ k. sumTo n (λ i. occ (suc i) (C k))) m (λ k l. sym (occ-sum nx n (C k) (hd k) 0 (s k l)))
+    sum-ext (λ k. length (C k)) (λ k. sumTo n (λ i. occ (suc i) (C k))) m
+    (λ k l. sym (occ-sum nx n (C k) (hd k) 0 (s k l)))
     ∙ sum-swap (λ i k. occ (suc i) (C k)) m n
 
 pub lengths : {n m : ℕ} {nx hd : ℕ → ℕ} {C : ℕ → List ℕ} → Rep n m nx hd C → sumTo m (λ k. length (C k)) ≡ n
-lengths {n} {m} {nx} {hd} {C} R = lengths-of n m nx hd C (R .segs) ∙ sum-ones (λ i. sumTo m (λ k. occ (suc i) (C k))) n (R .once)
+lengths {n} {m} {nx} {hd} {C} R =
+    lengths-of n m nx hd C (R .segs) ∙ sum-ones (λ i. sumTo m (λ k. occ (suc i) (C k))) n (R .once)

@@ -1,5 +1,5 @@
--- The definitions on small words, computed: three rows of two words from word 3 on, the second word the link; the heads of the free chain
--- and of two owners are words 0 to 2.
+-- The definitions on small words, computed: three rows of two words from word 3 on, the second word the link; the heads
+-- of the free chain and of two owners are words 0 to 2. Rests on nothing.
 use Prim.Native.Nat.{ℕ}
 use mathlib.Core.Path.{_≡_, refl}
 use mathlib.Core.Bool.{true, false}

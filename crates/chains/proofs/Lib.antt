@@ -1,4 +1,5 @@
--- Laws of chains. Callers' loops rest on Walks, Loops and Turns; callers' statements on Places, Searches, Frames, Entries and Rooms.
+-- Laws of chains. Callers' loops rest on Walks, Loops and Turns; callers' statements on Places, Searches, Frames,
+-- Entries and Rooms.
 pub mod Bounded
 pub mod Occurs
 pub mod Walks

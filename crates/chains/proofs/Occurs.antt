@@ -1,4 +1,4 @@
--- How often a row stands in a list, and the last row of a list.
+-- How often a row stands in a list, and the last row of a list. Rests on nothing.
 use Prim.Native.Nat.{ℕ, suc, _+_, _≤_}
 use mathlib.Core.Path.{_≡_, refl, ap}
 use mathlib.Core.List.{List, [], _∷_, _++_}
@@ -23,7 +23,8 @@ pub occ-here : (r : ℕ) (rs : List ℕ) → 1 ≤ occ r (r ∷ rs)
 occ-here r rs = omega (arith, occ-same r rs)
 
 pub occ-there : (x r : ℕ) (rs : List ℕ) → occ x rs ≤ occ x (r ∷ rs)
-occ-there x r rs = elim (ℕ-discrete x r) [ yes p ↦ rw p (omega (arith, occ-same r rs)) | no p ↦ omega (arith, occ-other x r rs p) ]
+occ-there x r rs =
+    elim (ℕ-discrete x r) [ yes p ↦ rw p (omega (arith, occ-same r rs)) | no p ↦ omega (arith, occ-other x r rs p) ]
 
 pub occ-append : (x : ℕ) (xs ys : List ℕ) → occ x (xs ++ ys) ≡ occ x xs + occ x ys
 occ-append x [] ys = omega (arith, occ-nil x)
@@ -34,7 +35,11 @@ occ-append x (y ∷ xs) ys = elim (ℕ-discrete x y) [
 
 -- a row passed from one list to another
 pub occ-swap : (x r : ℕ) (ys zs : List ℕ) → occ x ys + occ x (r ∷ zs) ≡ occ x (r ∷ ys) + occ x zs
-occ-swap x r ys zs = elim (ℕ-discrete x r) [ yes p ↦ rw p (omega (arith, occ-same r ys, occ-same r zs)) | no p ↦ omega (arith, occ-other x r ys p, occ-other x r zs p) ]
+occ-swap x r ys zs =
+    elim (ℕ-discrete x r) [
+      | yes p ↦ rw p (omega (arith, occ-same r ys, occ-same r zs))
+      | no p ↦ omega (arith, occ-other x r ys p, occ-other x r zs p)
+    ]
 
 -- the last row is in the list
 pub last-in : (k : ℕ) (ks : List ℕ) → 1 ≤ occ (lastOr k ks) (k ∷ ks)

@@ -1,4 +1,5 @@
--- The loops of the partition check: marking one chain, and one chain after the other within one budget of rows. Rests on Words.
+-- The loops of the partition check: marking one chain, and one chain after the other within one budget of rows. Rests
+-- on Words.
 use Prim.Native.Nat.{ℕ, zero, suc, _+_, _-_, _≤_, _<_}
 use mathlib.Core.Path.{_≡_, refl, sym, ap, _∙_}
 use mathlib.Core.Logic.{_⊎_, inl, inr}
@@ -33,7 +34,8 @@ pub clear-new : (n : ℕ) → n ≡ 4096 → Clear (replicate n 0)
 clear-new n e = record { size = length-replicate n 0 ∙ e; clear = zeros n }
 
 -- one row marked
-mark-one : (m : List ℕ) (x : ℕ) (xs : List ℕ) (i : ℕ) → x < length m → getD m x 0 ≡ 0 → getD (set m x 1) i 0 + occ i xs ≡ getD m i 0 + occ i (x ∷ xs)
+mark-one : (m : List ℕ) (x : ℕ) (xs : List ℕ) (i : ℕ) → x < length m → getD m x 0 ≡ 0
+    → getD (set m x 1) i 0 + occ i xs ≡ getD m i 0 + occ i (x ∷ xs)
 mark-one m x xs i l z = go (ℕ-discrete i x)
   where
     go : Dec (i ≡ x) → getD (set m x 1) i 0 + occ i xs ≡ getD m i 0 + occ i (x ∷ xs)
@@ -58,7 +60,8 @@ pub record MarkInv (nx : ℕ → ℕ) (n f₀ : ℕ) (m₀ : List ℕ) (h₀ : �
 pub mark-start : (nx : ℕ → ℕ) (n f : ℕ) {m : List ℕ} (h : ℕ) → Marks m → MarkInv nx n f m h m h f
 mark-start nx n f h k = record { fuel = omega arith; marks = k; met = λ i. refl; end = refl; long = refl }
 
-pub mark-again : {nx : ℕ → ℕ} {n f₀ : ℕ} {m₀ : List ℕ} {h₀ : ℕ} {m : List ℕ} {h f h′ : ℕ} {r : Bool} → MarkInv nx n f₀ m₀ h₀ m h f
+pub mark-again : {nx : ℕ → ℕ} {n f₀ : ℕ} {m₀ : List ℕ} {h₀ : ℕ} {m : List ℕ} {h f h′ : ℕ} {r : Bool}
+    → MarkInv nx n f₀ m₀ h₀ m h f
     → n ≤ 4095 → r ≡ more n f h → r ≡ true → getD m h 0 ≡ 0 → h′ ≡ nx h → MarkInv nx n f₀ m₀ h₀ (set m h 1) h′ (f - 1)
 mark-again {nx} {n} {f₀} {m₀} {h₀} {m} {h} {f} i b d e z q =
     let o = more-out n f h d e in
@@ -67,17 +70,29 @@ mark-again {nx} {n} {f₀} {m₀} {h₀} {m} {h} {f} i b d e z q =
     rw q (record {
       fuel = omega (arith, i .fuel);
       marks = mark-marks m h (i .marks) l;
-      met = λ k. mark-one m h (rows nx n (f - 1) (nx h)) k l z ∙ ap (λ l. getD m k 0 + occ k l) (sym (s .row)) ∙ i .met k;
+      met =
+          λ k. mark-one m h (rows nx n (f - 1) (nx h)) k l z ∙ ap (λ l. getD m k 0 + occ k l) (sym (s .row)) ∙ i .met k;
       end = sym (s .end) ∙ i .end;
       long = omega (arith, o .fuel, ap length (s .row), i .long);
     })
 
-module _ (t : Table) (w : List ℕ) {f₀ : ℕ} {m₀ : List ℕ} {h₀ : ℕ} {m : List ℕ} {h f : ℕ} {r : Bool} (v : MarkInv (link t w) (t .count) f₀ m₀ h₀ m h f) (d : r ≡ more (t .count) f h) where
+module _ (t : Table) (w : List ℕ) {f₀ : ℕ} {m₀ : List ℕ} {h₀ : ℕ} {m : List ℕ} {h f : ℕ} {r : Bool}
+    (v : MarkInv (link t w) (t .count) f₀ m₀ h₀ m h f) (d : r ≡ more (t .count) f h) where
   -- a row is met for the second time
   pub mark-twice : {m′ : List ℕ} → r ≡ true → (getD m h 0 ≡ 0 → ⊥) → MarkedChain t w m₀ m′ h₀ f₀ 0
   unfolding Unmarked front
   mark-twice e z = record {
-    refused = λ _. inr (h, omega (arith, v .met h, ap (occ h) (step (link t w) (t .count) f h d e .row), occ-here h (rows (link t w) (t .count) (f - 1) (link t w h)), ne-zero (getD m h 0) z));
+    refused =
+        λ _. inr (
+          h,
+          omega (
+            arith,
+            v .met h,
+            ap (occ h) (step (link t w) (t .count) f h d e .row),
+            occ-here h (rows (link t w) (t .count) (f - 1) (link t w h)),
+            ne-zero (getD m h 0) z,
+          ),
+        );
     done = λ k. absurd (omega arith);
   }
     where
@@ -115,15 +130,24 @@ pub record PartInv (t : Table) (h : Heads) (w m : List ℕ) (room k : ℕ) : Typ
 
 pub part-start : (t : Table) (h : Heads) (w : List ℕ) {m : List ℕ} → Clear m → PartInv t h w m (t .count) 0
 unfolding sumTo allTo
-part-start t h w c = record { upto = omega arith; marks = record { size = c .size; single = λ i. omega (arith, c .clear i) }; met = c .clear; ended-all = refl; budget = omega arith }
+part-start t h w c = record {
+  upto = omega arith;
+  marks = record { size = c .size; single = λ i. omega (arith, c .clear i) };
+  met = c .clear;
+  ended-all = refl;
+  budget = omega arith;
+}
 
 -- a chain that ends within the room is the whole chain
-within : (t : Table) (w : List ℕ) (f x : ℕ) → f ≤ t .count → ends (link t w) (t .count) f x ≡ true → (chain t w x ≡ front t w f x) × (ended t w x ≡ true)
+within : (t : Table) (w : List ℕ) (f x : ℕ) → f ≤ t .count → ends (link t w) (t .count) f x ≡ true
+    → (chain t w x ≡ front t w f x) × (ended t w x ≡ true)
 unfolding chain ended front
 within t w f x l e =
-    seg-rows (link t w) (t .count) (rows (link t w) (t .count) f x) (t .count) x (rows-seg (link t w) (t .count) f x e) (omega (arith, rows-length (link t w) (t .count) f x))
+    seg-rows (link t w) (t .count) (rows (link t w) (t .count) f x) (t .count) x (rows-seg (link t w) (t .count) f x e)
+    (omega (arith, rows-length (link t w) (t .count) f x))
 
-pub part-again : {t : Table} {h : Heads} {w m m′ : List ℕ} {room k x r : ℕ} → PartInv t h w m room k → k ≤ h .owners → x ≡ headOf h w k
+pub part-again : {t : Table} {h : Heads} {w m m′ : List ℕ} {room k x r : ℕ} → PartInv t h w m room k → k ≤ h .owners
+    → x ≡ headOf h w k
     → MarkedChain t w m m′ x room r → (r ≡ 0 → ⊥) → PartInv t h w m′ (r - 1) (k + 1)
 unfolding rowsOf endedOf sumTo
 part-again {t} {h} {w} {m} {m′} {room} {k} {x} {r} i b p q z =
@@ -138,22 +162,38 @@ part-again {t} {h} {w} {m} {m′} {room} {k} {x} {r} i b p q z =
     })
 
 -- a chain that cannot be marked
-pub part-broken : {t : Table} {h : Heads} {w m m′ : List ℕ} {room k x r : ℕ} → PartInv t h w m room k → k ≤ h .owners → x ≡ headOf h w k
+pub part-broken : {t : Table} {h : Heads} {w m m′ : List ℕ} {room k x r : ℕ} → PartInv t h w m room k → k ≤ h .owners
+    → x ≡ headOf h w k
     → MarkedChain t w m m′ x room r → r ≡ 0 → partition t h w ≡ false
 unfolding Unmarked front
 part-broken {t} {h} {w} {m} {m′} {room} {k} {x} {r} i b p q z = bool-false (partition t h w) (λ d. go d (q .refused z))
   where
-    go : partition t h w ≡ true → (ends (link t w) (t .count) room x ≡ false) ⊎ ((j : ℕ) × (2 ≤ getD m j 0 + occ j (rows (link t w) (t .count) room x))) → ⊥
+    go : partition t h w ≡ true
+        → (ends (link t w) (t .count) room x ≡ false)
+        ⊎ ((j : ℕ) × (2 ≤ getD m j 0 + occ j (rows (link t w) (t .count) room x)))
+        → ⊥
     go d u =
         let R = rep-of t h w d in
         let seg = R .segs k (omega arith) in
-        let f : length (rowsOf t h w k) ≤ room = omega (arith, i .budget, lengths R, sum-front (λ j. length (rowsOf t h w j)) (suc (h .owners)) k (omega arith)) in
+        let f : length (rowsOf t h w k) ≤ room =
+        omega
+        (arith, i .budget, lengths R, sum-front (λ j. length (rowsOf t h w j)) (suc (h .owners)) k (omega arith)) in
         let s = seg-rows (link t w) (t .count) (rowsOf t h w k) room (headOf h w k) seg f in
         elim u [
           | inl n ↦ false≢true (sym n ∙ ap (ends (link t w) (t .count) room) p ∙ s .1)
-          | inr n ↦ (let o : occ (n .0) (rows (link t w) (t .count) room x) ≡ occ (n .0) (rowsOf t h w k) = ap (occ (n .0)) (ap (rows (link t w) (t .count) room) p ∙ s .0) in
-              let row = seg-in (link t w) (t .count) (rowsOf t h w k) (headOf h w k) 0 (n .0) seg (omega (arith, n .1, i .marks .single (n .0))) in
-              omega (arith, n .1, i .met (n .0), sum-front (λ j. occ (n .0) (rowsOf t h w j)) (suc (h .owners)) k (omega arith), row-once R (n .0) row))
+          | inr n ↦
+              (let o : occ (n .0) (rows (link t w) (t .count) room x) ≡ occ (n .0) (rowsOf t h w k) =
+              ap (occ (n .0)) (ap (rows (link t w) (t .count) room) p ∙ s .0) in
+              let row =
+              seg-in (link t w) (t .count) (rowsOf t h w k) (headOf h w k) 0 (n .0) seg
+              (omega (arith, n .1, i .marks .single (n .0))) in
+              omega (
+                arith,
+                n .1,
+                i .met (n .0),
+                sum-front (λ j. occ (n .0) (rowsOf t h w j)) (suc (h .owners)) k (omega arith),
+                row-once R (n .0) row,
+              ))
         ]
 
 -- all chains are marked: if the budget is spent, every row was met
@@ -161,16 +201,27 @@ module _ (t : Table) (h : Heads) (w : List ℕ) {m : List ℕ} {room : ℕ} (i :
   part-full : room ≡ 0 → partition t h w ≡ true
   unfolding onChains
   part-full z =
-      let ended : (k : ℕ) → k ≤ h .owners → endedOf t h w k ≡ true = λ k l. all-at (endedOf t h w) (suc (h .owners)) k (i .ended-all) (omega arith) in
-      let sum = lengths-of (t .count) (suc (h .owners)) (link t w) (headOf h w) (rowsOf t h w) (λ k l. ended-seg t h w k (ended k (omega arith))) in
-      let full = sum-full (λ j. onChains t h w (suc j)) (t .count) (λ j l. omega (arith, i .met (suc j), i .marks .single (suc j))) (omega (arith, sum, i .budget)) in
-      partition-in t h w (record { ended-all = ended; once = λ r row. let k : suc (r - 1) ≡ r = omega (arith, row .low) in rw k at (full (r - 1) (omega (arith, row .low, row .high))) })
+      let ended : (k : ℕ) → k ≤ h .owners → endedOf t h w k ≡ true =
+      λ k l. all-at (endedOf t h w) (suc (h .owners)) k (i .ended-all) (omega arith) in
+      let sum =
+      lengths-of (t .count) (suc (h .owners)) (link t w) (headOf h w) (rowsOf t h w)
+      (λ k l. ended-seg t h w k (ended k (omega arith))) in
+      let full =
+      sum-full (λ j. onChains t h w (suc j)) (t .count) (λ j l. omega (arith, i .met (suc j), i .marks .single (suc j)))
+      (omega (arith, sum, i .budget)) in
+      partition-in t h w (record {
+        ended-all = ended;
+        once = λ r row. let k : suc (r - 1) ≡ r = omega (arith, row .low) in
+            rw k at (full (r - 1) (omega (arith, row .low, row .high)));
+      })
 
   part-left : (room ≡ 0 → ⊥) → partition t h w ≡ false
   part-left z = bool-false (partition t h w) (λ d. z (omega (arith, i .budget, lengths (rep-of t h w d))))
 
-pub part-end : {t : Table} {h : Heads} {w m : List ℕ} {room k : ℕ} → PartInv t h w m room k → h .owners < k → eqb room 0 ≡ partition t h w
+pub part-end : {t : Table} {h : Heads} {w m : List ℕ} {room k : ℕ} → PartInv t h w m room k → h .owners < k
+    → eqb room 0 ≡ partition t h w
 part-end {t} {h} {w} {m} {room} {k} i b =
     let e : k ≡ suc (h .owners) = omega (arith, i .upto) in
     let v = rw e at i in
-    elim (ℕ-discrete room 0) [ yes z ↦ eq-eqb room 0 z ∙ sym (part-full t h w v z) | no z ↦ ne-eqb room 0 z ∙ sym (part-left t h w v z) ]
+    elim (ℕ-discrete room 0)
+    [ yes z ↦ eq-eqb room 0 z ∙ sym (part-full t h w v z) | no z ↦ ne-eqb room 0 z ∙ sym (part-left t h w v z) ]

@@ -1,4 +1,5 @@
--- How many rows are free: the lengths of all chains make the row count, so the free chain is empty exactly if all rows are in use. Rests on Words.
+-- How many rows are free: the lengths of all chains make the row count, so the free chain is empty exactly if all rows
+-- are in use. Rests on Words.
 use Prim.Native.Nat.{ℕ, zero, suc, _+_, _≤_, _<_}
 use mathlib.Core.Path.{_≡_, refl, sym, ap, _∙_}
 use mathlib.Core.Bool.{true}

@@ -1,5 +1,5 @@
--- A chain as a list: Seg nx n a rs b says that the links lead from a over the rows rs to b. It has no fuel, so lists can be cut, joined and
--- turned to another end. Bridges to rows and ends go both ways. Rests on Walks and Occurs.
+-- A chain as a list: Seg nx n a rs b says that the links lead from a over the rows rs to b. It has no fuel, so lists
+-- can be cut, joined and turned to another end. Bridges to rows and ends go both ways. Rests on Walks and Occurs.
 use Prim.Native.Nat.{ℕ, zero, suc, _+_, _≤_}
 use mathlib.Core.Path.{_≡_, refl, sym, ap, _∙_}
 use mathlib.Core.Bool.{Bool, true, false}
@@ -21,18 +21,28 @@ Seg nx n a (r ∷ rs) b = (a ≡ r) × (1 ≤ r) × (r ≤ n) × Seg nx n (nx r)
 module _ (nx : ℕ → ℕ) (n : ℕ) where
   pub seg-in : (rs : List ℕ) (a b x : ℕ) → Seg nx n a rs b → 1 ≤ occ x rs → IsRow n x
   seg-in [] a b x s h = absurd (omega (arith, occ-nil x))
-  seg-in (r ∷ rs) a b x s h = elim (ℕ-discrete x r) [ yes p ↦ rw p (record { low = s .1; high = s .2 }) | no p ↦ seg-in rs (nx r) b x (s .3) (rw (occ-other x r rs p) at h) ]
+  seg-in (r ∷ rs) a b x s h =
+      elim (ℕ-discrete x r) [
+        | yes p ↦ rw p (record { low = s .1; high = s .2 })
+        | no p ↦ seg-in rs (nx r) b x (s .3) (rw (occ-other x r rs p) at h)
+      ]
 
-  pub seg-frame : (nx′ : ℕ → ℕ) (rs : List ℕ) (a b : ℕ) → Seg nx n a rs b → ((x : ℕ) → 1 ≤ occ x rs → nx′ x ≡ nx x) → Seg nx′ n a rs b
+  pub seg-frame : (nx′ : ℕ → ℕ) (rs : List ℕ) (a b : ℕ) → Seg nx n a rs b → ((x : ℕ) → 1 ≤ occ x rs → nx′ x ≡ nx x)
+      → Seg nx′ n a rs b
   seg-frame nx′ [] a b s h = s
-  seg-frame nx′ (r ∷ rs) a b s h =
-      (s .0, s .1, s .2, rw (h r (occ-here r rs)) (seg-frame nx′ rs (nx r) b (s .3) (λ x k. h x (omega (arith, occ-there x r rs)))))
+  seg-frame nx′ (r ∷ rs) a b s h = (
+    s .0,
+    s .1,
+    s .2,
+    rw (h r (occ-here r rs)) (seg-frame nx′ rs (nx r) b (s .3) (λ x k. h x (omega (arith, occ-there x r rs)))),
+  )
 
   pub seg-append : (xs ys : List ℕ) (a b c : ℕ) → Seg nx n a xs b → Seg nx n b ys c → Seg nx n a (xs ++ ys) c
   seg-append [] ys a b c s u = rw s u
   seg-append (x ∷ xs) ys a b c s u = (s .0, s .1, s .2, seg-append xs ys (nx x) b c (s .3) u)
 
-  pub seg-rows : (rs : List ℕ) (f a : ℕ) → Seg nx n a rs 0 → length rs ≤ f → (rows nx n f a ≡ rs) × (ends nx n f a ≡ true)
+  pub seg-rows : (rs : List ℕ) (f a : ℕ) → Seg nx n a rs 0 → length rs ≤ f
+      → (rows nx n f a ≡ rs) × (ends nx n f a ≡ true)
   seg-rows [] f a s h =
       let e : among n a ≡ false = ap (among n) s ∙ among-zero n in
       (rows-stop nx n f a e, ends-stop nx n f a e ∙ eq-eqb a 0 s)
@@ -47,8 +57,11 @@ module _ (nx : ℕ → ℕ) (n : ℕ) where
   rows-seg zero a e = eqb-true a 0 e
   rows-seg (suc f) a e = go (among n a) refl (rows-seg f (nx a))
     where
-      go : (b : Bool) → among n a ≡ b → (ends nx n f (nx a) ≡ true → Seg nx n (nx a) (rows nx n f (nx a)) 0) → Seg nx n a (rows nx n (suc f) a) 0
-      go true d ih = rw (rows-suc nx n f a d) (refl, among-out n a d .low, among-out n a d .high, ih (sym (ends-suc nx n f a d) ∙ e))
+      go : (b : Bool) → among n a ≡ b → (ends nx n f (nx a) ≡ true → Seg nx n (nx a) (rows nx n f (nx a)) 0)
+          → Seg nx n a (rows nx n (suc f) a) 0
+      go true d ih =
+          rw (rows-suc nx n f a d)
+          (refl, among-out n a d .low, among-out n a d .high, ih (sym (ends-suc nx n f a d) ∙ e))
       go false d ih = rw (rows-stop nx n (suc f) a d) (eqb-true a 0 (sym (ends-stop nx n (suc f) a d) ∙ e))
 
   pub seg-split : (xs ys : List ℕ) (a c : ℕ) → Seg nx n a (xs ++ ys) c → (b : ℕ) × Seg nx n a xs b × Seg nx n b ys c
@@ -62,12 +75,14 @@ module _ (nx : ℕ → ℕ) (n : ℕ) where
   unfolding lastOr
   retarget nx′ k [] a b b′ s o e f = (s .0, s .1, s .2, e)
   retarget nx′ k (x ∷ ks) a b b′ s o e f =
-      let d : k ≡ lastOr x ks → ⊥ = λ q. (let i : 1 ≤ occ k (x ∷ ks) = rw q (last-in x ks) in omega (arith, o k, occ-same k (x ∷ ks))) in (
+      let d : k ≡ lastOr x ks → ⊥ =
+      λ q. (let i : 1 ≤ occ k (x ∷ ks) = rw q (last-in x ks) in omega (arith, o k, occ-same k (x ∷ ks))) in (
         s .0,
         s .1,
         s .2,
         rw (f k (occ-here k (x ∷ ks)) d)
-            (retarget nx′ x ks (nx k) b b′ (s .3) (λ y. omega (arith, o y, occ-there y k (x ∷ ks))) e (λ y i q. f y (omega (arith, occ-there y k (x ∷ ks))) q)),
+            (retarget nx′ x ks (nx k) b b′ (s .3) (λ y. omega (arith, o y, occ-there y k (x ∷ ks))) e
+            (λ y i q. f y (omega (arith, occ-there y k (x ∷ ks))) q)),
       )
 
   pub seg-first : (rs : List ℕ) (a : ℕ) → Seg nx n a rs 0 → a ≡ first rs
@@ -91,5 +106,7 @@ pub occ-sum : (nx : ℕ → ℕ) (n : ℕ) (rs : List ℕ) (a b : ℕ) → Seg n
 occ-sum nx n [] a b s = none n
 occ-sum nx n (zero ∷ rs) a b s = absurd (omega (arith, s .1))
 occ-sum nx n (suc r ∷ rs) a b s =
-    let u = sum-one (λ i. occ (suc i) (suc r ∷ rs)) (λ i. occ (suc i) rs) n r (omega (arith, s .2)) (λ j p. occ-other (suc j) (suc r) rs (λ e. p (omega arith))) in
+    let u =
+    sum-one (λ i. occ (suc i) (suc r ∷ rs)) (λ i. occ (suc i) rs) n r (omega (arith, s .2))
+    (λ j p. occ-other (suc j) (suc r) rs (λ e. p (omega arith))) in
     omega (arith, u, occ-same (suc r) rs, occ-sum nx n rs (nx (suc r)) b (s .3))

@@ -1,4 +1,4 @@
--- The tests on one word of a row, as the code makes them: f is the word that was read.
+-- The tests on one word of a row, as the code makes them: f is the word that was read. Rests on nothing.
 use Prim.Native.Nat.{ℕ, _≤_, _<_}
 use mathlib.Core.Path.{_≡_, sym, ap, _∙_}
 use mathlib.Core.Bool.{true, false}

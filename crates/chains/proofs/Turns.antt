@@ -1,5 +1,6 @@
--- Unlinking by any test: the loop along chain a whose turns send the rows that pass to chain b. TurnInv is its invariant, for any test on rows:
--- turn-start, turn-ready, turn-again and turn-end answer a caller's loop. Rests on Steps and Frames.
+-- Unlinking by any test: the loop along chain a whose turns send the rows that pass to chain b. TurnInv is its
+-- invariant, for any test on rows: turn-start, turn-ready, turn-again and turn-end answer a caller's loop. Rests on
+-- Steps and Frames.
 use Prim.Native.Nat.{ℕ, _+_, _-_, _≤_, _<_}
 use mathlib.Core.Path.{_≡_, refl, sym, ap, _∙_}
 use mathlib.Core.Bool.{Bool, true, false, cond, false≢true}
@@ -37,8 +38,10 @@ push-miss : (p : ℕ → Bool) (x : ℕ) (xs acc : List ℕ) → p x ≡ false �
 unfolding pushIf
 push-miss p x xs acc e = rw (e, pushIf)
 
--- From words w₀, where chain a was ks before the loop's first place and ys after it: `kept` is what chain a has up to the place, `ahead` what follows
-pub record TurnInv (t : Table) (h : Heads) (test : ℕ → Bool) (w₀ : List ℕ) (a b : ℕ) (ks ys : List ℕ) (w : List ℕ) (place cur left : ℕ) : Type 0 where
+-- From words w₀, where chain a was ks before the loop's first place and ys after it: `kept` is what chain a has up to
+-- the place, `ahead` what follows
+pub record TurnInv (t : Table) (h : Heads) (test : ℕ → Bool) (w₀ : List ℕ) (a b : ℕ) (ks ys : List ℕ) (w : List ℕ)
+    (place cur left : ℕ) : Type 0 where
   pub ready : Ready t h w a b
   pub kept : List ℕ
   pub ahead : List ℕ
@@ -52,11 +55,13 @@ pub record TurnInv (t : Table) (h : Heads) (test : ℕ → Bool) (w₀ : List �
   pub others : (j : ℕ) → j ≤ h .owners → (j ≡ a → ⊥) → (j ≡ b → ⊥) → rowsOf t h w j ≡ rowsOf t h w₀ j
   pub elsewhere : Elsewhere t h w₀ w
 
-ahead-fits : (t : Table) (h : Heads) (w : List ℕ) (a p : ℕ) (ks ys : List ℕ) → partition t h w ≡ true → a ≤ h .owners → Split t h w a p ks ys → length ys ≤ t .count
+ahead-fits : (t : Table) (h : Heads) (w : List ℕ) (a p : ℕ) (ks ys : List ℕ) → partition t h w ≡ true → a ≤ h .owners
+    → Split t h w a p ks ys → length ys ≤ t .count
 ahead-fits t h w a p ks ys s ha sp = omega (arith, on-short t h w s a ha, ap length (sp .parts) ∙ length-append ks ys)
 
 -- the start at a place, and at the head
-pub turn-start-at : {t : Table} {h : Heads} (test : ℕ → Bool) {w : List ℕ} {a b p cur : ℕ} {ks ys : List ℕ} → Ready t h w a b → Split t h w a p ks ys → cur ≡ getD w (afterCell t h a p) 0
+pub turn-start-at : {t : Table} {h : Heads} (test : ℕ → Bool) {w : List ℕ} {a b p cur : ℕ} {ks ys : List ℕ}
+    → Ready t h w a b → Split t h w a p ks ys → cur ≡ getD w (afterCell t h a p) 0
     → TurnInv t h test w a b ks ys w p cur (t .count)
 turn-start-at {t} {h} test {w} {a} {b} {p} {cur} {ks} {ys} rd sp e = record {
   ready = rd;
@@ -73,13 +78,18 @@ turn-start-at {t} {h} test {w} {a} {b} {p} {cur} {ks} {ys} rd sp e = record {
   elsewhere = else-refl t h w;
 }
 
-pub turn-start : {t : Table} {h : Heads} (test : ℕ → Bool) {w : List ℕ} {a b cur : ℕ} → Ready t h w a b → cur ≡ headOf h w a → TurnInv t h test w a b [] (rowsOf t h w a) w 0 cur (t .count)
+pub turn-start : {t : Table} {h : Heads} (test : ℕ → Bool) {w : List ℕ} {a b cur : ℕ} → Ready t h w a b
+    → cur ≡ headOf h w a → TurnInv t h test w a b [] (rowsOf t h w a) w 0 cur (t .count)
 unfolding lastOr
-turn-start {t} {h} test {w} {a} {b} {cur} rd e = turn-start-at test rd (record { parts = refl; last = refl }) (e ∙ sym (after-head t h w a 0 refl))
+turn-start {t} {h} test {w} {a} {b} {cur} rd e =
+    turn-start-at test rd (record { parts = refl; last = refl }) (e ∙ sym (after-head t h w a 0 refl))
 
-module _ {t : Table} {h : Heads} {test : ℕ → Bool} {w₀ : List ℕ} {a b : ℕ} {ks ys : List ℕ} {w : List ℕ} {place cur left : ℕ} (i : TurnInv t h test w₀ a b ks ys w place cur left) {r : Bool} (d : r ≡ more (t .count) left cur) where
+module _ {t : Table} {h : Heads} {test : ℕ → Bool} {w₀ : List ℕ} {a b : ℕ} {ks ys : List ℕ} {w : List ℕ}
+    {place cur left : ℕ} (i : TurnInv t h test w₀ a b ks ys w place cur left) {r : Bool}
+    (d : r ≡ more (t .count) left cur) where
   -- a row's word that is no link word is as before the loop
-  pub turn-field : r ≡ true → (o : ℕ) → o < t .stride → (o ≡ t .off → ⊥) → Ready t h w₀ a b → field t w cur o ≡ field t w₀ cur o
+  pub turn-field : r ≡ true → (o : ℕ) → o < t .stride → (o ≡ t .off → ⊥) → Ready t h w₀ a b
+      → field t w cur o ≡ field t w₀ cur o
   turn-field e o l n rd = field-kept (rd .laid) (i .elsewhere) cur o (more-out (t .count) left cur d e .row .low) l n
 
   split-cur : r ≡ true → (zs : List ℕ) × (i .ahead ≡ cur ∷ zs)
@@ -88,17 +98,26 @@ module _ {t : Table} {h : Heads} {test : ℕ → Bool} {w₀ : List ℕ} {a b : 
   -- what a turn requires
   pub turn-ready : r ≡ true → Ready t h w a b × Follows t h w a place cur
   turn-ready e =
-      let q = split-cur e in
-      (i .ready, record { upto = i .kept; beyond = q .0; split = record { parts = i .here .parts ∙ ap (λ y. i .kept ++ y) (q .1); last = i .here .last } })
+      let q = split-cur e in (
+        i .ready,
+        record {
+          upto = i .kept;
+          beyond = q .0;
+          split = record { parts = i .here .parts ∙ ap (λ y. i .kept ++ y) (q .1); last = i .here .last };
+        },
+      )
 
   next-first : (zs : List ℕ) → i .ahead ≡ cur ∷ zs → link t w cur ≡ first zs
   next-first zs e =
       let R = rep-of t h w (i .ready .parted) in
-      let q = seg-split (link t w) (t .count) (i .kept) (cur ∷ zs) (headOf h w a) 0 (rw (i .here .parts, e) at (R .segs a (omega (arith, i .ready .a-in)))) in
+      let q =
+      seg-split (link t w) (t .count) (i .kept) (cur ∷ zs) (headOf h w a) 0
+      (rw (i .here .parts, e) at (R .segs a (omega (arith, i .ready .a-in)))) in
       seg-first (link t w) (t .count) zs (link t w cur) (q .2 .3)
 
   -- the row passes
-  pub turn-hit : {w′ : List ℕ} {nxt : ℕ} → r ≡ true → nxt ≡ link t w cur → test cur ≡ true → Unlinked t h w w′ a b place cur → TurnInv t h test w₀ a b ks ys w′ place nxt (left - 1)
+  pub turn-hit : {w′ : List ℕ} {nxt : ℕ} → r ≡ true → nxt ≡ link t w cur → test cur ≡ true
+      → Unlinked t h w w′ a b place cur → TurnInv t h test w₀ a b ks ys w′ place nxt (left - 1)
   unfolding Unlinked
   turn-hit {w′} e en k u =
       let q = split-cur e in
@@ -116,13 +135,16 @@ module _ {t : Table} {h : Heads} {test : ℕ → Bool} {w₀ : List ℕ} {a b : 
         fuel = omega (arith, i .fuel);
         met = omega (arith, i .met, i .fit, i .fuel, ap length eq);
         sofar-a = i .sofar-a ∙ ap (λ y. i .kept ++ y) (ap (dropIf test) eq ∙ drop-hit test cur zs k);
-        sofar-b = i .sofar-b ∙ ap (λ y. pushIf test y (rowsOf t h w b)) eq ∙ push-hit test cur zs (rowsOf t h w b) k ∙ ap (pushIf test zs) (sym (c .at-b));
+        sofar-b =
+            i .sofar-b ∙ ap (λ y. pushIf test y (rowsOf t h w b)) eq ∙ push-hit test cur zs (rowsOf t h w b) k
+            ∙ ap (pushIf test zs) (sym (c .at-b));
         others = λ j p x y. c .others j p x y ∙ i .others j p x y;
         elsewhere = else-trans (i .elsewhere) (c .elsewhere);
       }
 
   -- the row does not pass
-  pub turn-miss : {nxt : ℕ} → r ≡ true → nxt ≡ link t w cur → test cur ≡ false → TurnInv t h test w₀ a b ks ys w cur nxt (left - 1)
+  pub turn-miss : {nxt : ℕ} → r ≡ true → nxt ≡ link t w cur → test cur ≡ false
+      → TurnInv t h test w₀ a b ks ys w cur nxt (left - 1)
   turn-miss e en k =
       let q = split-cur e in
       let zs = q .0 in
@@ -131,29 +153,42 @@ module _ {t : Table} {h : Heads} {test : ℕ → Bool} {w₀ : List ℕ} {a b : 
         ready = i .ready;
         kept = i .kept ++ (cur ∷ []);
         ahead = zs;
-        here = record { parts = i .here .parts ∙ ap (λ y. i .kept ++ y) eq ∙ snoc (i .kept) cur zs; last = sym (last-snoc 0 (i .kept) cur) };
+        here = record {
+          parts = i .here .parts ∙ ap (λ y. i .kept ++ y) eq ∙ snoc (i .kept) cur zs;
+          last = sym (last-snoc 0 (i .kept) cur);
+        };
         at-cur = en ∙ next-first zs eq;
         fit = omega (arith, i .fit, ap length eq);
         fuel = omega (arith, i .fuel);
         met = omega (arith, i .met, i .fit, i .fuel, ap length eq);
-        sofar-a = i .sofar-a ∙ ap (λ y. i .kept ++ y) (ap (dropIf test) eq ∙ drop-miss test cur zs k) ∙ snoc (i .kept) cur (dropIf test zs);
+        sofar-a =
+            i .sofar-a ∙ ap (λ y. i .kept ++ y) (ap (dropIf test) eq ∙ drop-miss test cur zs k)
+            ∙ snoc (i .kept) cur (dropIf test zs);
         sofar-b = i .sofar-b ∙ ap (λ y. pushIf test y (rowsOf t h w b)) eq ∙ push-miss test cur zs (rowsOf t h w b) k;
         others = i .others;
         elsewhere = i .elsewhere;
       }
 
   -- a turn of `unlink_turn`, whose verdict is the test's
-  pub turn-again : {w′ : List ℕ} {nxt place′ : ℕ} (hit : Bool) → r ≡ true → nxt ≡ link t w cur → hit ≡ test cur → Turned t h w w′ a b place cur hit place′ → TurnInv t h test w₀ a b ks ys w′ place′ nxt (left - 1)
+  pub turn-again : {w′ : List ℕ} {nxt place′ : ℕ} (hit : Bool) → r ≡ true → nxt ≡ link t w cur → hit ≡ test cur
+      → Turned t h w w′ a b place cur hit place′ → TurnInv t h test w₀ a b ks ys w′ place′ nxt (left - 1)
   turn-again true e en k u = let g = u .taken refl in rw (g .0) (turn-hit e en (sym k) (g .1))
   turn-again false e en k u = let g = u .left refl in rw (g .0, g .1) (turn-miss e en (sym k))
 
   -- how many rows chain a loses in a turn, for a caller that counts them
-  pub turn-count : {w′ : List ℕ} {place′ : ℕ} (hit : Bool) → r ≡ true → Turned t h w w′ a b place cur hit place′ → cond hit 1 0 + length (rowsOf t h w′ a) ≡ length (rowsOf t h w a)
+  pub turn-count : {w′ : List ℕ} {place′ : ℕ} (hit : Bool) → r ≡ true → Turned t h w w′ a b place cur hit place′
+      → cond hit 1 0 + length (rowsOf t h w′ a) ≡ length (rowsOf t h w a)
   unfolding Unlinked
   turn-count true e u =
       let f = turn-ready e .1 in
       let c = u .taken refl .1 (f .upto) (f .beyond) (f .split) in
-      omega (arith, ap length (c .at-a), ap length (f .split .parts), length-append (f .upto) (f .beyond), length-append (f .upto) (cur ∷ f .beyond))
+      omega (
+        arith,
+        ap length (c .at-a),
+        ap length (f .split .parts),
+        length-append (f .upto) (f .beyond),
+        length-append (f .upto) (cur ∷ f .beyond),
+      )
   turn-count false e u = omega (arith, ap (λ y. length (rowsOf t h y a)) (u .left refl .1))
 
   -- the end of the chain: no row is ahead
@@ -165,7 +200,9 @@ module _ {t : Table} {h : Heads} {test : ℕ → Bool} {w₀ : List ℕ} {a b : 
       go [] eq = eq
       go (x ∷ zs) eq =
           let c : cur ≡ x = i .at-cur ∙ ap first eq in
-          let o : 1 ≤ occ x (rowsOf t h w a) = omega (arith, ap (occ x) (i .here .parts) ∙ occ-append x (i .kept) (i .ahead), ap (occ x) eq, occ-here x zs) in
+          let o : 1 ≤ occ x (rowsOf t h w a) =
+          omega
+          (arith, ap (occ x) (i .here .parts) ∙ occ-append x (i .kept) (i .ahead), ap (occ x) eq, occ-here x zs) in
           let row = on-chain t h w (i .ready .parted) a (i .ready .a-in) x o in
           absurd (false≢true (sym e ∙ d ∙ more-in (t .count) left cur (omega (arith, i .fit, ap length eq)) (rw c row)))
 
@@ -182,7 +219,9 @@ module _ {t : Table} {h : Heads} {test : ℕ → Bool} {w₀ : List ℕ} {a b : 
       }
 
 -- the loop from the head: chain a has lost the rows that pass, and chain b has gained them
-pub turn-done : {t : Table} {h : Heads} {test : ℕ → Bool} {w₀ : List ℕ} {a b : ℕ} {w : List ℕ} {place cur left : ℕ} {r : Bool} → TurnInv t h test w₀ a b [] (rowsOf t h w₀ a) w place cur left
+pub turn-done : {t : Table} {h : Heads} {test : ℕ → Bool} {w₀ : List ℕ} {a b : ℕ} {w : List ℕ} {place cur left : ℕ}
+    {r : Bool}
+    → TurnInv t h test w₀ a b [] (rowsOf t h w₀ a) w place cur left
     → r ≡ more (t .count) left cur → r ≡ false → UnlinkedBy test t h w₀ w a b
 turn-done i d e = turn-end i d e
 
@@ -200,10 +239,15 @@ unfolding pushIf everyRow
 push-all [] acc = refl
 push-all (y ∷ ys) acc = push-all ys (y ∷ acc)
 
-module _ {t : Table} {h : Heads} {w₀ : List ℕ} {a b : ℕ} {ks ys : List ℕ} {w : List ℕ} {place cur left : ℕ} (i : TurnInv t h everyRow w₀ a b ks ys w place cur left) {r : Bool} (d : r ≡ more (t .count) left cur) where
-  pub empty-again : {w′ : List ℕ} {nxt : ℕ} → r ≡ true → nxt ≡ link t w cur → Unlinked t h w w′ a b place cur → TurnInv t h everyRow w₀ a b ks ys w′ place nxt (left - 1)
+module _ {t : Table} {h : Heads} {w₀ : List ℕ} {a b : ℕ} {ks ys : List ℕ} {w : List ℕ} {place cur left : ℕ}
+    (i : TurnInv t h everyRow w₀ a b ks ys w place cur left) {r : Bool} (d : r ≡ more (t .count) left cur) where
+  pub empty-again : {w′ : List ℕ} {nxt : ℕ} → r ≡ true → nxt ≡ link t w cur → Unlinked t h w w′ a b place cur
+      → TurnInv t h everyRow w₀ a b ks ys w′ place nxt (left - 1)
   unfolding everyRow
   empty-again e en u = turn-hit i d e en refl u
 
   pub empty-end : r ≡ false → (t .count - left ≡ length ys) × Changed t h w₀ w a b ks (reverseAux ys (rowsOf t h w₀ b))
-  empty-end e = (omega (arith, i .met, ap length (turn-none i d e)), rw (drop-all ys, append-nil ks, push-all ys (rowsOf t h w₀ b)) at (turn-end i d e))
+  empty-end e = (
+    omega (arith, i .met, ap length (turn-none i d e)),
+    rw (drop-all ys, append-nil ks, push-all ys (rowsOf t h w₀ b)) at (turn-end i d e),
+  )

@@ -1,4 +1,5 @@
--- Steps of a walk over any next function: what the rows met are where the code goes on, and where it stops. Rests on specs.Walk.
+-- Steps of a walk over any next function: what the rows met are where the code goes on, and where it stops. Rests on
+-- specs.Walk.
 use Prim.Native.Nat.{ℕ, zero, suc, _-_, _≤_}
 use mathlib.Core.Path.{_≡_, refl, sym, _∙_}
 use mathlib.Core.Bool.{Bool, true, false}
@@ -12,7 +13,8 @@ use Rattle.chains.proofs.Bounded.{both-true}
 
 pub among-out : (n h : ℕ) → among n h ≡ true → IsRow n h
 unfolding among
-among-out n h e = let b = both-true (leb 1 h) (leb h n) e in record { low = leb-true 1 h (b .0); high = leb-true h n (b .1) }
+among-out n h e =
+    let b = both-true (leb 1 h) (leb h n) e in record { low = leb-true 1 h (b .0); high = leb-true h n (b .1) }
 
 pub among-in : (n h : ℕ) → IsRow n h → among n h ≡ true
 unfolding among
@@ -45,7 +47,9 @@ pub record More (n f h : ℕ) : Type 0 where
 
 pub more-out : (n f h : ℕ) {r : Bool} → r ≡ more n f h → r ≡ true → More n f h
 unfolding more
-more-out n f h d e = let b = both-true (leb 1 f) (among n h) (sym d ∙ e) in record { fuel = leb-true 1 f (b .0); row = among-out n h (b .1) }
+more-out n f h d e =
+    let b = both-true (leb 1 f) (among n h) (sym d ∙ e) in
+    record { fuel = leb-true 1 f (b .0); row = among-out n h (b .1) }
 
 pub row-of : (n f h : ℕ) {r : Bool} → r ≡ more n f h → r ≡ true → IsRow n h
 row-of n f h d e = more-out n f h d e .row

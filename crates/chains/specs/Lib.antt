@@ -1,4 +1,5 @@
--- Singly linked chains of rows in a list of words: lists of rows, walks, tables, the partition of a table's rows, changes of two chains.
+-- Singly linked chains of rows in a list of words: lists of rows, walks, tables, the partition of a table's rows,
+-- changes of two chains.
 pub mod Lists
 pub mod Walk
 pub mod Table

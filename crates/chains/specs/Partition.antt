@@ -38,7 +38,8 @@ pub record Clear (m : List ℕ) : Type 0 where
   pub size : length m ≡ 4096
   pub clear : (i : ℕ) → getD m i 0 ≡ 0
 
--- the chain from head has been marked: it ends within room rows, no row of it was marked before or stands on it twice, left rows of the room remain
+-- the chain from head has been marked: it ends within room rows, no row of it was marked before or stands on it twice,
+-- left rows of the room remain
 pub record Marked (t : Table) (w m m′ : List ℕ) (head room left : ℕ) : Type 0 where
   pub ended-in : ends (link t w) (t .count) room head ≡ true
   pub marks : Marks m′
@@ -47,7 +48,8 @@ pub record Marked (t : Table) (w m m′ : List ℕ) (head room left : ℕ) : Typ
 
 -- it cannot be marked: it does not end within the room, or a row is met for the second time
 unfoldable pub Unmarked : Table → List ℕ → List ℕ → ℕ → ℕ → Type 0
-Unmarked t w m head room = (ends (link t w) (t .count) room head ≡ false) ⊎ ((i : ℕ) × (2 ≤ getD m i 0 + occ i (front t w room head)))
+Unmarked t w m head room =
+    (ends (link t w) (t .count) room head ≡ false) ⊎ ((i : ℕ) × (2 ≤ getD m i 0 + occ i (front t w room head)))
 
 -- the check's answer for one chain: 0 if it cannot be marked, and else one more than the room left
 pub record MarkedChain (t : Table) (w m m′ : List ℕ) (head room r : ℕ) : Type 0 where

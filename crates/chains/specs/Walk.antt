@@ -1,5 +1,6 @@
 -- Walks over any next function: nx gives the row after a row, rows are 1 to n, 0 ends a chain.
--- Every walk has fuel, the number of rows it may still meet, so it ends on any links, circular ones too.
+-- Every walk has fuel, the number of rows it may still meet, so it ends on any links, circular ones too. Rests on
+-- nothing.
 use Prim.Native.Nat.{ℕ, zero, suc, _≤_}
 use mathlib.Core.Bool.{Bool, true, false, _&&_}
 use mathlib.Core.List.{List, [], _∷_}

@@ -1,12 +1,14 @@
-// Singly linked chains of rows in a lent slice of words, over any table.
+// Singly linked chains of rows in a lent slice of words, over any table. Rests on nothing.
 //
-// A row's link word holds the number of the next row; 0 ends the chain. The chains of a table are numbered: 0 is the free chain,
-// k + 1 the chain of owner k. The functions are for callers who prove where the table lies (`Lies`, `HeadsLie`, `Laid`), so they have
-// `requires`. Beyond that the read-only functions ask for nothing: on any words, circular chains too, they end and are exact. Mutators also
-// ask that every row is on exactly one chain (`Ready`), and promise the two chains they touch, all others and all other words unchanged,
-// and that every row is still on exactly one chain (`Changed`).
+// A row's link word holds the number of the next row; 0 ends the chain. The chains of a table are numbered: 0 is the
+// free chain, k + 1 the chain of owner k. The functions are for callers who prove where the table lies (`Lies`,
+// `HeadsLie`, `Laid`), so they have `requires`. Beyond that the read-only functions ask for nothing: on any words,
+// circular chains too, they end and are exact. Mutators also ask that every row is on exactly one chain (`Ready`), and
+// promise the two chains they touch, all others and all other words unchanged, and that every row is still on exactly
+// one chain (`Changed`).
 //
-// This file has the types and the access to single words; `queries` walks chains, `partition` checks them, `updates` changes them.
+// This file has the types and the access to single words; `queries` walks chains, `partition` checks them, `updates`
+// changes them.
 mod partition;
 mod queries;
 mod updates;
@@ -30,7 +32,8 @@ ghost use lib.ListN.{getD, set};
 ghost use Rattle.chains.specs.Walk.{IsRow, more};
 ghost use Rattle.chains.specs.Table.{Lies, HeadsLie, Laid, place, field, link, headCell, headOf, afterCell};
 
-// Where a table's rows lie: its first word, the width of a row, the link word's offset in a row, the number of rows. Rows count from 1.
+// Where a table's rows lie: its first word, the width of a row, the link word's offset in a row, the number of rows.
+// Rows count from 1.
 pub struct Table {
     pub base: usize,
     pub stride: usize,
@@ -38,7 +41,8 @@ pub struct Table {
     pub count: usize,
 }
 
-// Where the head words lie: the free chain's, the first owner's, the distance from one owner's to the next, the number of owners.
+// Where the head words lie: the free chain's, the first owner's, the distance from one owner's to the next, the number
+// of owners.
 pub struct Heads {
     pub free: usize,
     pub first: usize,

@@ -1,5 +1,6 @@
-// The exact check that every row is on exactly one chain. One budget of rows serves all chains, and a row met for the second time ends the
-// check, so that on any words it takes at most one step for each row and one for each chain.
+// The exact check that every row is on exactly one chain. One budget of rows serves all chains, and a row met for the
+// second time ends the check, so that on any words it takes at most one step for each row and one for each chain. Rests
+// on lib.rt.
 ghost use mathlib.Core.Path.{_≡_};
 ghost use Prim.Native.Nat.{_≤_};
 ghost use Rattle.chains.specs.Table.{Lies, HeadsLie};
@@ -10,7 +11,8 @@ use crate::head_of;
 use crate::more;
 use crate::next_of;
 
-// Marks the chain from head. Replies one more than what it leaves of the room, or 0 if a row is marked already or the chain does not end within the room.
+// Marks the chain from head. Replies one more than what it leaves of the room, or 0 if a row is marked already or the
+// chain does not end within the room.
 fn mark_chain(w: &[u64], t: Table, head: usize, room: usize, marks: &mut [u8; 4096]) -> usize
     requires { ⌜ Lies t (now w) × (t .count ≤ 4095) × (room ≤ t .count) × Marks (now marks) ⌝ }
     ensures { λ r. ⌜ MarkedChain t (now (w .entry)) (now (marks .entry)) (now (marks .exit)) head room r ⌝ }

@@ -1,5 +1,5 @@
-// Walks along a chain, which read only. `left` is the number of rows that may still be met, so that a circular chain ends too; each result is
-// that of a function of the chain's rows.
+// Walks along a chain, which read only. `left` is the number of rows that may still be met, so that a circular chain
+// ends too; each result is that of a function of the chain's rows. Rests on lib.rt.
 ghost use mathlib.Core.Path.{_≡_};
 ghost use Prim.Native.Nat.{_<_};
 ghost use Rattle.chains.specs.Lists.{allOf, firstOf, lastOr, takeWhile};

@@ -1,9 +1,11 @@
-// Mutators: each changes two chains, a and b, by three stores or by several turns of them.
+// Mutators: each changes two chains, a and b, by three stores or by several turns of them. Rests on lib.rt and
+// `queries`.
 ghost use mathlib.Core.Path.{_≡_};
 ghost use Prim.Native.Nat.{_<_, _≤_};
 ghost use Rattle.chains.specs.Walk.{IsRow};
 ghost use Rattle.chains.specs.Table.{headOf, holds};
-ghost use Rattle.chains.specs.Change.{Ready, Place, Follows, relinked, Moved, Taken, Inserted, InsertedSorted, Unlinked, Turned, UnlinkedBy, Emptied};
+ghost use Rattle.chains.specs.Change.{Ready, Place, Follows, relinked, Moved, Taken, Inserted, InsertedSorted};
+ghost use Rattle.chains.specs.Change.{Unlinked, Turned, UnlinkedBy, Emptied};
 use crate::Heads;
 use crate::Table;
 use crate::get;
@@ -70,7 +72,8 @@ pub fn move_first(w: &mut [u64], t: Table, h: Heads, a: usize, b: usize) -> usiz
     r
 }
 
-// The first row of chain b comes to stand on chain a after the front of rows whose word o is above q. Replies the row, or 0 where chain b is empty.
+// The first row of chain b comes to stand on chain a after the front of rows whose word o is above q. Replies the row,
+// or 0 where chain b is empty.
 pub fn insert_sorted(
     w: &mut [u64],
     t: Table,
@@ -81,7 +84,9 @@ pub fn insert_sorted(
     q: usize,
 ) -> usize
     requires { ⌜ Ready t h (now w) a b × (o < t .stride) ⌝ }
-    ensures { λ r. ⌜ Taken h (now (w .entry)) (now (w .exit)) b r (InsertedSorted t h (now (w .entry)) (now (w .exit)) a b o q r) ⌝ }
+    ensures { λ r. ⌜
+        Taken h (now (w .entry)) (now (w .exit)) b r (InsertedSorted t h (now (w .entry)) (now (w .exit)) a b o q r)
+        ⌝ }
 {
     let r = head_of(w, h, b);
     if r == 0 {

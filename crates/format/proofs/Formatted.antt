@@ -1,4 +1,5 @@
--- Formatted words are well formed, mean the fresh store, and are sound. Rests on Links and on fresh-is-sound of the crate `meaning`.
+-- Formatted words are well formed, mean the fresh store, and are sound. Rests on Links and on fresh-is-sound of the
+-- crate `meaning`.
 use Prim.Native.Nat.{ℕ, zero, suc, _+_, _-_, _*_, _≤_, _<_}
 use mathlib.Core.Path.{_≡_, refl, ap, _∙_}
 use mathlib.Core.Bool.{true}
@@ -15,13 +16,17 @@ use Rattle.meaning.specs.declared.Counts.{Counts}
 use Rattle.meaning.proofs.Lists.{and-in}
 use Rattle.meaning.proofs.SoundParts.{fresh-is-sound}
 use Rattle.tables.specs.Layout as Layout
-use Rattle.tables.specs.Layout.{HEADER, R-FLOOR, S-STATE, S-GENERATION, S-POINT, Fits, sizeOf, slotBase, versionBase, lockBase, accessBase, recordTable, slotTable, versionTable, lockTable, accessTable, versionHeads, lockHeads, accessHeads}
-use Rattle.tables.specs.Decode.{build, recordAt, slotAt, floorOf, recordsOf, editsOf, decodeAt, versionRows, lockRows, accessRows, versionsOf, locksOf, accessesOf}
+use Rattle.tables.specs.Layout.{HEADER, R-FLOOR, S-STATE, S-GENERATION, S-POINT, Fits, sizeOf, slotBase, versionBase}
+use Rattle.tables.specs.Layout.{lockBase, accessBase, recordTable, slotTable, versionTable, lockTable, accessTable}
+use Rattle.tables.specs.Layout.{versionHeads, lockHeads, accessHeads}
+use Rattle.tables.specs.Decode.{build, recordAt, slotAt, floorOf, recordsOf, editsOf, decodeAt, versionRows, lockRows}
+use Rattle.tables.specs.Decode.{accessRows, versionsOf, locksOf, accessesOf}
 use Rattle.tables.specs.Words.{Well, namesRecord, marked, decode, formed, soundWords}
 use Rattle.tables.proofs.Bridge.{well-in}
 use Rattle.tables.proofs.Header.{good-ranged}
 use Rattle.tables.proofs.Places
-use Rattle.format.specs.Format.{headerWords, blankWords, nextFree, linked, formattedWords, FormattedIsSound, FormattedIsFresh}
+use Rattle.format.specs.Format.{headerWords, blankWords, nextFree, linked, formattedWords, FormattedIsSound}
+use Rattle.format.specs.Format.{FormattedIsFresh}
 use Rattle.format.proofs.Laying.{size-least, next-in, linked-size, versions-lie, locks-lie, accesses-lie}
 use Rattle.format.proofs.Links.{linked-below, linked-link, free-parted, free-rows}
 
@@ -31,18 +36,26 @@ zeros zero i = refl
 zeros (suc n) zero = refl
 zeros (suc n) (suc i) = zeros n i
 
-past-header : (c : Counts) (n j : ℕ) → getD (headerWords c ++ replicate n 0) (suc (suc (suc (suc (suc (suc (suc (suc j)))))))) 0 ≡ 0
+past-header : (c : Counts) (n j : ℕ)
+    → getD (headerWords c ++ replicate n 0) (suc (suc (suc (suc (suc (suc (suc (suc j)))))))) 0 ≡ 0
 past-header c n j = zeros n j
 
 blank-zero : (c : Counts) (a : ℕ) → HEADER ≤ a → getD (blankWords c) a 0 ≡ 0
 unfolding blankWords
 blank-zero c a l =
     let e : a ≡ suc (suc (suc (suc (suc (suc (suc (suc (a - HEADER)))))))) = omega arith in
-    ap (λ k. getD (headerWords c ++ replicate (sizeOf c - HEADER) 0) k 0) e ∙ past-header c (sizeOf c - HEADER) (a - HEADER)
+    ap (λ k. getD (headerWords c ++ replicate (sizeOf c - HEADER) 0) k 0) e
+    ∙ past-header c (sizeOf c - HEADER) (a - HEADER)
 
 blank-size : (c : Counts) → length (blankWords c) ≡ sizeOf c
 unfolding blankWords
-blank-size c = omega (arith, length-append (headerWords c) (replicate (sizeOf c - HEADER) 0), length-replicate {A = ℕ} (sizeOf c - HEADER) 0, size-least c)
+blank-size c =
+    omega (
+      arith,
+      length-append (headerWords c) (replicate (sizeOf c - HEADER) 0),
+      length-replicate {A = ℕ} (sizeOf c - HEADER) 0,
+      size-least c,
+    )
 
 -- a list built of one element
 build-same : {A : Type 0} (n : ℕ) (f : ℕ → A) (a : A) → ((i : ℕ) → i < n → f i ≡ a) → build n f ≡ replicate n a
@@ -91,7 +104,8 @@ module _ (c : Counts) where
   zero-word : (a : ℕ) → HEADER ≤ a → a < versionBase c → getD (formattedWords c) a 0 ≡ 0
   zero-word a p q = low a q ∙ blank-zero c a p
 
-  record-zero : (r o : ℕ) → r < c .records → o < recordTable c .stride → field (recordTable c) (formattedWords c) (suc r) o ≡ 0
+  record-zero : (r o : ℕ) → r < c .records → o < recordTable c .stride
+      → field (recordTable c) (formattedWords c) (suc r) o ≡ 0
   unfolding field
   record-zero r o l p =
       let b = Places.record-word c (suc r) o (record { low = omega arith; high = omega arith }) p in
@@ -104,38 +118,53 @@ module _ (c : Counts) where
       zero-word (place (slotTable c) k o) (omega (arith, b .0, Places.bases c .0)) (b .1)
 
   -- links
-  version-links : (i : ℕ) → IsRow (versionTable c .count) i → link (versionTable c) (formattedWords c) i ≡ nextFree (versionTable c .count) i
+  version-links : (i : ℕ) → IsRow (versionTable c .count) i
+      → link (versionTable c) (formattedWords c) i ≡ nextFree (versionTable c .count) i
   unfolding field linked
   version-links i l =
       let p = Places.version-word c i (versionTable c .off) l (versions-lie c (blankWords c) (blank-size c) .within) in
       let b = Places.bases c in
-      below-access (place (versionTable c) i (versionTable c .off)) (omega (arith, p .1, b .3)) ∙ below-lock (place (versionTable c) i (versionTable c .off)) (p .1)
-      ∙ linked-link (versionTable c) (blankWords c) (versions-lie c (blankWords c) (blank-size c)) (versionTable c .count) (omega arith) i (l .low) (l .high)
+      below-access (place (versionTable c) i (versionTable c .off)) (omega (arith, p .1, b .3))
+      ∙ below-lock (place (versionTable c) i (versionTable c .off)) (p .1)
+      ∙ linked-link (versionTable c) (blankWords c) (versions-lie c (blankWords c) (blank-size c))
+      (versionTable c .count) (omega arith) i (l .low) (l .high)
 
-  lock-links : (i : ℕ) → IsRow (lockTable c .count) i → link (lockTable c) (formattedWords c) i ≡ nextFree (lockTable c .count) i
+  lock-links : (i : ℕ) → IsRow (lockTable c .count) i
+      → link (lockTable c) (formattedWords c) i ≡ nextFree (lockTable c .count) i
   unfolding field linked
   lock-links i l =
       let p = Places.lock-word c i (lockTable c .off) l (locks-lie c first first-size .within) in
       below-access (place (lockTable c) i (lockTable c .off)) (p .1)
-      ∙ linked-link (lockTable c) first (locks-lie c first first-size) (lockTable c .count) (omega arith) i (l .low) (l .high)
+      ∙ linked-link (lockTable c) first (locks-lie c first first-size) (lockTable c .count) (omega arith) i (l .low)
+      (l .high)
 
-  access-links : (i : ℕ) → IsRow (accessTable c .count) i → link (accessTable c) (formattedWords c) i ≡ nextFree (accessTable c .count) i
+  access-links : (i : ℕ) → IsRow (accessTable c .count) i
+      → link (accessTable c) (formattedWords c) i ≡ nextFree (accessTable c .count) i
   unfolding formattedWords linked
-  access-links i l = linked-link (accessTable c) second (accesses-lie c second second-size) (accessTable c .count) (omega arith) i (l .low) (l .high)
+  access-links i l =
+      linked-link (accessTable c) second (accesses-lie c second second-size) (accessTable c .count) (omega arith) i
+      (l .low) (l .high)
 
   -- the header
   head-low : (a : ℕ) → a < HEADER → a < versionBase c
   unfolding versionBase
   head-low a l = omega arith
 
-  header-word : (a : ℕ) → a < HEADER → getD (formattedWords c) a 0 ≡ getD (headerWords c ++ replicate (sizeOf c - HEADER) 0) a 0
+  header-word : (a : ℕ) → a < HEADER
+      → getD (formattedWords c) a 0 ≡ getD (headerWords c ++ replicate (sizeOf c - HEADER) 0) a 0
   unfolding blankWords
   header-word a l = low a (head-low a l)
 
   counts-kept : Layout.countsOf (formattedWords c) ≡ c
   unfolding Layout.countsOf
   counts-kept =
-      rw (header-word 0 (omega arith), header-word 1 (omega arith), header-word 2 (omega arith), header-word 3 (omega arith), header-word 4 (omega arith)) refl
+      rw (
+        header-word 0 (omega arith),
+        header-word 1 (omega arith),
+        header-word 2 (omega arith),
+        header-word 3 (omega arith),
+        header-word 4 (omega arith),
+      ) refl
 
   -- heads
   first-free : (n : ℕ) → 1 ≤ n → _≡_ {A = ℕ} 1 (nextFree n 0)
@@ -172,7 +201,8 @@ module _ (c : Counts) where
     -- rows in use: none
     no-versions : (r : ℕ) → r < c .records → versionRows c (formattedWords c) r ≡ []
     unfolding versionRows versionHeads
-    no-versions r l = free-rows (versionTable c) (versionHeads c) (formattedWords c) version-links version-free version-heads r l
+    no-versions r l =
+        free-rows (versionTable c) (versionHeads c) (formattedWords c) version-links version-free version-heads r l
 
     no-locks : (r : ℕ) → r < c .records → lockRows c (formattedWords c) r ≡ []
     unfolding lockRows lockHeads
@@ -181,16 +211,20 @@ module _ (c : Counts) where
     no-accesses : (k : ℕ) → IsRow (c .edits) k → accessRows c (formattedWords c) k ≡ []
     unfolding accessRows accessHeads
     no-accesses zero l = absurd (omega (arith, l .low))
-    no-accesses (suc k) l = free-rows (accessTable c) (accessHeads c) (formattedWords c) access-links access-free access-heads k (omega (arith, l .high))
+    no-accesses (suc k) l =
+        free-rows (accessTable c) (accessHeads c) (formattedWords c) access-links access-free access-heads k
+        (omega (arith, l .high))
 
     pub formatted-well : Well c (formattedWords c)
     unfolding allOf
     formatted-well =
         record {
           fits = fits;
-          versions-parted = free-parted (versionTable c) (versionHeads c) (formattedWords c) version-links version-free version-heads;
+          versions-parted =
+              free-parted (versionTable c) (versionHeads c) (formattedWords c) version-links version-free version-heads;
           locks-parted = free-parted (lockTable c) (lockHeads c) (formattedWords c) lock-links lock-free lock-heads;
-          accesses-parted = free-parted (accessTable c) (accessHeads c) (formattedWords c) access-links access-free access-heads;
+          accesses-parted =
+              free-parted (accessTable c) (accessHeads c) (formattedWords c) access-links access-free access-heads;
           named = λ r l. ap (allOf (namesRecord c (formattedWords c) r)) (no-locks r l);
           marks = λ k p q. ap (allOf (marked c (formattedWords c))) (no-accesses k (record { low = p; high = q }));
         }
@@ -202,14 +236,21 @@ module _ (c : Counts) where
 
     fresh-slot : (k : ℕ) → IsRow (c .edits) k → slotAt c (formattedWords c) k ≡ freshEdit
     unfolding slotAt accessesOf slotTable
-    fresh-slot k l = rw (no-accesses k l, slot-zero k S-STATE l (omega arith), slot-zero k S-GENERATION l (omega arith), slot-zero k S-POINT l (omega arith)) refl
+    fresh-slot k l =
+        rw (
+          no-accesses k l,
+          slot-zero k S-STATE l (omega arith),
+          slot-zero k S-GENERATION l (omega arith),
+          slot-zero k S-POINT l (omega arith),
+        ) refl
 
     decoded : decodeAt c (formattedWords c) ≡ fresh c
     unfolding decodeAt recordsOf editsOf
     decoded =
         rw (
           build-same (c .records) (recordAt c (formattedWords c)) freshRec fresh-record,
-          build-same (c .edits) (λ i. slotAt c (formattedWords c) (suc i)) freshEdit (λ i l. fresh-slot (suc i) (record { low = omega arith; high = omega arith })),
+          build-same (c .edits) (λ i. slotAt c (formattedWords c) (suc i)) freshEdit
+              (λ i l. fresh-slot (suc i) (record { low = omega arith; high = omega arith })),
         ) refl
 
 pub formatted-fresh : FormattedIsFresh
@@ -218,4 +259,6 @@ formatted-fresh c g = ap (λ d. decodeAt d (formattedWords c)) (counts-kept c) �
 
 pub formatted-sound : FormattedIsSound
 unfolding soundWords
-formatted-sound c g = and-in (well-in c (formattedWords c) (formatted-well c g)) (ap soundStore (formatted-fresh c g) ∙ fresh-is-sound c g)
+formatted-sound c g =
+    and-in (well-in c (formattedWords c) (formatted-well c g))
+    (ap soundStore (formatted-fresh c g) ∙ fresh-is-sound c g)

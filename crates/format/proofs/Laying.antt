@@ -15,7 +15,8 @@ use Rattle.meaning.specs.Records.{goodCounts}
 use Rattle.meaning.specs.declared.Counts.{Counts}
 use Rattle.meaning.proofs.Lists.{and-left, and-right}
 use Rattle.tables.proofs.Header.{good-ranged}
-use Rattle.tables.specs.Layout.{HEADER, Ranged, sizeOf, versionBase, lockBase, accessBase, versionTable, lockTable, accessTable}
+use Rattle.tables.specs.Layout.{HEADER, Ranged, sizeOf, versionBase, lockBase, accessBase, versionTable, lockTable}
+use Rattle.tables.specs.Layout.{accessTable}
 use Rattle.format.specs.Format.{headerWords, blankWords, nextFree, linkedTo, linked, formatFits}
 
 -- the first i words are 0
@@ -38,19 +39,24 @@ clear-again {w₀} {i} {w} v l =
       size = length-set w i 0 ∙ v .size;
       words =
           ap (λ x. set x i 0) (v .words ∙ ap (λ x. replicate i 0 ++ x) (drop-cons w₀ i 0 l))
-          ∙ set-at (replicate i 0) (getD w₀ i 0) (drop (suc i) w₀) 0 i (length-replicate i 0) ∙ one-more i (drop (suc i) w₀);
+          ∙ set-at (replicate i 0) (getD w₀ i 0) (drop (suc i) w₀) 0 i (length-replicate i 0)
+          ∙ one-more i (drop (suc i) w₀);
     })
 
 pub clear-done : {w₀ : List ℕ} {i : ℕ} {w : List ℕ} → Cleared w₀ i w → length w₀ ≤ i → w ≡ replicate (length w₀) 0
 clear-done {w₀} {i} {w} v l =
     let e : i ≡ length w₀ = omega (arith, v .upto) in
-    v .words ∙ ap (λ k. replicate k 0 ++ drop k w₀) e ∙ ap (λ x. replicate (length w₀) 0 ++ x) (drop-length w₀) ∙ append-nil (replicate (length w₀) 0)
+    v .words ∙ ap (λ k. replicate k 0 ++ drop k w₀) e ∙ ap (λ x. replicate (length w₀) 0 ++ x) (drop-length w₀)
+    ∙ append-nil (replicate (length w₀) 0)
 
 -- the header over zeros
-blank-at : (c : Counts) (k : ℕ) → sets (replicate (suc (suc (suc (suc (suc (suc (suc (suc k)))))))) 0) 0 (headerWords c) ≡ headerWords c ++ replicate k 0
+blank-at : (c : Counts) (k : ℕ)
+    → sets (replicate (suc (suc (suc (suc (suc (suc (suc (suc k)))))))) 0) 0 (headerWords c)
+    ≡ headerWords c ++ replicate k 0
 blank-at c k = refl
 
-pub blank-is : (c : Counts) (n : ℕ) → HEADER ≤ n → sets (replicate n 0) 0 (headerWords c) ≡ headerWords c ++ replicate (n - HEADER) 0
+pub blank-is : (c : Counts) (n : ℕ) → HEADER ≤ n
+    → sets (replicate n 0) 0 (headerWords c) ≡ headerWords c ++ replicate (n - HEADER) 0
 blank-is c n l =
     let e : n ≡ suc (suc (suc (suc (suc (suc (suc (suc (n - HEADER)))))))) = omega arith in
     ap (λ k. sets (replicate k 0) 0 (headerWords c)) e ∙ blank-at c (n - HEADER)
@@ -87,7 +93,8 @@ pub link-start : (t : Table) (w : List ℕ) → Linking t w 0 w
 unfolding linkedTo
 link-start t w = record { upto = omega arith; size = refl; words = refl }
 
-pub link-again : {t : Table} {w₀ : List ℕ} {i : ℕ} {w w′ : List ℕ} {x : ℕ} → Linking t w₀ i w → i < t .count → x ≡ nextFree (t .count) (i + 1) → w′ ≡ set w (place t (i + 1) (t .off)) x → Linking t w₀ (i + 1) w′
+pub link-again : {t : Table} {w₀ : List ℕ} {i : ℕ} {w w′ : List ℕ} {x : ℕ} → Linking t w₀ i w → i < t .count
+    → x ≡ nextFree (t .count) (i + 1) → w′ ≡ set w (place t (i + 1) (t .off)) x → Linking t w₀ (i + 1) w′
 unfolding linkedTo
 link-again {t} {w₀} {i} {w} {w′} {x} v l e p =
     let o : w′ ≡ linkedTo t (suc i) w₀ = p ∙ rw (e, v .words, add-one) refl in
@@ -117,4 +124,7 @@ module _ (c : Counts) (w : List ℕ) (e : length w ≡ sizeOf c) where
 -- Format goes ahead
 pub fits-out : (c : Counts) (n : ℕ) → formatFits c n ≡ true → Ranged c × (n ≡ sizeOf c)
 unfolding formatFits
-fits-out c n e = (good-ranged c (and-left (goodCounts c) (eqb n (sizeOf c)) e), eqb-true n (sizeOf c) (and-right (goodCounts c) (eqb n (sizeOf c)) e))
+fits-out c n e = (
+  good-ranged c (and-left (goodCounts c) (eqb n (sizeOf c)) e),
+  eqb-true n (sizeOf c) (and-right (goodCounts c) (eqb n (sizeOf c)) e),
+)

@@ -1,5 +1,5 @@
--- Free rows linked in rising order: they are the free chain, every row once, and the other chains are empty. Rests on Segments and Words of
--- `chains`.
+-- Free rows linked in rising order: they are the free chain, every row once, and the other chains are empty. Rests on
+-- Segments and Words of `chains`.
 use Prim.Native.Nat.{ℕ, zero, suc, _+_, _≤_, _<_}
 use mathlib.Core.Path.{_≡_, refl, sym, _∙_}
 use mathlib.Core.Bool.{true}
@@ -27,10 +27,12 @@ pub linked-below : (t : Table) (m : ℕ) (w : List ℕ) (a : ℕ) → a < t .bas
 unfolding linkedTo
 linked-below t zero w a l = refl
 linked-below t (suc m) w a l =
-    getD-set-other (linkedTo t m w) (linkCell t (suc m)) a (nextFree (t .count) (suc m)) 0 (λ e. omega (arith, base-le t (suc m) (t .off)))
+    getD-set-other (linkedTo t m w) (linkCell t (suc m)) a (nextFree (t .count) (suc m)) 0
+    (λ e. omega (arith, base-le t (suc m) (t .off)))
     ∙ linked-below t m w a l
 
-pub linked-link : (t : Table) (w : List ℕ) → Lies t w → (m : ℕ) → m ≤ t .count → (i : ℕ) → 1 ≤ i → i ≤ m → link t (linkedTo t m w) i ≡ nextFree (t .count) i
+pub linked-link : (t : Table) (w : List ℕ) → Lies t w → (m : ℕ) → m ≤ t .count → (i : ℕ) → 1 ≤ i → i ≤ m
+    → link t (linkedTo t m w) i ≡ nextFree (t .count) i
 unfolding linkedTo
 linked-link t w s zero l i p q = absurd (omega arith)
 linked-link t w s (suc m) l i p q = go (ℕ-discrete i (suc m)) (linked-link t w s m (omega arith) i p)
@@ -38,10 +40,14 @@ linked-link t w s (suc m) l i p q = go (ℕ-discrete i (suc m)) (linked-link t w
     lies : Lies t (linkedTo t m w)
     lies = record { inside = omega (arith, s .inside, linked-size t m w); within = s .within }
 
-    go : Dec (i ≡ suc m) → (i ≤ m → link t (linkedTo t m w) i ≡ nextFree (t .count) i) → link t (linkedTo t (suc m) w) i ≡ nextFree (t .count) i
-    go (yes e) ih = rw e (field-same t (linkedTo t m w) (suc m) (t .off) (nextFree (t .count) (suc m)) lies (record { low = omega arith; high = l }) (s .within))
+    go : Dec (i ≡ suc m) → (i ≤ m → link t (linkedTo t m w) i ≡ nextFree (t .count) i)
+        → link t (linkedTo t (suc m) w) i ≡ nextFree (t .count) i
+    go (yes e) ih =
+        rw e (field-same t (linkedTo t m w) (suc m) (t .off) (nextFree (t .count) (suc m)) lies
+        (record { low = omega arith; high = l }) (s .within))
     go (no e) ih =
-        field-other t (linkedTo t m w) (suc m) i (t .off) (t .off) (nextFree (t .count) (suc m)) (omega arith) p (s .within) (s .within) (λ z. e (z .0))
+        field-other t (linkedTo t m w) (suc m) i (t .off) (t .off) (nextFree (t .count) (suc m)) (omega arith) p
+        (s .within) (s .within) (λ z. e (z .0))
         ∙ ih (omega arith)
 
 -- m rows from j on
@@ -67,7 +73,8 @@ module _ (nx : ℕ → ℕ) (n : ℕ) (links : (i : ℕ) → IsRow n i → nx i 
 rising-other : (x j m : ℕ) → x < j → occ x (rising j m) ≡ 0
 unfolding rising
 rising-other x j zero l = occ-nil x
-rising-other x j (suc m) l = occ-other x j (rising (suc j) m) (λ e. omega arith) ∙ rising-other x (suc j) m (omega arith)
+rising-other x j (suc m) l =
+    occ-other x j (rising (suc j) m) (λ e. omega arith) ∙ rising-other x (suc j) m (omega arith)
 
 rising-once : (x j m : ℕ) → j ≤ x → x < j + m → occ x (rising j m) ≡ 1
 unfolding rising
@@ -88,7 +95,9 @@ unfolding sumTo
 none zero x = refl
 none (suc m) x = omega (arith, none m x, occ-nil x)
 
-module _ (t : Table) (h : Heads) (w : List ℕ) (links : (i : ℕ) → IsRow (t .count) i → link t w i ≡ nextFree (t .count) i) (free : headOf h w 0 ≡ nextFree (t .count) 0) (others : (k : ℕ) → k < h .owners → headOf h w (suc k) ≡ 0) where
+module _ (t : Table) (h : Heads) (w : List ℕ)
+    (links : (i : ℕ) → IsRow (t .count) i → link t w i ≡ nextFree (t .count) i)
+    (free : headOf h w 0 ≡ nextFree (t .count) 0) (others : (k : ℕ) → k < h .owners → headOf h w (suc k) ≡ 0) where
   all-free : WordsRep t h w (freeChains (t .count))
   unfolding freeChains
   all-free = record { segs = segs; once = once }
@@ -99,7 +108,12 @@ module _ (t : Table) (h : Heads) (w : List ℕ) (links : (i : ℕ) → IsRow (t 
 
       once : (i : ℕ) → i < t .count → sumTo (suc (h .owners)) (λ k. occ (suc i) (freeChains (t .count) k)) ≡ 1
       once i l =
-          omega (arith, sum-head (h .owners) (λ k. occ (suc i) (freeChains (t .count) k)), none (h .owners) (suc i), rising-once (suc i) 1 (t .count) (omega arith) (omega arith))
+          omega (
+            arith,
+            sum-head (h .owners) (λ k. occ (suc i) (freeChains (t .count) k)),
+            none (h .owners) (suc i),
+            rising-once (suc i) 1 (t .count) (omega arith) (omega arith),
+          )
 
   pub free-parted : partition t h w ≡ true
   free-parted = rep-part t h w all-free

@@ -1,4 +1,5 @@
--- What Format leaves: every word of a formatted slice, when Format is refused, and the two laws about it. Rests on Words of the crate `tables`.
+-- What Format leaves: every word of a formatted slice, when Format is refused, and the two laws about it. Rests on
+-- Words of the crate `tables`.
 use Prim.Native.Nat.{ℕ, zero, suc, _-_}
 use mathlib.Core.Path.{_≡_}
 use mathlib.Core.Bool.{Bool, true, false, cond, _&&_}
@@ -11,16 +12,19 @@ use Rattle.meaning.specs.Records.{goodCounts}
 use Rattle.meaning.specs.Replies.{Reply, ok, refusing}
 use Rattle.meaning.specs.Store.{fresh}
 use Rattle.meaning.specs.declared.Counts.{Counts}
-use Rattle.tables.specs.Layout.{HEADER, H-RECORDS, H-EDITS, H-VERSIONS, H-LOCKS, H-ACCESSES, FREE-VERSION, FREE-LOCK, FREE-ACCESS, sizeOf, versionTable, lockTable, accessTable}
+use Rattle.tables.specs.Layout.{HEADER, H-RECORDS, H-EDITS, H-VERSIONS, H-LOCKS, H-ACCESSES, FREE-VERSION, FREE-LOCK}
+use Rattle.tables.specs.Layout.{FREE-ACCESS, sizeOf, versionTable, lockTable, accessTable}
 use Rattle.tables.specs.Words.{lent, decode, soundWords}
 
--- "Format writes the counts, free chains in rising order, and zero elsewhere": the header, with row 1 first on each free chain
+-- "Format writes the counts, free chains in rising order, and zero elsewhere": the header, with row 1 first on each
+-- free chain
 abbrev pub freeFirst : List ℕ → List ℕ
 freeFirst w = set (set (set w FREE-VERSION 1) FREE-LOCK 1) FREE-ACCESS 1
 
 abbrev pub withCounts : Counts → List ℕ → List ℕ
 withCounts c w =
-    set (set (set (set (set w H-RECORDS (c .records)) H-EDITS (c .edits)) H-VERSIONS (c .versions)) H-LOCKS (c .locks)) H-ACCESSES (c .accesses)
+    set (set (set (set (set w H-RECORDS (c .records)) H-EDITS (c .edits)) H-VERSIONS (c .versions)) H-LOCKS (c .locks))
+    H-ACCESSES (c .accesses)
 
 abbrev pub headerWords : Counts → List ℕ
 headerWords c = freeFirst (withCounts c (replicate HEADER 0))

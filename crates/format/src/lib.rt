@@ -1,4 +1,5 @@
-// The call Format: it lays out a store in a lent slice, whatever the slice held, or refuses and leaves every word as it was.
+// The call Format: it lays out a store in a lent slice, whatever the slice held, or refuses and leaves every word as it
+// was. Rests on the crates `meaning`, `chains` and `tables`.
 ghost use mathlib.Core.Path.{_≡_};
 ghost use Prim.Native.Nat.{_≤_, _<_};
 ghost use lib.ListN.{length, replicate};

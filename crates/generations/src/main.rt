@@ -6,40 +6,28 @@ use meaning::BeginReply;
 use meaning::Call;
 use meaning::Finish;
 use printing::Line;
-use store::Answer;
 
 // The words of slot 1 in the store 2 2 4 8 8.
 const SLOT_1: usize = tables::HEADER + 2 * tables::RECORD;
 
 fn performed(words: &mut [u64; 118], call: Call) -> Line {
-    let answer = store::perform(words, call);
-    match answer {
-        Answer::Begin(r) => printing::line_of_begin(r),
-        Answer::Write(r) => printing::line_of_write(r),
-        Answer::Lock(r) => printing::line_of_lock(r),
-        Answer::Read(r) => printing::line_of_read(r),
-        Answer::Commit(r) => printing::line_of_commit(r),
-        Answer::Abort(r) => printing::line_of_abort(r),
-        Answer::Settle(r) => printing::line_of_settle(r),
-        Answer::Purge(r) => printing::line_of_purge(r),
-        Answer::View(r) => printing::line_of_view(r),
-    }
+    rendering::line_of_answer(store::perform(words, call))
 }
 
 // The first n bytes.
 fn print_bytes(out: &[u8], n: usize) {
-    if n <= 80 {
+    if n <= printing::WIDTH {
         let k = io::count(n as isize, out);
         io::write_all(1, &out[..k]);
     }
 }
 
-fn print_out(out: &[u8; 80], n: usize) {
+fn print_out(out: &[u8; printing::WIDTH], n: usize) {
     print_bytes(out, n);
 }
 
 fn print_line(l: Line) {
-    let mut out = [0u8; 80];
+    let mut out = [0u8; printing::WIDTH];
     let n = printing::print(l, &mut out);
     print_out(&out, n);
 }

@@ -25,11 +25,19 @@ iff P q = (subst P q, subst P (sym q))
 -- more locks lock more points
 module _ {ls ms : List Lock} (more : (l : Lock) → l ∈ ls → l ∈ ms) where
   pub held-more : {o p : ℕ} → HeldOn ls o p → HeldOn ms o p
-  held-more h = record { lock = h .lock; member = more (h .lock) (h .member); owned = h .owned; from = h .from; upto = h .upto }
+  held-more h =
+      record { lock = h .lock; member = more (h .lock) (h .member); owned = h .owned; from = h .from; upto = h .upto }
 
   pub locked-more : {o m p : ℕ} → LockOn ls o m p → LockOn ms o m p
   locked-more h =
-      record { lock = h .lock; member = more (h .lock) (h .member); owned = h .owned; moded = h .moded; from = h .from; upto = h .upto }
+      record {
+        lock = h .lock;
+        member = more (h .lock) (h .member);
+        owned = h .owned;
+        moded = h .moded;
+        from = h .from;
+        upto = h .upto;
+      }
 
 -- the same floor and versions, and all the locks
 pub record Locked (x x′ : Rec) : Type 0 where
@@ -92,7 +100,8 @@ module _ (a : Access) where
   abbrev put : List Access → List Access
   put acc = map (λ b. cond (isOf (a .rec) b) a b) acc
 
-  find-put : (acc : List Access) → any (isOf (a .rec)) acc ≡ true → find (isOf (a .rec)) (noAccess (a .rec)) (put acc) ≡ a
+  find-put : (acc : List Access) → any (isOf (a .rec)) acc ≡ true
+      → find (isOf (a .rec)) (noAccess (a .rec)) (put acc) ≡ a
   find-put [] h = absurd (not-both h refl)
   find-put (y ∷ acc) h = go (test (isOf (a .rec) y)) (find-put acc)
     where
@@ -102,7 +111,8 @@ module _ (a : Access) where
       go (inl q) ih = rw q (rw (eq-eqb (a .rec) (a .rec) refl))
       go (inr q) ih = rw q (rw q (ih (rw q at h)))
 
-  find-apart : (j : ℕ) → ¬ (j ≡ a .rec) → (acc : List Access) → find (isOf j) (noAccess j) (put acc) ≡ find (isOf j) (noAccess j) acc
+  find-apart : (j : ℕ) → ¬ (j ≡ a .rec) → (acc : List Access)
+      → find (isOf j) (noAccess j) (put acc) ≡ find (isOf j) (noAccess j) acc
   find-apart j n [] = refl
   find-apart j n (y ∷ acc) = go (test (isOf (a .rec) y)) (find-apart j n acc)
     where

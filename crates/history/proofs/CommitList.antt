@@ -7,7 +7,8 @@ use mathlib.Core.Logic.{_⊎_, inl, inr, _↔_}
 use mathlib.Core.Bool.{Bool, true, false, cond}
 use lib.Dec.{eqb}
 use borrow.Author.Tests.{eq-eqb}
-use Rattle.serial.specs.Serializable.{Seq, ε, _▸_, _∈_, Operation, wrote, read, commits, begun, call, other, History, editOf, callsOf, Commits}
+use Rattle.serial.specs.Serializable.{Seq, ε, _▸_, _∈_, Operation, wrote, read, commits, begun, call, other, History}
+use Rattle.serial.specs.Serializable.{editOf, callsOf, Commits}
 use Rattle.serial.specs.Serializable.{Rises, CommitOrder}
 use Rattle.serial.proofs.Memory.{commits-wrote, commits-read}
 use Rattle.serial.proofs.Names.{last-call, no-commit}
@@ -18,7 +19,8 @@ module _ {X : Type 0} where
   commit-is q = cc
 
   -- an older call of e is still one
-  older : (l : History X) (h : ℕ) (c : Operation X) (e t : ℕ) → commits t ∈ callsOf l e → commits t ∈ callsOf (l ▸ call h c) e
+  older : (l : History X) (h : ℕ) (c : Operation X) (e t : ℕ) → commits t ∈ callsOf l e
+      → commits t ∈ callsOf (l ▸ call h c) e
   older l h c e t i = go (eqb e (editOf l h))
     where
       go : (b : Bool) → commits t ∈ cond b (callsOf l e ▸ c) (callsOf l e)
@@ -73,7 +75,10 @@ module _ {X : Type 0} where
       one-of i u c = is i u .0 (commits-listed l i u .0 c .1)
 
       in-order : p ≤ t → CommitOrder l (ε ▸ d ▸ e)
-      in-order rises = record { each = λ i. (out i, λ c. into i (c .0) (one-of i (c .0) (c .1))); rises = ((tt, λ i m. absurd m), later) }
+      in-order rises = record {
+        each = λ i. (out i, λ c. into i (c .0) (one-of i (c .0) (c .1)));
+        rises = ((tt, λ i m. absurd m), later);
+      }
         where
           out : (i : ℕ) → i ∈ (ε ▸ d ▸ e) → (u : ℕ) × Commits l i u
           out i (inl (inl z)) = absurd z
@@ -95,8 +100,10 @@ module _ {X : Type 0} where
 
           later : (i : ℕ) → i ∈ (ε ▸ d) → ¬ (i ≡ e) × ((u v : ℕ) → Commits l i u → Commits l e v → u ≤ v)
           later i (inl z) = absurd z
-          later i (inr q) =
-              (λ z. apart (sym q ∙ z), λ u v a b. omega (arith, rises, at-d u (one-of d u (rw q at a)), at-e v (one-of e v b)))
+          later i (inr q) = (
+            λ z. apart (sym q ∙ z),
+            λ u v a b. omega (arith, rises, at-d u (one-of d u (rw q at a)), at-e v (one-of e v b)),
+          )
 
       -- every order has the two, each once
       abbrev Which : ℕ → Type 0
@@ -106,7 +113,8 @@ module _ {X : Type 0} where
       which-of (inl q) = inl (q .0)
       which-of (inr q) = inr (q .0)
 
-      pair-only : (a b : ℕ) → Which a → Which b → ¬ (a ≡ b) → ((u v : ℕ) → Commits l a u → Commits l b v → u ≤ v) → Orders (ε ▸ a ▸ b)
+      pair-only : (a b : ℕ) → Which a → Which b → ¬ (a ≡ b) → ((u v : ℕ) → Commits l a u → Commits l b v → u ≤ v)
+          → Orders (ε ▸ a ▸ b)
       pair-only a b (inl x) (inl y) z r = absurd (z (x ∙ sym y))
       pair-only a b (inl x) (inr y) z r = inl (rw (x, y) refl, r p t (rw x d-commits) (rw y e-commits))
       pair-only a b (inr x) (inl y) z r = inr (rw (x, y) refl, r t p (rw x e-commits) (rw y d-commits))
@@ -129,13 +137,15 @@ module _ {X : Type 0} where
           pair-only a b (w a (inl (inr refl))) (w b (inr refl)) (r .1 a (inr refl) .0) (r .1 a (inr refl) .1)
       both-only (o ▸ a ▸ b ▸ c) r w m n =
           absurd (
-          not-three (w a (inl (inl (inr refl)))) (w b (inl (inr refl))) (w c (inr refl)) (r .0 .1 a (inr refl) .0) (r .1 a (inl (inr refl)) .0)
+          not-three (w a (inl (inl (inr refl)))) (w b (inl (inr refl))) (w c (inr refl)) (r .0 .1 a (inr refl) .0)
+          (r .1 a (inl (inr refl)) .0)
           (r .1 b (inr refl) .0)
           )
 
       orders-are : (o : Seq ℕ) → CommitOrder l o → Orders o
       orders-are o c =
-          both-only o (c .rises) (λ i m. let x = c .each i .0 m in which-of (one-of i (x .0) (x .1))) (c .each d .1 (p, d-commits))
+          both-only o (c .rises) (λ i m. let x = c .each i .0 m in which-of (one-of i (x .0) (x .1)))
+          (c .each d .1 (p, d-commits))
           (c .each e .1 (t, e-commits))
 
   -- the list of the two, in one order or the other

@@ -25,9 +25,16 @@ unfolding viewing
 view-same r p s = unless-keeps (λ (t : Store). t ≡ s) s (viewChecks s r p) (replies s _) refl (λ e. refl)
 
 module _ (Lent : Type 0) (decode : Lent → Store) (soundLent : Lent → Bool) where
-  pub view-does : (r p : ℕ) {w : Lent} {q : Reply} → Shows Lent decode soundLent (viewing r p) w q → Does Lent decode soundLent (viewing r p) w w q
+  pub view-does : (r p : ℕ) {w : Lent} {q : Reply} → Shows Lent decode soundLent (viewing r p) w q
+      → Does Lent decode soundLent (viewing r p) w w q
   view-does r p {w} d =
-      record { unsound = d .unsound; reply = d .reply; store = λ h. sym (view-same r p (decode w)); stays = λ h. h; unchanged = λ h. refl }
+      record {
+        unsound = d .unsound;
+        reply = d .reply;
+        store = λ h. sym (view-same r p (decode w));
+        stays = λ h. h;
+        unchanged = λ h. refl;
+      }
 
   pub ensures-does : EnsuresDoes Lent decode soundLent
   unfolding act
@@ -42,7 +49,8 @@ module _ (Lent : Type 0) (decode : Lent → Store) (soundLent : Lent → Bool) w
   ensures-does (C.View r p) w w′ q (s, e) = rw e (view-does r (p .0) s)
 
 -- the abstract store, lent as it is
-does-act : (c : Call) (s : Store) → soundStore s ≡ true → Does Store (λ t. t) soundStore (act c) s (act c s .store) (act c s .reply)
+does-act : (c : Call) (s : Store) → soundStore s ≡ true
+    → Does Store (λ t. t) soundStore (act c) s (act c s .store) (act c s .reply)
 does-act c s h =
     record {
       unsound = λ q. absurd (not-both h q);
@@ -52,7 +60,8 @@ does-act c s h =
       unchanged = λ q. refusal-changes-nothing c s q;
     }
 
-calls-are : (cs : List Call) (s : Store) → soundStore s ≡ true → Calls Store (λ t. t) soundStore s cs (run cs s) (after cs s)
+calls-are : (cs : List Call) (s : Store) → soundStore s ≡ true
+    → Calls Store (λ t. t) soundStore s cs (run cs s) (after cs s)
 unfolding run after
 calls-are [] s h = done
 calls-are (c ∷ cs) s h = then (does-act c s h) (calls-are cs (act c s .store) (calls-keep-sound c s h))
@@ -60,4 +69,8 @@ calls-are (c ∷ cs) s h = then (does-act c s h) (calls-are cs (act c s .store) 
 pub every-list-listed : EveryListListed
 every-list-listed counts cs g =
     let h = fresh-is-sound counts g in
-    record { start = fresh counts; format = record { good = g; stays = h; store = refl }; calls = calls-are cs (fresh counts) h }
+    record {
+      start = fresh counts;
+      format = record { good = g; stays = h; store = refl };
+      calls = calls-are cs (fresh counts) h;
+    }

@@ -6,8 +6,10 @@ use Rattle.meaning.specs.Store.{Edit, Store, slotOf, editAt, recAt, withEdit, w
 use Rattle.meaning.specs.Replies.{ok, own, again, commit, nopoint, purged}
 use Rattle.meaning.specs.Outcomes.{Outcome, replies}
 use Rattle.meaning.specs.Edits.{begun, beginChecks, beginning, written, writeChecks, writing}
-use Rattle.meaning.specs.Locking.{withLock, lockVerdict, lockChecks, lockWanted, locking, readVerdict, readStore, readNew, readOpen, readChecks, reading}
-use Rattle.meaning.specs.Ending.{settled, finished, committed, aborted, chosen, noCommon, commitVerdict, commitOpen, commitChecks, committing, abortChecks, aborting, settleChecks, settling}
+use Rattle.meaning.specs.Locking.{withLock, lockVerdict, lockChecks, lockWanted, locking, readVerdict, readStore}
+use Rattle.meaning.specs.Locking.{readNew, readOpen, readChecks, reading}
+use Rattle.meaning.specs.Ending.{settled, finished, committed, aborted, chosen, noCommon, commitVerdict, commitOpen}
+use Rattle.meaning.specs.Ending.{commitChecks, committing, abortChecks, aborting, settleChecks, settling}
 use Rattle.meaning.specs.Records.{purgedRec, purgeVerdict, purgeTo, purgeChecks, purging, viewChecks, viewing}
 use Rattle.meaning.specs.Calls.{act}
 use Rattle.meaning.specs.declared.Finish.{Finish}
@@ -38,33 +40,41 @@ module _ (P : Store → Type 0) (kept : Kept P) where
   aborted-keeps s k h = kept .edit s k _ h
 
   pub call-keeps : (c : Call) (s : Store) → P s → P (act c s .store)
-  unfolding act beginning begun writing written locking lockWanted reading readOpen readNew readStore committing commitOpen aborting settling purging purgeTo viewing
+  unfolding act beginning begun writing written locking lockWanted reading readOpen readNew readStore committing
+      commitOpen aborting settling purging purgeTo viewing
   call-keeps C.Begin s h = unless-keeps P s (beginChecks s) (replies (begun s _) _) h (λ e. kept .edit s _ _ h)
   call-keeps (C.Write g r v) s h =
       unless-keeps P s (writeChecks s (g .0) r) (replies (written s (slotOf (g .0)) r v) ok) h (λ e. kept .edit s _ _ h)
   call-keeps (C.Lock g r low high w) s h =
-      unless-keeps P s (lockChecks s (g .0) r (low .0) (high .0)) (lockWanted s (slotOf (g .0)) r (low .0) (high .0) w) h (λ e.
+      unless-keeps P s (lockChecks s (g .0) r (low .0) (high .0)) (lockWanted s (slotOf (g .0)) r (low .0) (high .0) w)
+      h (λ e.
       unless-keeps P s (lockVerdict s (slotOf (g .0)) r (low .0) (high .0) w) _ h (λ d. kept .lock s r _ _ _ _ h))
   call-keeps (C.Read g r m w) s h =
       unless-keeps P s (readChecks s (g .0) r (m .0)) (readOpen s (slotOf (g .0)) r (m .0) w) h (λ e.
       let k = slotOf (g .0) in
       cond-keeps P (accessOf (editAt s k) r .written) (replies s (own (accessOf (editAt s k) r .value))) _ h
-      (cond-keeps P (hasRead (accessOf (editAt s k) r)) (replies s (again (accessOf (editAt s k) r .from - 1) _)) (readNew s k r (m .0) w) h
-      (unless-keeps P s (readVerdict s k r (m .0) w) (replies (readStore s k r _ _) _) h (λ d. kept .edit _ _ _ (kept .lock s r _ _ _ _ h)))))
+      (cond-keeps P (hasRead (accessOf (editAt s k) r)) (replies s (again (accessOf (editAt s k) r .from - 1) _))
+      (readNew s k r (m .0) w) h
+      (unless-keeps P s (readVerdict s k r (m .0) w) (replies (readStore s k r _ _) _) h
+      (λ d. kept .edit _ _ _ (kept .lock s r _ _ _ _ h)))))
   call-keeps (C.Commit g pick f) s h =
       unless-keeps P s (commitChecks s (g .0) pick) (commitOpen s (slotOf (g .0)) pick f) h (λ e.
       let k = slotOf (g .0) in
-      cond-keeps P (noCommon s k) (replies (finished f (aborted s k) k) nopoint) _ (finished-keeps f (aborted s k) k (aborted-keeps s k h))
-      (unless-keeps P s (commitVerdict s k pick) (replies (finished f (committed s k (chosen s k pick)) k) (commit (chosen s k pick))) h
+      cond-keeps P (noCommon s k) (replies (finished f (aborted s k) k) nopoint) _
+      (finished-keeps f (aborted s k) k (aborted-keeps s k h))
+      (unless-keeps P s (commitVerdict s k pick)
+      (replies (finished f (committed s k (chosen s k pick)) k) (commit (chosen s k pick))) h
       (λ d. finished-keeps f (committed s k (chosen s k pick)) k (kept .commits s k (chosen s k pick) h))))
   call-keeps (C.Abort g f) s h =
       unless-keeps P s (abortChecks s (g .0)) (replies (finished f (aborted s (slotOf (g .0))) (slotOf (g .0))) ok) h
       (λ e. finished-keeps f (aborted s (slotOf (g .0))) (slotOf (g .0)) (aborted-keeps s (slotOf (g .0)) h))
   call-keeps (C.Settle g) s h =
-      unless-keeps P s (settleChecks s (g .0)) (replies (settled s (slotOf (g .0))) ok) h (λ e. kept .settles s (slotOf (g .0)) h)
+      unless-keeps P s (settleChecks s (g .0)) (replies (settled s (slotOf (g .0))) ok) h
+      (λ e. kept .settles s (slotOf (g .0)) h)
   call-keeps (C.Purge r b) s h =
       unless-keeps P s (purgeChecks s r (b .0)) (purgeTo s r (newestAt (recAt s r .versions) (b .0) .point)) h (λ e.
       let v = newestAt (recAt s r .versions) (b .0) .point in
       cond-keeps P (leb v (recAt s r .floor)) (replies s (purged 0 0)) _ h
-      (unless-keeps P s (purgeVerdict (recAt s r) v) (replies (withRec s r (purgedRec (recAt s r) v)) _) h (λ d. kept .purges s r v h)))
+      (unless-keeps P s (purgeVerdict (recAt s r) v) (replies (withRec s r (purgedRec (recAt s r) v)) _) h
+      (λ d. kept .purges s r v h)))
   call-keeps (C.View r p) s h = unless-keeps P s (viewChecks s r (p .0)) (replies s _) h (λ e. h)

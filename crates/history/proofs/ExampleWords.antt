@@ -25,7 +25,8 @@ use Rattle.tables.specs.Words.{Lent, lent, decode, soundWords}
 use Rattle.format.specs.Format.{formattedWords}
 use Rattle.history.specs.WordSteps.{Step, readable, callsOf, repliesOf}
 use Rattle.history.specs.Examples.{commitsOf, sessionCounts, sessionCalls, equalCounts, equalCalls}
-use Rattle.history.specs.ExampleWords.{heardOf, wordsOf, InWords, SerialIn, sessionSteps, SessionOnWords, SessionWordsSerial, equalSteps, EqualOnWords, EqualIn, EqualWordsSerial}
+use Rattle.history.specs.ExampleWords.{heardOf, wordsOf, InWords, SerialIn, sessionSteps, SessionOnWords}
+use Rattle.history.specs.ExampleWords.{SessionWordsSerial, equalSteps, EqualOnWords, EqualIn, EqualWordsSerial}
 use Rattle.history.proofs.OverStore.{store-words-serializable}
 use Rattle.history.proofs.CommitList.{as-listed, reversed, only-orders}
 use Rattle.history.proofs.WordSteps.{AllStepped, steps-history, steps-sound}
@@ -84,7 +85,11 @@ session-on-words =
     record {
       calls = refl;
       replies = refl;
-      words = record { size = session-size; from = λ w n. steps-history sessionCounts sessionSteps w session-good session-stepped (n ∙ sym session-fits) };
+      words = record {
+        size = session-size;
+        from =
+            λ w n. steps-history sessionCounts sessionSteps w session-good session-stepped (n ∙ sym session-fits);
+      };
     }
 
 session-heard : commitsOf (heardOf sessionCounts sessionSteps) ≡ ε ▸ (2, 7) ▸ (1, 6)
@@ -107,8 +112,16 @@ session-words-serial =
       serial = serial-in sessionCounts sessionSteps (session-on-words .words) (ε ▸ 1 ▸ 2)
           (reversed heard 1 2 6 7 (omega arith) (omega arith) (λ q. omega arith) session-heard (omega arith));
       only = λ o c. one (only-orders heard 2 1 7 6 (omega arith) (omega arith) (λ q. omega arith) session-heard o c);
-      first = record { plain = refl; view = shows sessionCounts sessionSteps session-good session-stepped 0 (at 7 (Written 501)) (sym session-first) };
-      second = record { plain = refl; view = shows sessionCounts sessionSteps session-good session-stepped 1 (at 0 Never) (sym session-second) };
+      first = record {
+        plain = refl;
+        view = shows sessionCounts sessionSteps session-good session-stepped 0 (at 7 (Written 501))
+            (sym session-first);
+      };
+      second = record {
+        plain = refl;
+        view = shows sessionCounts sessionSteps session-good session-stepped 1 (at 0 Never)
+            (sym session-second);
+      };
     }
   where
     heard : History Val
@@ -150,7 +163,10 @@ unfolding readable equalSteps equalCalls
 equal-on-words =
     record {
       calls = refl;
-      words = record { size = equal-size; from = λ w n. steps-history equalCounts equalSteps w equal-good equal-stepped (n ∙ sym equal-fits) };
+      words = record {
+        size = equal-size;
+        from = λ w n. steps-history equalCounts equalSteps w equal-good equal-stepped (n ∙ sym equal-fits);
+      };
     }
 
 equal-heard : commitsOf (heardOf equalCounts equalSteps) ≡ ε ▸ (1, 5) ▸ (2, 5)
@@ -172,9 +188,20 @@ equal-in : (o : Seq ℕ) → CommitOrder (heardOf equalCounts equalSteps) o
 equal-in o order a b c =
     record {
       serial = serial-in equalCounts equalSteps (equal-on-words .words) o order;
-      first = record { plain = a; view = shows equalCounts equalSteps equal-good equal-stepped 0 (at 0 Never) (sym (equal-views .0)) };
-      second = record { plain = b; view = shows equalCounts equalSteps equal-good equal-stepped 1 (at 5 (Written 10)) (sym (equal-views .1)) };
-      third = record { plain = c; view = shows equalCounts equalSteps equal-good equal-stepped 2 (at 5 (Written 20)) (sym (equal-views .2)) };
+      first = record {
+        plain = a;
+        view = shows equalCounts equalSteps equal-good equal-stepped 0 (at 0 Never) (sym (equal-views .0));
+      };
+      second = record {
+        plain = b;
+        view = shows equalCounts equalSteps equal-good equal-stepped 1 (at 5 (Written 10))
+            (sym (equal-views .1));
+      };
+      third = record {
+        plain = c;
+        view = shows equalCounts equalSteps equal-good equal-stepped 2 (at 5 (Written 20))
+            (sym (equal-views .2));
+      };
     }
 
 pub equal-words-serial : EqualWordsSerial
@@ -182,8 +209,14 @@ unfolding readable equalSteps
 equal-words-serial =
     record {
       commits = equal-heard;
-      as-begun = equal-in (ε ▸ 1 ▸ 2) (as-listed heard 1 2 5 5 (omega arith) (omega arith) (λ q. omega arith) equal-heard (omega arith)) refl refl refl;
-      reversed = equal-in (ε ▸ 2 ▸ 1) (reversed heard 2 1 5 5 (omega arith) (omega arith) (λ q. omega arith) equal-heard (omega arith)) refl refl refl;
+      as-begun =
+          equal-in (ε ▸ 1 ▸ 2)
+          (as-listed heard 1 2 5 5 (omega arith) (omega arith) (λ q. omega arith) equal-heard (omega arith)) refl refl
+          refl;
+      reversed =
+          equal-in (ε ▸ 2 ▸ 1)
+          (reversed heard 2 1 5 5 (omega arith) (omega arith) (λ q. omega arith) equal-heard (omega arith)) refl refl
+          refl;
       only = λ o c. two (only-orders heard 1 2 5 5 (omega arith) (omega arith) (λ q. omega arith) equal-heard o c);
     }
   where

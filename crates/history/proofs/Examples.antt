@@ -12,11 +12,13 @@ use Rattle.meaning.specs.declared.Counts.{Counts}
 use Rattle.meaning.specs.declared.Call.{Call}
 use Rattle.serial.specs.Serializable.{Seq, ε, _▸_, CommitOrder}
 use Rattle.history.specs.Statement.{replied}
-use Rattle.history.specs.Examples.{Serial, sessionCounts, sessionCalls, SessionCommits, SessionSerial, SessionViews, equalCounts, equalCalls, EqualCommits, EqualSerial, EqualEnds}
+use Rattle.history.specs.Examples.{Serial, sessionCounts, sessionCalls, SessionCommits, SessionSerial}
+use Rattle.history.specs.Examples.{SessionViews, equalCounts, equalCalls, EqualCommits, EqualSerial, EqualEnds}
 use Rattle.history.proofs.Theorem.{store-serializable}
 use Rattle.history.proofs.CommitList.{as-listed, reversed}
 
-serial-in : (counts : Counts) (cs : List Call) → goodCounts counts ≡ true → (o : Seq ℕ) → CommitOrder (replied counts cs) o → Serial counts cs o
+serial-in : (counts : Counts) (cs : List Call) → goodCounts counts ≡ true → (o : Seq ℕ)
+    → CommitOrder (replied counts cs) o → Serial counts cs o
 serial-in counts cs g o order = record { order = order; serial = store-serializable counts cs g o order }
 
 session-good : goodCounts sessionCounts ≡ true
@@ -31,7 +33,8 @@ pub session-serial : SessionSerial
 unfolding opened session sessionCalls
 session-serial = (
   serial-in sessionCounts sessionCalls session-good (ε ▸ 1 ▸ 2)
-      (reversed (replied sessionCounts sessionCalls) 1 2 6 7 (omega arith) (omega arith) (λ q. omega arith) (session-commits .1) (omega arith)),
+      (reversed (replied sessionCounts sessionCalls) 1 2 6 7 (omega arith) (omega arith) (λ q. omega arith)
+      (session-commits .1) (omega arith)),
   refl,
   refl,
 )
@@ -51,9 +54,11 @@ equal-commits = refl
 pub equal-serial : EqualSerial
 equal-serial = (
   serial-in equalCounts equalCalls equal-good (ε ▸ 1 ▸ 2)
-      (as-listed (replied equalCounts equalCalls) 1 2 5 5 (omega arith) (omega arith) (λ q. omega arith) equal-commits (omega arith)),
+      (as-listed (replied equalCounts equalCalls) 1 2 5 5 (omega arith) (omega arith) (λ q. omega arith) equal-commits
+      (omega arith)),
   serial-in equalCounts equalCalls equal-good (ε ▸ 2 ▸ 1)
-      (reversed (replied equalCounts equalCalls) 2 1 5 5 (omega arith) (omega arith) (λ q. omega arith) equal-commits (omega arith)),
+      (reversed (replied equalCounts equalCalls) 2 1 5 5 (omega arith) (omega arith) (λ q. omega arith) equal-commits
+      (omega arith)),
 )
 
 pub equal-ends : EqualEnds (ε ▸ 1 ▸ 2) × EqualEnds (ε ▸ 2 ▸ 1)

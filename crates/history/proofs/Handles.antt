@@ -44,11 +44,13 @@ with-slot state g =
       accessRows = 1;
     }
 
-begin-is : (g : ℕ) → beginning (with-slot FREE g) ≡ replies (with-slot OPEN (nextGeneration g)) (edit (handle (nextGeneration g) 1))
+begin-is : (g : ℕ)
+    → beginning (with-slot FREE g) ≡ replies (with-slot OPEN (nextGeneration g)) (edit (handle (nextGeneration g) 1))
 unfolding opened
 begin-is g = refl
 
-abort-is : (h g : ℕ) → slotOf h ≡ 1 → generationOf h ≡ g → aborting h Settle (with-slot OPEN g) ≡ replies (with-slot FREE g) ok
+abort-is : (h g : ℕ) → slotOf h ≡ 1 → generationOf h ≡ g
+    → aborting h Settle (with-slot OPEN g) ≡ replies (with-slot FREE g) ok
 unfolding opened
 abort-is h g p q = rw (p, q, eq-eqb g g refl) refl
 
@@ -56,7 +58,8 @@ module _ (g : ℕ) where
   abbrev given : ℕ
   given = handle (nextGeneration g) 1
 
-  abort-given : aborting given Settle (with-slot OPEN (nextGeneration g)) ≡ replies (with-slot FREE (nextGeneration g)) ok
+  abort-given : aborting given Settle (with-slot OPEN (nextGeneration g))
+      ≡ replies (with-slot FREE (nextGeneration g)) ok
   abort-given = abort-is given (nextGeneration g) (omega arith) (omega arith)
 
   round-leaves : aborting given Settle (beginning (with-slot FREE g) .store) .store ≡ with-slot FREE (nextGeneration g)
@@ -72,15 +75,18 @@ module _ (g : ℕ) where
   begin-handle h q = begin-replies ∙ ap edit q
 
 -- the store after n rounds
-rounds-leave : (n g : ℕ) → g < GENERATIONS → after (rounds n g) (with-slot FREE g) ≡ with-slot FREE ((g + n) % GENERATIONS)
+rounds-leave : (n g : ℕ) → g < GENERATIONS
+    → after (rounds n g) (with-slot FREE g) ≡ with-slot FREE ((g + n) % GENERATIONS)
 unfolding rounds after act
 rounds-leave zero g h = let q : g ≡ (g + 0) % GENERATIONS = omega arith in ap (λ i. with-slot FREE i) q
 rounds-leave (suc n) g h =
     let q : (nextGeneration g + n) % GENERATIONS ≡ (g + suc n) % GENERATIONS = omega arith in
-    ap (λ (s : Store). after (rounds n (nextGeneration g)) s) (round-leaves g) ∙ rounds-leave n (nextGeneration g) (omega arith) ∙ ap (λ i. with-slot FREE i) q
+    ap (λ (s : Store). after (rounds n (nextGeneration g)) s) (round-leaves g)
+    ∙ rounds-leave n (nextGeneration g) (omega arith) ∙ ap (λ i. with-slot FREE i) q
 
 -- and the length of what is heard
-rounds-count : (n g : ℕ) (l : History Val) → count (heardAfter l (rounds n g) (run (rounds n g) (with-slot FREE g))) ≡ count l + 2 * n
+rounds-count : (n g : ℕ) (l : History Val)
+    → count (heardAfter l (rounds n g) (run (rounds n g) (with-slot FREE g))) ≡ count l + 2 * n
 unfolding rounds run act
 rounds-count zero g l = omega arith
 rounds-count (suc n) g l =
@@ -95,7 +101,8 @@ ended n g l = heardAfter l (rounds n g ++ (C.Begin ∷ [])) (run (rounds n g ++ 
 abbrev through : ℕ → ℕ → History Val → History Val
 through n g l = heardAfter l (rounds n g) (run (rounds n g) (with-slot FREE g))
 
-rounds-begun : (n g : ℕ) (l : History Val) → g < GENERATIONS → ended n g l ≡ through n g l ▸ begun (handle ((g + suc n) % GENERATIONS) 1)
+rounds-begun : (n g : ℕ) (l : History Val) → g < GENERATIONS → ended n g l ≡ through n g l
+    ▸ begun (handle ((g + suc n) % GENERATIONS) 1)
 unfolding rounds run act
 rounds-begun zero g l h = rw (begin-replies g) refl
 rounds-begun (suc n) g l h =
@@ -116,7 +123,8 @@ apart-next (suc n) g (inr (low, high)) = inr (omega (arith, low, high), omega (a
 
 other-handle : (n g : ℕ) → Apart (suc n) g → 65 ≡ given g → ⊥
 other-handle n g (inl q) e = omega (arith, q)
-other-handle n g (inr (low, high)) e = let q : nextGeneration g ≡ 1 = omega (arith, e) in go ((g + 1) / GENERATIONS) (omega (arith, q))
+other-handle n g (inr (low, high)) e =
+    let q : nextGeneration g ≡ 1 = omega (arith, e) in go ((g + 1) / GENERATIONS) (omega (arith, q))
   where
     go : (k : ℕ) → g ≡ GENERATIONS * k → ⊥
     go zero q = omega (arith, low, q)
@@ -127,7 +135,8 @@ unfolding rounds run act
 rounds-keep zero g l h = refl
 rounds-keep (suc n) g l h =
     rw (begin-replies g, round-replies g, round-leaves g) (
-    rounds-keep n (nextGeneration g) (l ▸ begun (given g) ▸ other) (apart-next n g h) ∙ rw (ne-eqb 65 (given g) (other-handle n g h)) refl
+    rounds-keep n (nextGeneration g) (l ▸ begun (given g) ▸ other) (apart-next n g h)
+    ∙ rw (ne-eqb 65 (given g) (other-handle n g h)) refl
     )
 
 until : (n : ℕ) → 1 ≤ n → n ≤ GENERATIONS → editOf (through n 0 ε) 65 ≡ 1
@@ -142,8 +151,11 @@ begun-after : (n h e : ℕ) → handle ((n + 1) % GENERATIONS) 1 ≡ h → 2 * n
 unfolding act roundsBegun
 begun-after n h e p q =
     record {
-      reply = ap (λ (s : Store). beginning s .reply) (rounds-leave n 0 (omega arith)) ∙ begin-handle ((0 + n) % GENERATIONS) h (omega (arith, p));
-      name = ap (λ (l : History Val). editOf l h) (rounds-begun n 0 ε (omega arith) ∙ ap (λ i. through n 0 ε ▸ begun i) r)
+      reply =
+          ap (λ (s : Store). beginning s .reply) (rounds-leave n 0 (omega arith))
+          ∙ begin-handle ((0 + n) % GENERATIONS) h (omega (arith, p));
+      name =
+          ap (λ (l : History Val). editOf l h) (rounds-begun n 0 ε (omega arith) ∙ ap (λ i. through n 0 ε ▸ begun i) r)
           ∙ rw (eq-eqb h h refl) (ap suc (rounds-count n 0 ε) ∙ omega (arith, q));
     }
   where
@@ -163,7 +175,8 @@ unfolding readable slotWords
 slot-formed state g = refl
 
 begin-does : (g : ℕ) → Sound FREE g
-    → Does Lent decode soundWords (act C.Begin) (lent (slotWords FREE g)) (lent (slotWords OPEN (nextGeneration g))) (edit (given g))
+    → Does Lent decode soundWords (act C.Begin) (lent (slotWords FREE g)) (lent (slotWords OPEN (nextGeneration g)))
+    (edit (given g))
 unfolding act
 begin-does g h =
     word-does C.Begin (slotWords FREE g) (slotWords OPEN (nextGeneration g)) (edit (given g)) h
@@ -175,7 +188,8 @@ abbrev abort-it : ℕ → Call
 abort-it g = C.Abort (record { 0 = given g }) Settle
 
 abort-does : (g : ℕ) → Sound OPEN (nextGeneration g)
-    → Does Lent decode soundWords (act (abort-it g)) (lent (slotWords OPEN (nextGeneration g))) (lent (slotWords FREE (nextGeneration g))) ok
+    → Does Lent decode soundWords (act (abort-it g)) (lent (slotWords OPEN (nextGeneration g)))
+    (lent (slotWords FREE (nextGeneration g))) ok
 unfolding act
 abort-does g h =
     word-does (abort-it g) (slotWords OPEN (nextGeneration g)) (slotWords FREE (nextGeneration g)) ok h
@@ -209,7 +223,8 @@ unfolding readable
 slot-size = refl
 
 on-words : (n : ℕ) (w : List ℕ) → length w ≡ 29
-    → (h : HistoryOn oneSlot (roundsBegun n) (run (roundsBegun n) (fresh oneSlot)) (slotWords OPEN ((n + 1) % GENERATIONS)))
+    → (h : HistoryOn oneSlot (roundsBegun n) (run (roundsBegun n) (fresh oneSlot))
+    (slotWords OPEN ((n + 1) % GENERATIONS)))
     × (h .before ≡ w)
 unfolding roundsBegun
 on-words n w q = (

@@ -16,7 +16,8 @@ use Rattle.tables.specs.Words.{Lent, lent, decode, soundWords}
 use Rattle.format.specs.Format.{Formats, formatFits, formattedWords}
 use Rattle.format.proofs.Formatted.{formatted-sound, formatted-fresh}
 use Rattle.history.specs.Words.{Listed}
-use Rattle.history.specs.StoreWords.{HistoryOn, StoreWordsSerializable, StoreWordsOrderExists, StoreWordsPointIsOne}
+use Rattle.history.specs.StoreWords.{HistoryOn, StoreWordsSerializable, StoreWordsOrderExists}
+use Rattle.history.specs.StoreWords.{StoreWordsPointIsOne}
 use Rattle.history.proofs.OverWords.{words-serializable, words-order-exists, words-point-is-one}
 
 -- a Format that replied `ok` was given counts in range and a slice of their length

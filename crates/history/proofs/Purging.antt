@@ -37,7 +37,8 @@ pub record Purged (x y : Rec) : Type 0 where
   pub only : (p : ℕ) (v : Val) → StandsAt (y .versions) p v → StandsAt (x .versions) p v
 
 same : (x : Rec) → Purged x x
-same x = record { rises = omega arith; held = λ p k f h. h; locked = λ p k m f h. h; stay = λ p v f w. w; only = λ p v w. w }
+same x =
+    record { rises = omega arith; held = λ p k f h. h; locked = λ p k m f h. h; stay = λ p v f w. w; only = λ p v w. w }
 
 module _ (x : Rec) (v : ℕ) (f : x .floor < v) where
   locked-on : (p k m : ℕ) → v < p → LockOn (x .locks) k m p → LockOn (trimTo v (x .locks)) k m p
@@ -48,12 +49,15 @@ module _ (x : Rec) (v : ℕ) (f : x .floor < v) where
   purged-keeps =
       record {
         rises = omega arith;
-        held = λ p k lt h. let w = held-is (x .locks) k p .0 h in held-is (trimTo v (x .locks)) k p .1 (w .0, locked-on p k (w .0) lt (w .1));
+        held =
+            λ p k lt h. let w = held-is (x .locks) k p .0 h in
+            held-is (trimTo v (x .locks)) k p .1 (w .0, locked-on p k (w .0) lt (w .1));
         locked = locked-on;
         stay = λ p u le w.
             record {
               version = w .version;
-              member = keep-in (λ z. leb v (z .point)) (w .member) (le-leb v (w .version .point) (omega (arith, w .stands)));
+              member =
+                  keep-in (λ z. leb v (z .point)) (w .member) (le-leb v (w .version .point) (omega (arith, w .stands)));
               stands = w .stands;
               value = w .value;
             };
@@ -77,7 +81,9 @@ module _ (s : Store) (r : ℕ) (y : Rec) (there : r < length (s .records)) (kept
   purge-moves : Moves (slots s) (slots (withRec s r y))
   purge-moves =
       record {
-        slots = λ j u. slot-stays (λ i. editAt s i) (λ i. editAt (withRec s r y) i) (λ i. recAt s i) (λ i. recAt (withRec s r y) i) j (edit-purged s r y j) u;
+        slots =
+            λ j u. slot-stays (λ i. editAt s i) (λ i. editAt (withRec s r y) i) (λ i. recAt s i)
+            (λ i. recAt (withRec s r y) i) j (edit-purged s r y j) u;
         rises = λ i. each i .rises;
         settled = λ i p f h. each i .held p 0 f h;
         settled-write = λ i p f h. each i .locked p 0 _ f h;
@@ -87,7 +93,8 @@ module _ (s : Store) (r : ℕ) (y : Rec) (there : r < length (s .records)) (kept
         only = λ i p v w. each i .only p v w;
       }
 
-pub purge-continues : {l : History Val} (r : ℕ) (b : Point) (s : Store) → Runs l s → SoundSlots (slots (purging r (b .0) s .store))
+pub purge-continues : {l : History Val} (r : ℕ) (b : Point) (s : Store) → Runs l s
+    → SoundSlots (slots (purging r (b .0) s .store))
     → Continues l (C.Purge r b) (purging r (b .0) s)
 unfolding purging purgeChecks purgeTo
 purge-continues r b s run S =
@@ -95,7 +102,9 @@ purge-continues r b s run S =
     let a = needs-pass (hasRecord s r) 5 (needs (leb (b .0) LAST) 6 pass) e in
     cond-continues c s run (leb v (x .floor)) (replies s (purged 0 0)) _ T (λ q U. then run passes U) (λ q U.
     unless-continues c s run (purgeVerdict x v) (replies (withRec s r (purgedRec x v)) _) U (λ d X.
-    then (then run (moves (purge-moves s r (purgedRec x v) (hasRecord-out s r (a .0)) (purged-keeps x v (leb-false v (x .floor) q)))) X) passes X)))
+    then (then run
+    (moves (purge-moves s r (purgedRec x v) (hasRecord-out s r (a .0)) (purged-keeps x v (leb-false v (x .floor) q))))
+    X) passes X)))
   where
     c : Call
     c = C.Purge r b

@@ -10,11 +10,13 @@ use lib.ListN.{length}
 use borrow.Author.Tests.{eqb-true}
 use Rattle.meaning.specs.Lists.{_∈_, any, find}
 use Rattle.meaning.specs.Limits.{READ}
-use Rattle.meaning.specs.Store.{Val, Edit, Store, slotOf, setEdit, editOf, editAt, recAt, withEdit, withRecords, accessOf, hasRead, first, versionOn}
+use Rattle.meaning.specs.Store.{Val, Edit, Store, slotOf, setEdit, editOf, editAt, recAt, withEdit, withRecords}
+use Rattle.meaning.specs.Store.{accessOf, hasRead, first, versionOn}
 use Rattle.meaning.specs.Replies.{own, again}
 use Rattle.meaning.specs.Outcomes.{replies, Verdict, hasRecord}
 use Rattle.meaning.specs.Edits.{withAccess}
-use Rattle.meaning.specs.Locking.{withLock, readVersion, readEnd, readVerdict, readAccess, readStore, readNew, readOpen, readChecks, reading}
+use Rattle.meaning.specs.Locking.{withLock, readVersion, readEnd, readVerdict, readAccess, readStore, readNew, readOpen}
+use Rattle.meaning.specs.Locking.{readChecks, reading}
 use Rattle.meaning.specs.Pointwise.{NewestIs, none, one}
 use Rattle.meaning.specs.SoundFacts.{SoundStore, Present}
 use Rattle.meaning.specs.declared.Value.{Value}
@@ -36,7 +38,8 @@ use Rattle.serial.proofs.Slots.{SoundSlots, StandsIn, FirstRead, reads, reads-o
 use Rattle.history.specs.Heard.{toldValue}
 use Rattle.history.proofs.StoreSlots.{Valued, slots}
 use Rattle.history.proofs.Changes.{iff, grows-more, access-here, access-there}
-use Rattle.history.proofs.CallRuns.{Runs, Good, good-facts, Continues, unless-continues, cond-continues, open-slot}
+use Rattle.history.proofs.CallRuns.{Runs, Good, good-facts, Continues, unless-continues, cond-continues}
+use Rattle.history.proofs.CallRuns.{open-slot}
 use Rattle.history.proofs.Simple.{others-stay, all-keep, lock-grows}
 
 -- what a reply's point and value stand for
@@ -66,7 +69,8 @@ module _ (s : Store) (valued : Valued s) (r : ℕ) where
         on v = eqb (v .point) t
 
         go : ((find on first (recAt s r .versions) ≡ first) × (any on (recAt s r .versions) ≡ false))
-            ⊎ ((find on first (recAt s r .versions) ∈ recAt s r .versions) × (on (find on first (recAt s r .versions)) ≡ true))
+            ⊎ ((find on first (recAt s r .versions) ∈ recAt s r .versions)
+            × (on (find on first (recAt s r .versions)) ≡ true))
             → find on first (recAt s r .versions) ≡ first
         go (inl w) = w .0
         go (inr w) =
@@ -74,11 +78,13 @@ module _ (s : Store) (valued : Valued s) (r : ℕ) where
             absurd (omega (arith, eqb-true (v .point) t (w .1), z, good .recs r .nonzero v (w .0)))
 
     stands-present : (t : ℕ) → Present (recAt s r) t → Stands t (versionOn (recAt s r .versions) t .value)
-    stands-present t (inl v) = let w = version-on-stands (recAt s r) t v in stands-version (versionOn (recAt s r .versions) t) t (w .0) (w .1)
+    stands-present t (inl v) =
+        let w = version-on-stands (recAt s r) t v in stands-version (versionOn (recAt s r .versions) t) t (w .0) (w .1)
     stands-present t (inr z) = stands-first (versionOn (recAt s r .versions) t) t (nothing-at t (z .0)) (z .0)
 
 -- a new read
-module _ (s : Store) (h r : ℕ) {rest : Verdict} (p : PassedOpen s h rest) (there : r < length (s .records)) (t end : ℕ) where
+module _ (s : Store) (h r : ℕ) {rest : Verdict} (p : PassedOpen s h rest) (there : r < length (s .records))
+    (t end : ℕ) where
   abbrev k : ℕ
   k = slotOf h
 
@@ -105,10 +111,12 @@ module _ (s : Store) (h r : ℕ) {rest : Verdict} (p : PassedOpen s h rest) (the
   other j n = ap (λ (d : Edit). accessOf d j) is-done ∙ access-there a e j n
 
   module _ (unread : accessOf e r .from ≡ 0) (unwritten : accessOf e r .written ≡ false) where
-    read-at : (j u : ℕ) → (accessOf (editAt after k) j .from ≡ suc u) ↔ ((accessOf e j .from ≡ suc u) ⊎ ((j ≡ r) × (u ≡ t)))
+    read-at : (j u : ℕ)
+        → (accessOf (editAt after k) j .from ≡ suc u) ↔ ((accessOf e j .from ≡ suc u) ⊎ ((j ≡ r) × (u ≡ t)))
     read-at j u = go (ℕ-discrete j r)
       where
-        go : Dec (j ≡ r) → (accessOf (editAt after k) j .from ≡ suc u) ↔ ((accessOf e j .from ≡ suc u) ⊎ ((j ≡ r) × (u ≡ t)))
+        go : Dec (j ≡ r)
+            → (accessOf (editAt after k) j .from ≡ suc u) ↔ ((accessOf e j .from ≡ suc u) ⊎ ((j ≡ r) × (u ≡ t)))
         go (no n) = (
           λ q. inl (rw (other j n) at q),
           λ q. elim q [ inl z ↦ rw (other j n) z | inr z ↦ absurd (n (z .0)) ],
@@ -120,7 +128,8 @@ module _ (s : Store) (h r : ℕ) {rest : Verdict} (p : PassedOpen s h rest) (the
               λ q. elim q [ inl w ↦ absurd (omega (arith, w, o)) | inr w ↦ omega (arith, z, w .1) ],
             )
 
-    wrote : (j : ℕ) (v : Val) → ((accessOf (editAt after k) j .written ≡ true) × (accessOf (editAt after k) j .value ≡ v))
+    wrote : (j : ℕ) (v : Val)
+        → ((accessOf (editAt after k) j .written ≡ true) × (accessOf (editAt after k) j .value ≡ v))
         ↔ ((accessOf e j .written ≡ true) × (accessOf e j .value ≡ v))
     wrote j v = go (ℕ-discrete j r)
       where
@@ -132,12 +141,14 @@ module _ (s : Store) (h r : ℕ) {rest : Verdict} (p : PassedOpen s h rest) (the
           λ q. absurd (not-both (q .0) (rw y unwritten)),
         )
 
-    first-read : (x : Value) → StandsIn (slots s) r t (toldValue x) → FirstRead (slots s) (slots after) k h r t (toldValue x)
+    first-read : (x : Value) → StandsIn (slots s) r t (toldValue x)
+        → FirstRead (slots s) (slots after) k h r t (toldValue x)
     unfolding readStore withLock withRecords withEdit withAccess
     first-read x stands =
         record {
           grows =
-              grows-more (λ i. editAt s i) (λ i. editOf (setEdit (s .edits) k done) i) (λ y. recAt s y) (λ y. recAt (withLock s r READ k (suc t) end) y)
+              grows-more (λ i. editAt s i) (λ i. editOf (setEdit (s .edits) k done) i) (λ y. recAt s y)
+              (λ y. recAt (withLock s r READ k (suc t) end) y)
               (lock-grows s r READ k (suc t) end there)
               (all-keep s k done (p .known .range) (omega (arith, p .state)) refl);
           slot = open-slot s h p;
@@ -177,9 +188,11 @@ read-continues h r m w s good run S =
     unless-continues c s run (readVerdict s k r (m .0) w) _ X (λ d Y.
     then run
     (reads
-    (first-read s (h .0) r p (hasRecord-out s r (a .0)) (readVersion s r (m .0) .point) (readEnd s k r (m .0) w) (unread-out x b) q
+    (first-read s (h .0) r p (hasRecord-out s r (a .0)) (readVersion s r (m .0) .point) (readEnd s k r (m .0) w)
+    (unread-out x b) q
     (readVersion s r (m .0) .value)
-    (stands-newest s (good .valued) r (m .0) (readVersion s r (m .0)) (newest-below-is (recAt s r) (m .0) (good-facts good .recs r .falls)))))
+    (stands-newest s (good .valued) r (m .0) (readVersion s r (m .0))
+    (newest-below-is (recAt s r) (m .0) (good-facts good .recs r .falls)))))
     Y))))
   where
     c : Call

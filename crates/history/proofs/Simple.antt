@@ -7,11 +7,13 @@ use mathlib.Core.Bool.{true, false≢true}
 use lib.Dec.{leb}
 use lib.ListN.{length}
 use borrow.Author.Tests.{leb-true}
-use Rattle.meaning.specs.Store.{Val, Rec, Edit, Store, handle, slotOf, nextGeneration, setEdit, editOf, editAt, recAt, withEdit, withRecords, withLocks, accessOf}
+use Rattle.meaning.specs.Store.{Val, Rec, Edit, Store, handle, slotOf, nextGeneration, setEdit, editOf, editAt, recAt}
+use Rattle.meaning.specs.Store.{withEdit, withRecords, withLocks, accessOf}
 use Rattle.meaning.specs.Points.{addLock}
 use Rattle.meaning.specs.Replies.{ok, edit, locked, at}
 use Rattle.meaning.specs.Outcomes.{pass, replies, hasRecord}
-use Rattle.meaning.specs.Edits.{withAccess, freeSlot, openedEdit, begun, beginChecks, beginning, writtenAccess, written, writeChecks, writing}
+use Rattle.meaning.specs.Edits.{withAccess, freeSlot, openedEdit, begun, beginChecks, beginning, writtenAccess, written}
+use Rattle.meaning.specs.Edits.{writeChecks, writing}
 use Rattle.meaning.specs.Locking.{withLock, lockVerdict, lockChecks, lockWanted, locking}
 use Rattle.meaning.specs.Records.{viewChecks, viewing}
 use Rattle.meaning.specs.declared.Lock.{Lock}
@@ -29,7 +31,8 @@ use Rattle.meaning.proofs.LockAdded.{added-old}
 use Rattle.serial.specs.Serializable.{History}
 use Rattle.serial.proofs.Slots.{Used, SoundSlots, SlotStays, Moves, Begins, Writes, moves, passes, begins, writes, then}
 use Rattle.history.proofs.StoreSlots.{slotsOf, slots}
-use Rattle.history.proofs.Changes.{iff, Locked, locked-refl, slot-stays, grows-more, moves-more, access-here, access-there}
+use Rattle.history.proofs.Changes.{iff, Locked, locked-refl, slot-stays, grows-more, moves-more, access-here}
+use Rattle.history.proofs.Changes.{access-there}
 use Rattle.history.proofs.CallRuns.{Runs, Continues, unless-continues, open-slot}
 
 -- one slot changed: the others stay, and if the handle stays, all keep theirs
@@ -37,17 +40,22 @@ module _ (s : Store) (k : ℕ) (e : Edit) where
   pub others-stay : (x : ℕ → Rec) (j : ℕ) → ¬ (j ≡ k) → Used (slotsOf (λ i. editOf (setEdit (s .edits) k e) i) x) j
       → SlotStays (slots s) (slotsOf (λ i. editOf (setEdit (s .edits) k e) i) x) j
   others-stay x j n u =
-      slot-stays (λ i. editAt s i) (λ i. editOf (setEdit (s .edits) k e) i) (λ r. recAt s r) x j (edit-other (s .edits) k j e n) u
+      slot-stays (λ i. editAt s i) (λ i. editOf (setEdit (s .edits) k e) i) (λ r. recAt s r) x j
+      (edit-other (s .edits) k j e n) u
 
   pub others-keep : (j : ℕ) → ¬ (j ≡ k) → 0 < editAt s j .state
-      → (0 < editOf (setEdit (s .edits) k e) j .state) × (editOf (setEdit (s .edits) k e) j .generation ≡ editAt s j .generation)
+      → (0 < editOf (setEdit (s .edits) k e) j .state)
+      × (editOf (setEdit (s .edits) k e) j .generation ≡ editAt s j .generation)
   others-keep j n u = let q = edit-other (s .edits) k j e n in (rw q u, ap (λ (d : Edit). d .generation) q)
 
-  pub all-keep : InRange (s .edits) k → 0 < e .state → e .generation ≡ editAt s k .generation → (j : ℕ) → 0 < editAt s j .state
-      → (0 < editOf (setEdit (s .edits) k e) j .state) × (editOf (setEdit (s .edits) k e) j .generation ≡ editAt s j .generation)
+  pub all-keep : InRange (s .edits) k → 0 < e .state → e .generation ≡ editAt s k .generation → (j : ℕ)
+      → 0 < editAt s j .state
+      → (0 < editOf (setEdit (s .edits) k e) j .state)
+      × (editOf (setEdit (s .edits) k e) j .generation ≡ editAt s j .generation)
   all-keep h u g j v = go (ℕ-discrete j k)
     where
-      go : Dec (j ≡ k) → (0 < editOf (setEdit (s .edits) k e) j .state) × (editOf (setEdit (s .edits) k e) j .generation ≡ editAt s j .generation)
+      go : Dec (j ≡ k) → (0 < editOf (setEdit (s .edits) k e) j .state)
+          × (editOf (setEdit (s .edits) k e) j .generation ≡ editAt s j .generation)
       go (yes q) = rw (q, edit-same (s .edits) k e h) (u, g)
       go (no n) = others-keep j n v
 
@@ -65,7 +73,8 @@ module _ (s : Store) (k : ℕ) (f : FreeAt (s .edits) k) where
   begins-slot =
       record {
         grows =
-            grows-more (λ i. editAt s i) (λ i. editOf (setEdit (s .edits) k new) i) (λ r. recAt s r) (λ r. recAt s r) (λ r. locked-refl (recAt s r))
+            grows-more (λ i. editAt s i) (λ i. editOf (setEdit (s .edits) k new) i) (λ r. recAt s r) (λ r. recAt s r)
+            (λ r. locked-refl (recAt s r))
             (λ j u. others-keep s k new j (λ q. omega (arith, f .free, rw q at u)) u);
         free = λ u. omega (arith, f .free, u);
         open′ = ap (λ (d : Edit). d .state) is-new;
@@ -75,11 +84,13 @@ module _ (s : Store) (k : ℕ) (f : FreeAt (s .edits) k) where
         others = others-stay s k new (λ r. recAt s r);
       }
 
-pub begin-continues : {l : History Val} (s : Store) → Runs l s → SoundSlots (slots (beginning s .store)) → Continues l C.Begin (beginning s)
+pub begin-continues : {l : History Val} (s : Store) → Runs l s → SoundSlots (slots (beginning s .store))
+    → Continues l C.Begin (beginning s)
 unfolding beginning beginChecks
 begin-continues s r S =
     let k = freeSlot s in
-    unless-continues C.Begin s r (beginChecks s) (replies (begun s k) (edit (handle (nextGeneration (editAt s k .generation)) k))) S (λ e T.
+    unless-continues C.Begin s r (beginChecks s)
+    (replies (begun s k) (edit (handle (nextGeneration (editAt s k .generation)) k))) S (λ e T.
     let t = needs-pass (leb k (length (s .edits))) 13 pass e in
     then r (begins (begins-slot s k (free-found (s .edits) (leb-true k (length (s .edits)) (t .0))))) T)
 
@@ -120,7 +131,8 @@ module _ (s : Store) (h r : ℕ) (v : Val) {rest : _} (p : PassedOpen s h rest) 
   writes-slot =
       record {
         grows =
-            grows-more (λ i. editAt s i) (λ i. editOf (setEdit (s .edits) k done) i) (λ x. recAt s x) (λ x. recAt s x) (λ x. locked-refl (recAt s x))
+            grows-more (λ i. editAt s i) (λ i. editOf (setEdit (s .edits) k done) i) (λ x. recAt s x) (λ x. recAt s x)
+            (λ x. locked-refl (recAt s x))
             (all-keep s k done (p .known .range) (omega (arith, p .state)) refl);
         slot = open-slot s h p;
         uncommitted = λ q. omega (arith, p .state, ap (λ (d : Edit). d .state) is-done, q);
@@ -156,8 +168,11 @@ module _ (s : Store) (r mode k low high : ℕ) (there : r < length (s .records))
   lock-moves : Moves (slots s) (slots (withLock s r mode k low high))
   unfolding withLock withRecords
   lock-moves =
-      moves-more (λ i. editAt s i) (λ i. editAt s i) (λ x. recAt s x) (λ x. recAt (withLock s r mode k low high) x) lock-grows
-      (λ j u. slot-stays (λ i. editAt s i) (λ i. editAt s i) (λ x. recAt s x) (λ x. recAt (withLock s r mode k low high) x) j refl u) (λ j. refl)
+      moves-more (λ i. editAt s i) (λ i. editAt s i) (λ x. recAt s x) (λ x. recAt (withLock s r mode k low high) x)
+      lock-grows
+      (λ j u. slot-stays (λ i. editAt s i) (λ i. editAt s i) (λ x. recAt s x)
+      (λ x. recAt (withLock s r mode k low high) x) j refl u)
+      (λ j. refl)
 
 pub lock-continues : {l : History Val} (h : Handle) (r : ℕ) (low high : Point) (w : Extent) (s : Store) → Runs l s
     → SoundSlots (slots (locking (h .0) r (low .0) (high .0) w s .store))
@@ -165,16 +180,19 @@ pub lock-continues : {l : History Val} (h : Handle) (r : ℕ) (low high : Point)
 unfolding locking lockChecks lockWanted
 lock-continues h r low high w s run S =
     let k = slotOf (h .0) in
-    unless-continues c s run (lockChecks s (h .0) r (low .0) (high .0)) (lockWanted s k r (low .0) (high .0) w) S (λ e T.
+    unless-continues c s run (lockChecks s (h .0) r (low .0) (high .0)) (lockWanted s k r (low .0) (high .0) w) S
+    (λ e T.
     let p = forOpen-pass s (h .0) _ e in
     let a = needs-pass (hasRecord s r) 5 _ (p .rest) in
-    unless-continues c s run (lockVerdict s k r (low .0) (high .0) w) (replies (withLock s r _ k _ _) (locked _ _)) T (λ d U.
+    unless-continues c s run (lockVerdict s k r (low .0) (high .0) w) (replies (withLock s r _ k _ _) (locked _ _)) T
+    (λ d U.
     then (then run (moves (lock-moves s r _ k _ _ (hasRecord-out s r (a .0)))) U) passes U))
   where
     c : Call
     c = C.Lock h r low high w
 
-pub view-continues : {l : History Val} (r : ℕ) (p : Point) (s : Store) → Runs l s → SoundSlots (slots (viewing r (p .0) s .store))
+pub view-continues : {l : History Val} (r : ℕ) (p : Point) (s : Store) → Runs l s
+    → SoundSlots (slots (viewing r (p .0) s .store))
     → Continues l (C.View r p) (viewing r (p .0) s)
 unfolding viewing
 view-continues r p s run S = unless-continues (C.View r p) s run (viewChecks s r (p .0)) _ S (λ e T. then run passes T)

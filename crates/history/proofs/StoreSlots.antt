@@ -67,14 +67,17 @@ module _ (s : Store) (good : SoundStore s) where
   unfolding goodCounts
   few =
       let c = countsOf s in
-      let tests = inRange (c .records) MAX-RECORDS ∷ inRange (c .edits) MAX-EDITS ∷ inRange (c .versions) MAX-ROWS ∷ inRange (c .locks) MAX-ROWS ∷ inRange (c .accesses) MAX-ROWS ∷ [] in
+      let tests =
+      inRange (c .records) MAX-RECORDS ∷ inRange (c .edits) MAX-EDITS ∷ inRange (c .versions) MAX-ROWS
+      ∷ inRange (c .locks) MAX-ROWS ∷ inRange (c .accesses) MAX-ROWS ∷ [] in
       leb-true (length (s .edits)) MAX-EDITS
       (and-right (leb 1 (length (s .edits))) (leb (length (s .edits)) MAX-EDITS) (every-at tests (good .counts) 1))
 
   range : (k : ℕ) → Used (slots s) k → InRange (s .edits) k
   range k u = used-range (s .edits) k (λ q. omega (arith, u, q))
 
-  distinct : (j k : ℕ) → Used (slots s) j → Used (slots s) k → handle (editAt s j .generation) j ≡ handle (editAt s k .generation) k → j ≡ k
+  distinct : (j k : ℕ) → Used (slots s) j → Used (slots s) k
+      → handle (editAt s j .generation) j ≡ handle (editAt s k .generation) k → j ≡ k
   distinct j k u v q = omega (arith, q, few, range j u .upto, range k v .upto)
 
   in-use : (r p k : ℕ) → HeldOn (recAt s r .locks) k p → (k ≡ 0) ⊎ Used (slots s) k
@@ -90,7 +93,8 @@ module _ (s : Store) (good : SoundStore s) where
       go : Dec (j ≡ k) → j ≡ k
       go (yes q) = q
       go (no n) =
-          absurd (good .recs r .apart (w .lock) (h .lock) (w .member) (h .member) (w .moded) (λ q. n (sym (w .owned) ∙ q ∙ h .owned)) p (w .from) (w .upto) (h .from) (h .upto))
+          absurd (good .recs r .apart (w .lock) (h .lock) (w .member) (h .member) (w .moded)
+          (λ q. n (sym (w .owned) ∙ q ∙ h .owned)) p (w .from) (w .upto) (h .from) (h .upto))
 
   pub sound-slots : Valued s → SoundSlots (slots s)
   unfolding editOf

@@ -43,10 +43,12 @@ use Rattle.history.proofs.Ending.{commit-continues, abort-continues, se
 use Rattle.history.proofs.Purging.{purge-continues}
 
 call-good : (c : Call) (s : Store) → Good s → Good (act c s .store)
-call-good c s g = record { holds = calls-keep-sound c s (g .holds); valued = call-keeps Valued valued-kept c s (g .valued) }
+call-good c s g =
+    record { holds = calls-keep-sound c s (g .holds); valued = call-keeps Valued valued-kept c s (g .valued) }
 
 -- every call goes on with the run
-call-continues : {l : History Val} (c : Call) (s : Store) → Good s → Runs l s → SoundSlots (slots (act c s .store)) → Continues l c (act c s)
+call-continues : {l : History Val} (c : Call) (s : Store) → Good s → Runs l s → SoundSlots (slots (act c s .store))
+    → Continues l c (act c s)
 unfolding act
 call-continues C.Begin s g r S = begin-continues s r S
 call-continues (C.Write h k v) s g r S = write-continues h k v s r S
@@ -64,17 +66,23 @@ record Left (n : ℕ) (l : History Val) (s : Store) : Type 1 where
   count : Records n s
   runs : Runs l s
 
-list-left : {n : ℕ} {l : History Val} (cs : List Call) (s : Store) → Left n l s → Left n (heardAfter l cs (run cs s)) (after cs s)
+list-left : {n : ℕ} {l : History Val} (cs : List Call) (s : Store) → Left n l s
+    → Left n (heardAfter l cs (run cs s)) (after cs s)
 unfolding run after
 list-left [] s g = g
 list-left {n} (c ∷ cs) s g =
     let h = call-good c s (g .good) in
     list-left cs (act c s .store)
-    (record { good = h; count = call-keeps (Records n) (records-kept n) c s (g .count); runs = call-continues c s (g .good) (g .runs) (good-slots h) })
+    (record {
+      good = h;
+      count = call-keeps (Records n) (records-kept n) c s (g .count);
+      runs = call-continues c s (g .good) (g .runs) (good-slots h);
+    })
 
 fresh-left : (c : Counts) → goodCounts c ≡ true → Left (c .records) ε (fresh c)
 unfolding recOf editOf
-fresh-left c g = record { good = h; count = length-replicate (c .records) freshRec; runs = Slots.fresh free empty (good-slots h) }
+fresh-left c g =
+    record { good = h; count = length-replicate (c .records) freshRec; runs = Slots.fresh free empty (good-slots h) }
   where
     h : Good (fresh c)
     h = record { holds = fresh-is-sound c g; valued = fresh-valued c }
@@ -85,7 +93,8 @@ fresh-left c g = record { good = h; count = length-replicate (c .records) freshR
 
     empty : (r p : ℕ) (v : Val) → ¬ slots (fresh c) .version r p v
     empty r p v w =
-        List·Memᴰ·not-nil (subst (λ (x : Rec). w .version ∈ x .versions) (getD-replicate (c .records) r freshRec) (w .member))
+        List·Memᴰ·not-nil
+        (subst (λ (x : Rec). w .version ∈ x .versions) (getD-replicate (c .records) r freshRec) (w .member))
 
 -- View at LAST
 module _ (l : History Val) (s : Store) (good : Good s) (r : ℕ) where
@@ -112,42 +121,56 @@ module _ (l : History Val) (s : Store) (good : Good s) (r : ℕ) where
   view-last h = rw (lt-ltb r (length (s .records)) h, le-leb (recAt s r .floor) LAST floor-below)
 
   -- the newest value of the core is the value of the newest version
-  value-is : (x : Option Val) → Newest (byEdit l (slots s)) r x → NewestIs (recAt s r .versions) (suc LAST) newest → newest .value ≡ shownValue x
+  value-is : (x : Option Val) → Newest (byEdit l (slots s)) r x → NewestIs (recAt s r .versions) (suc LAST) newest
+      → newest .value ≡ shownValue x
   value-is none f (none q g) = ap (λ (v : Version). v .value) q
   value-is none f (one m b g) =
       let v = good .valued r newest m in
       absurd (f (newest .point) (v .0) (record { version = newest; member = m; stands = refl; value = v .1 }))
-  value-is (some y) (p, w, top) (none q g) = absurd (omega (arith, g (w .version) (w .member), below (w .version) (w .member)))
+  value-is (some y) (p, w, top) (none q g) =
+      absurd (omega (arith, g (w .version) (w .member), below (w .version) (w .member)))
   value-is (some y) (p, w, top) (one m b g) =
       let v = good .valued r newest m in
       let a = top (newest .point) (v .0) (record { version = newest; member = m; stands = refl; value = v .1 }) in
       let c = g (w .version) (w .member) (below (w .version) (w .member)) in
-      let same = falls-once (recAt s r) (good-facts good .recs r .falls) m (w .member) (omega (arith, a, c, w .stands)) in
+      let same =
+      falls-once (recAt s r) (good-facts good .recs r .falls) m (w .member) (omega (arith, a, c, w .stands)) in
       ap (λ (u : Version). u .value) same ∙ w .value
 
-  view-newest : (x : Option Val) → Newest (byEdit l (slots s)) r x → r < length (s .records) → (p : ℕ) × (viewing r LAST s .reply ≡ at p (shownValue x))
-  view-newest x f h =
-      (newest .point, view-last h ∙ ap (λ (v : Value). at (newest .point) v) (value-is x f (newest-at-is (recAt s r) LAST (good-facts good .recs r .falls))))
+  view-newest : (x : Option Val) → Newest (byEdit l (slots s)) r x → r < length (s .records)
+      → (p : ℕ) × (viewing r LAST s .reply ≡ at p (shownValue x))
+  view-newest x f h = (
+    newest .point,
+    view-last h ∙ ap (λ (v : Value). at (newest .point) v)
+        (value-is x f (newest-at-is (recAt s r) LAST (good-facts good .recs r .falls))),
+  )
 
 abbrev end-of : (counts : Counts) → List Call → Store
 end-of counts cs = after cs (fresh counts)
 
-left-at : (counts : Counts) (cs : List Call) → goodCounts counts ≡ true → Left (counts .records) (replied counts cs) (end-of counts cs)
+left-at : (counts : Counts) (cs : List Call) → goodCounts counts ≡ true
+    → Left (counts .records) (replied counts cs) (end-of counts cs)
 left-at counts cs g = list-left cs (fresh counts) (fresh-left counts g)
 
 pub store-serializable : StoreSerializable
 store-serializable counts cs g o order =
     let e = left-at counts cs g in
-    let p = serializable Val (replied counts cs) (byEdit (replied counts cs) (slots (end-of counts cs))) (slot-runs (e .runs)) o order in
+    let p =
+    serializable Val (replied counts cs) (byEdit (replied counts cs) (slots (end-of counts cs))) (slot-runs (e .runs)) o
+    order in
     record {
       reads = p .reads;
-      newest = λ r h. view-newest (replied counts cs) (end-of counts cs) (e .good) r (plainEnd (replied counts cs) o r) (p .newest r) (omega (arith, e .count));
+      newest =
+          λ r h. view-newest (replied counts cs) (end-of counts cs) (e .good) r (plainEnd (replied counts cs) o r)
+          (p .newest r) (omega (arith, e .count));
     }
 
 pub store-order-exists : StoreOrderExists
 store-order-exists counts cs g =
-    order-exists Val (replied counts cs) (byEdit (replied counts cs) (slots (end-of counts cs))) (slot-runs (left-at counts cs g .runs))
+    order-exists Val (replied counts cs) (byEdit (replied counts cs) (slots (end-of counts cs)))
+    (slot-runs (left-at counts cs g .runs))
 
 pub store-point-is-one : StorePointIsOne
 store-point-is-one counts cs g =
-    point-is-one Val (replied counts cs) (byEdit (replied counts cs) (slots (end-of counts cs))) (slot-runs (left-at counts cs g .runs))
+    point-is-one Val (replied counts cs) (byEdit (replied counts cs) (slots (end-of counts cs)))
+    (slot-runs (left-at counts cs g .runs))

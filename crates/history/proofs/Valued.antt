@@ -10,7 +10,8 @@ use mathlib.Core.List.{List·Memᴰ·not-nil}
 use lib.Dec.{leb}
 use lib.ListN.{length, set, length-set}
 use Rattle.meaning.specs.Lists.{_∈_}
-use Rattle.meaning.specs.Store.{Val, Rec, Store, fresh, freshRec, editAt, recOf, recAt, withEdit, withRecords, withRec, withLocks, accessOf}
+use Rattle.meaning.specs.Store.{Val, Rec, Store, fresh, freshRec, editAt, recOf, recAt, withEdit, withRecords, withRec}
+use Rattle.meaning.specs.Store.{withLocks, accessOf}
 use Rattle.meaning.specs.Points.{addLock}
 use Rattle.meaning.specs.Locking.{withLock}
 use Rattle.meaning.specs.Ending.{settledRec, settled, insert, newVersion, committedRec, committed}
@@ -46,16 +47,21 @@ module _ (s : Store) (h : Valued s) where
       go : Dec (i ≡ r) → Dec (r < length (s .records)) → Of (recOf (set (s .records) r x) i)
       go (no n) d = rw (rec-other (s .records) r i x n) (h i)
       go (yes q) (yes l) = rw (q, rec-same (s .records) r x l) f
-      go (yes q) (no l) = rw (q, rec-past (set (s .records) r x) r (omega (arith, length-set (s .records) r x))) of-fresh
+      go (yes q) (no l) =
+          rw (q, rec-past (set (s .records) r x) r (omega (arith, length-set (s .records) r x))) of-fresh
 
   lock-valued : (r mode k low high : ℕ) → Valued (withLock s r mode k low high)
   unfolding withLock
   lock-valued r mode k low high =
-      rec-valued r (withLocks (recAt s r) (addLock (record { low = low; high = high; mode = mode; owner = k }) (recAt s r .locks))) (h r)
+      rec-valued r
+      (withLocks (recAt s r) (addLock (record { low = low; high = high; mode = mode; owner = k }) (recAt s r .locks)))
+      (h r)
 
   purged-valued : (r v : ℕ) → Valued (withRec s r (purgedRec (recAt s r) v))
   unfolding purgedRec
-  purged-valued r v = rec-valued r (purgedRec (recAt s r) v) (λ w m. h r w (keep-out (λ u. leb v (u .point)) (recAt s r .versions) m .0))
+  purged-valued r v =
+      rec-valued r (purgedRec (recAt s r) v)
+      (λ w m. h r w (keep-out (λ u. leb v (u .point)) (recAt s r .versions) m .0))
 
   settled-valued : (k : ℕ) → Valued (settled s k)
   settled-valued k r = go (decLt r (length (s .records)))
@@ -67,11 +73,13 @@ module _ (s : Store) (h : Valued s) where
   pub committed-valued : (k t : ℕ) → Valued (committed s k t)
   committed-valued k t r = go (decLt r (length (s .records)))
     where
-      new : (w : Version) → (w ≡ newVersion (accessOf (editAt s k) r) t) ⊎ (w ∈ recAt s r .versions) → (v : Val) × (w .value ≡ Written v)
+      new : (w : Version) → (w ≡ newVersion (accessOf (editAt s k) r) t) ⊎ (w ∈ recAt s r .versions)
+          → (v : Val) × (w .value ≡ Written v)
       new w (inl q) = (accessOf (editAt s k) r .value, ap (λ (u : Version). u .value) q)
       new w (inr m) = h r w m
 
-      both : (b : Bool) (w : Version) → w ∈ cond b (insert (newVersion (accessOf (editAt s k) r) t) (recAt s r .versions)) (recAt s r .versions)
+      both : (b : Bool) (w : Version)
+          → w ∈ cond b (insert (newVersion (accessOf (editAt s k) r) t) (recAt s r .versions)) (recAt s r .versions)
           → (v : Val) × (w .value ≡ Written v)
       both true w m = new w (insert-out (newVersion (accessOf (editAt s k) r) t) (recAt s r .versions) m)
       both false w m = h r w m

@@ -62,14 +62,17 @@ word-does c w w′ q h reply store form same =
       unsound = λ e. absurd (not-both h e);
       reply = λ e. reply;
       store = λ e. store;
-      stays = λ e. and-in form (ap soundStore store ∙ calls-keep-sound c (decode (lent w)) (and-right (formed w) (soundStore (decode (lent w))) h));
+      stays =
+          λ e. and-in form (ap soundStore store
+          ∙ calls-keep-sound c (decode (lent w)) (and-right (formed w) (soundStore (decode (lent w))) h));
       unchanged = λ e. ap lent (same e);
     }
 
 step-does : (w : List ℕ) (s : Step) → soundWords (lent w) ≡ true → Stepped w (changed (s .changes) w) s
     → Does Lent decode soundWords (act (s .call)) (lent w) (lent (changed (s .changes) w)) (s .reply)
 step-does w s h (reply, store, form, same) =
-    word-does (s .call) w (changed (s .changes) w) (s .reply) h reply store form (idle-same (refused (s .reply)) (s .changes) w same)
+    word-does (s .call) w (changed (s .changes) w) (s .reply) h reply store form
+    (idle-same (refused (s .reply)) (s .changes) w same)
 
 steps-calls : (ss : List Step) (w : List ℕ) → soundWords (lent w) ≡ true → AllStepped w ss
     → Calls Lent decode soundWords (lent w) (callsOf ss) (repliesOf ss) (lent (endOf ss w))
@@ -80,7 +83,8 @@ steps-calls (s ∷ ss) w h (a, b) =
     then d (steps-calls ss (changed (s .changes) w) (d .stays h) b)
 
 -- Format replies `ok` on every slice of the right length
-pub formats-any : (c : Counts) (w : List ℕ) → goodCounts c ≡ true → length w ≡ sizeOf c → Formats c w (formattedWords c) ok
+pub formats-any : (c : Counts) (w : List ℕ) → goodCounts c ≡ true → length w ≡ sizeOf c
+    → Formats c w (formattedWords c) ok
 unfolding formatFits
 formats-any c w g n =
     record { refused = λ e. absurd (not-both (and-in g (eq-eqb (length w) (sizeOf c) n)) e); done = λ e. (refl, refl) }
@@ -99,7 +103,8 @@ steps-history c ss w g a n = (
 )
 
 -- and the words at its end are sound
-sound-left : (ss : List Step) (w : List ℕ) → soundWords (lent w) ≡ true → AllStepped w ss → soundWords (lent (endOf ss w)) ≡ true
+sound-left : (ss : List Step) (w : List ℕ) → soundWords (lent w) ≡ true → AllStepped w ss
+    → soundWords (lent (endOf ss w)) ≡ true
 unfolding endOf
 sound-left [] w h a = h
 sound-left (s ∷ ss) w h (a, b) = sound-left ss (changed (s .changes) w) (step-does w s h a .stays h) b

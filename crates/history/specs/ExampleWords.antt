@@ -41,7 +41,8 @@ module _ (counts : Counts) (steps : List Step) where
   -- the steps are a history in every slice of n words, whatever it held
   pub record InWords (n : ℕ) : Type 0 where
     pub size : length wordsOf ≡ n
-    pub from : (w : List ℕ) → length w ≡ n → (h : HistoryOn counts (callsOf steps) (repliesOf steps) wordsOf) × (h .before ≡ w)
+    pub from : (w : List ℕ) → length w ≡ n
+        → (h : HistoryOn counts (callsOf steps) (repliesOf steps) wordsOf) × (h .before ≡ w)
 
   -- what the claim says of an order of its committed edits
   pub record SerialIn (o : Seq ℕ) : Type 0 where

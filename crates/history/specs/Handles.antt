@@ -49,5 +49,6 @@ pub record GivenTwice : Type 0 where
   pub again : BegunAfter GENERATIONS 65 131073
   -- these lists are histories over words, in every slice of 29, whatever it held
   pub words : (n : ℕ) (w : List ℕ) → length w ≡ 29
-      → (h : HistoryOn oneSlot (roundsBegun n) (run (roundsBegun n) (fresh oneSlot)) (slotWords OPEN ((n + 1) % GENERATIONS)))
+      → (h : HistoryOn oneSlot (roundsBegun n) (run (roundsBegun n) (fresh oneSlot))
+      (slotWords OPEN ((n + 1) % GENERATIONS)))
       × (h .before ≡ w)

@@ -5,7 +5,8 @@ use mathlib.Core.Option.{Option, some, none}
 use mathlib.Core.List.{List, [], _∷_}
 use Prim.Native.Nat.{ℕ}
 use Rattle.meaning.specs.Store.{Val}
-use Rattle.meaning.specs.Replies.{Reply, ok, edit, locked, read, own, again, commit, nopoint, purged, at, point, refusing}
+use Rattle.meaning.specs.Replies.{Reply, ok, edit, locked, read, own, again, commit, nopoint, purged, at, point}
+use Rattle.meaning.specs.Replies.{refusing}
 use Rattle.meaning.specs.declared.Value.{Value}
 use Rattle.meaning.specs.declared.Value.the-variants.{Never, Written}
 use Rattle.meaning.specs.declared.Call.{Call}

@@ -1,6 +1,7 @@
 -- Demand 3 of document 01, "The plain, serial run", for the calls of the crate meaning: "one claim about the whole
 -- list, not one for each call". CommitOrder, PlainFits and plainEnd are the crate serial's; the theorems are in
--- proofs/Theorem, under the same names.
+-- proofs/Theorem, under the same names. Rests on Heard, on Limits, Store, Replies, Records and Calls of `meaning`, on
+-- Serializable of `serial`.
 use Prim.Native.Nat.{ℕ, _<_}
 use mathlib.Core.Path.{_≡_}
 use mathlib.Core.Bool.{true}
@@ -36,7 +37,8 @@ StoreSerializable = (counts : Counts) (cs : List Call) → goodCounts counts ≡
 
 -- there is such an order, and an edit has one commit point
 abbrev pub StoreOrderExists : Type 0
-StoreOrderExists = (counts : Counts) (cs : List Call) → goodCounts counts ≡ true → (o : Seq ℕ) × CommitOrder (replied counts cs) o
+StoreOrderExists =
+    (counts : Counts) (cs : List Call) → goodCounts counts ≡ true → (o : Seq ℕ) × CommitOrder (replied counts cs) o
 
 abbrev pub StorePointIsOne : Type 0
 StorePointIsOne = (counts : Counts) (cs : List Call) → goodCounts counts ≡ true

@@ -2,7 +2,8 @@
 -- the crate `format`, replied `ok` on a slice, whatever it held; and each call after it, with its reply, keeps the
 -- contract of the public calls (Does of `meaning`, over the meaning and the soundness of words of `tables`), on the
 -- words as the last one left them. So whoever uses the store through its contracts has such a history. The theorems are
--- in proofs/OverStore, under the same names.
+-- in proofs/OverStore, under the same names. Rests on Heard and Words, on Replies of `meaning`, on Serializable of
+-- `serial`, on Words of `tables`, on Format of `format`.
 use Prim.Native.Nat.{ℕ}
 use mathlib.Core.Path.{_≡_}
 use mathlib.Core.List.{List}
@@ -25,7 +26,8 @@ pub record HistoryOn (counts : Counts) (cs : List Call) (qs : List Reply) (end :
 -- "for every order of equal points": the plain run accepts every reply, and what a View at LAST replies on the final
 -- words is its value
 abbrev pub StoreWordsSerializable : Type 0
-StoreWordsSerializable = (counts : Counts) (cs : List Call) (qs : List Reply) (end : List ℕ) → HistoryOn counts cs qs end
+StoreWordsSerializable =
+    (counts : Counts) (cs : List Call) (qs : List Reply) (end : List ℕ) → HistoryOn counts cs qs end
     → (o : Seq ℕ) → CommitOrder (history cs qs) o
     → SerialWords Lent decode soundWords (counts .records) (history cs qs) (lent end) o
 

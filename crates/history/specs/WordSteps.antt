@@ -10,9 +10,13 @@ use Rattle.chains.specs.Partition.{onChains, partition}
 use Rattle.meaning.specs.Replies.{Reply}
 use Rattle.meaning.specs.Records.{goodCounts}
 use Rattle.meaning.specs.declared.Call.{Call}
-use Rattle.tables.specs.Layout.{slotBase, versionBase, lockBase, accessBase, sizeOf, recordTable, slotTable, versionTable, lockTable, accessTable, versionHeads, lockHeads, accessHeads, countsOf, headerOk}
-use Rattle.tables.specs.Decode.{build, versionAt, lockAt, accessAt, versionRows, lockRows, accessRows, versionsOf, locksOf, accessesOf, floorOf, recordAt, slotAt, recordsOf, editsOf, decodeAt}
-use Rattle.tables.specs.Words.{decode, versionsParted, locksParted, accessesParted, locksNamed, marksListed, formedAt, formed}
+use Rattle.tables.specs.Layout.{slotBase, versionBase, lockBase, accessBase, sizeOf, recordTable, slotTable}
+use Rattle.tables.specs.Layout.{versionTable, lockTable, accessTable, versionHeads, lockHeads, accessHeads, countsOf}
+use Rattle.tables.specs.Layout.{headerOk}
+use Rattle.tables.specs.Decode.{build, versionAt, lockAt, accessAt, versionRows, lockRows, accessRows, versionsOf}
+use Rattle.tables.specs.Decode.{locksOf, accessesOf, floorOf, recordAt, slotAt, recordsOf, editsOf, decodeAt}
+use Rattle.tables.specs.Words.{decode, versionsParted, locksParted, accessesParted, locksNamed, marksListed, formedAt}
+use Rattle.tables.specs.Words.{formed}
 use Rattle.format.specs.Format.{blankWords, nextFree, linkedTo, linked, formattedWords}
 
 -- places, from 0, and the words that are put there
@@ -47,5 +51,10 @@ endOf (s ∷ ss) w = endOf ss (changed (s .changes) w)
 -- `unfolding readable` opens every definition that closed words and steps compute with: their form, their meaning,
 -- formatted words
 unfoldable pub readable : Unit {0}
-unfolding changed callsOf repliesOf endOf blankWords nextFree linkedTo linked formattedWords decode build versionAt lockAt accessAt versionRows lockRows accessRows versionsOf locksOf accessesOf floorOf recordAt slotAt recordsOf editsOf decodeAt slotBase versionBase lockBase accessBase sizeOf recordTable slotTable versionTable lockTable accessTable versionHeads lockHeads accessHeads countsOf headerOk versionsParted locksParted accessesParted locksNamed marksListed formedAt formed place field chain ended headCell headOf rowsOf endedOf among rows ends occ sumTo allTo allOf onChains partition goodCounts
+unfolding changed callsOf repliesOf endOf blankWords nextFree linkedTo linked formattedWords decode build versionAt
+    lockAt accessAt versionRows lockRows accessRows versionsOf locksOf accessesOf floorOf recordAt slotAt recordsOf
+    editsOf decodeAt slotBase versionBase lockBase accessBase sizeOf recordTable slotTable versionTable lockTable
+    accessTable versionHeads lockHeads accessHeads countsOf headerOk versionsParted locksParted accessesParted
+    locksNamed marksListed formedAt formed place field chain ended headCell headOf rowsOf endedOf among rows ends occ
+    sumTo allTo allOf onChains partition goodCounts
 readable = tt

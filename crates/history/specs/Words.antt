@@ -26,7 +26,8 @@ module _ (Lent : Type 0) (decode : Lent → Store) (soundLent : Lent → Bool) w
   -- calls with their replies, each on what the one before left
   pub data Calls : Lent → List Call → List Reply → Lent → Type 0 where
     done : {w : Lent} → Calls w [] [] w
-    then : {w w₁ w₂ : Lent} {c : Call} {q : Reply} {cs : List Call} {qs : List Reply} → Does Lent decode soundLent (act c) w w₁ q
+    then : {w w₁ w₂ : Lent} {c : Call} {q : Reply} {cs : List Call} {qs : List Reply}
+        → Does Lent decode soundLent (act c) w w₁ q
         → Calls w₁ cs qs w₂
         → Calls w (c ∷ cs) (q ∷ qs) w₂
 

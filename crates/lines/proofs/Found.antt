@@ -1,5 +1,5 @@
--- What a found field says of the fields from its position, for each kind of field; the end of the line; handles and points made of words.
--- Rests on specs/Fields and specs/Calls.
+-- What a found field says of the fields from its position, for each kind of field; the end of the line; handles and
+-- points made of words. Rests on specs/Fields and specs/Calls.
 use Prim.Native.Nat.{ℕ, _≤_, _<_}
 use mathlib.Core.Path.{_≡_, refl, sym, _∙_, ap}
 use mathlib.Core.List.{List}
@@ -72,7 +72,8 @@ pub pick-off : (s : List ℕ) (at : ℕ) (r : FoundPick) → PickFound s at r �
 pick-off s at r f e next = f next ∙ ap (λ (q : FoundPick). afterPick s q next) e
 
 abbrev pub LetterFound : List ℕ → ℕ → FoundLetter → Type 0
-LetterFound s at r = (other : Parsed) (next : ℕ → Fields → Parsed) → letterOr (left s at) other next ≡ afterLetter s r other next
+LetterFound s at r =
+    (other : Parsed) (next : ℕ → Fields → Parsed) → letterOr (left s at) other next ≡ afterLetter s r other next
 
 pub letter-at : (s : List ℕ) (at : ℕ) (r : FoundLetter) (b i : ℕ) → LetterFound s at r → r ≡ Le.At b i
     → (other : Parsed) (next : ℕ → Fields → Parsed) → letterOr (left s at) other next ≡ next b (left s i)

@@ -10,7 +10,8 @@ use lib.Dec.{leb, eqb, ltb}
 use Rattle.printing.specs.Text.{SPACE, LARGEST}
 use Rattle.lines.specs.Fields.{first, others, isDigit, isNumber, digits, value, nonempty}
 use Rattle.printing.specs.Shown.{decimal}
-use Rattle.lines.specs.Laws.{spaced, spaceless, allSpaceless, FieldsJoin, FieldsSpaceless, DecimalReads, DecimalNumber, DecimalLeads}
+use Rattle.lines.specs.Laws.{spaced, spaceless, allSpaceless, FieldsJoin, FieldsSpaceless, DecimalReads}
+use Rattle.lines.specs.Laws.{DecimalNumber, DecimalLeads}
 use Rattle.lines.proofs.Digits.{digit-in}
 use Rattle.printing.proofs.Decimal.{decimal-small, decimal-more}
 
@@ -25,7 +26,8 @@ unfolding first others spaced
 fields-join [] = refl
 fields-join (b ∷ bs) = join-by b bs (eqb b SPACE) refl (fields-join bs)
 
-spaceless-by : (b : ℕ) (bs : List ℕ) (q : Bool) → eqb b SPACE ≡ q → (spaceless (first bs) ≡ true) × (allSpaceless (others bs) ≡ true)
+spaceless-by : (b : ℕ) (bs : List ℕ) (q : Bool) → eqb b SPACE ≡ q
+    → (spaceless (first bs) ≡ true) × (allSpaceless (others bs) ≡ true)
     → (spaceless (first (b ∷ bs)) ≡ true) × (allSpaceless (others (b ∷ bs)) ≡ true)
 unfolding first others spaceless allSpaceless
 spaceless-by b bs true t e = (rw t, rw (t, e .0, e .1))
@@ -36,7 +38,8 @@ unfolding first others spaceless allSpaceless
 fields-spaceless [] = (refl, refl)
 fields-spaceless (b ∷ bs) = spaceless-by b bs (eqb b SPACE) refl (fields-spaceless bs)
 
--- what holds of each one-digit number, and of a number if it does of the number without its last digit, holds of every number
+-- what holds of each one-digit number, and of a number if it does of the number without its last digit, holds of every
+-- number
 module _ (P : ℕ → Type 0) (small : (n : ℕ) → n < 10 → P n) (more : (n : ℕ) → 10 ≤ n → P (n / 10) → P n) where
   each-step : (n : ℕ) (q : Bool) → ltb n 10 ≡ q → (10 ≤ n → P (n / 10)) → P n
   each-step n true t r = small n (ltb-true n 10 t)
@@ -83,7 +86,8 @@ decimal-digits =
     (λ n h. (rw (decimal-small n h), rw (decimal-small n h, digit-in (48 + n) (omega arith) (omega arith))))
     (λ n h r. (
       rw (decimal-more n h) (nonempty-last (decimal (n / 10)) (48 + n % 10)),
-      rw (decimal-more n h) (digits-last (decimal (n / 10)) (48 + n % 10) (r .1) (digit-in (48 + n % 10) (omega arith) (omega arith))),
+      rw (decimal-more n h)
+          (digits-last (decimal (n / 10)) (48 + n % 10) (r .1) (digit-in (48 + n % 10) (omega arith) (omega arith))),
     ))
 
 pub decimal-number : DecimalNumber

@@ -1,5 +1,5 @@
--- Scanning a field byte by byte is reading it whole: the steps of a number's loop and its ways out, and a field of one byte.
--- Rests on specs/Fields and Digits.
+-- Scanning a field byte by byte is reading it whole: the steps of a number's loop and its ways out, and a field of one
+-- byte. Rests on specs/Fields and Digits.
 use Prim.Native.Nat.{ℕ, suc, _+_, _-_, _*_, _≤_, _<_}
 use mathlib.Core.Path.{_≡_, refl, sym, _∙_, ap}
 use mathlib.Core.Bool.{Bool, true, false, cond, _&&_}
@@ -33,7 +33,8 @@ value-least n (b ∷ bs) = let h = value-least (n * 10 + (b - 48)) bs in omega a
 digit-no-space : (b : ℕ) → 48 ≤ b → eqb b SPACE ≡ false
 digit-no-space b h = ne-eqb b SPACE (λ e. omega arith)
 
-pub going-digit : (n b d : ℕ) (bs : List ℕ) (next : Next) → Digit b d → going n (b ∷ bs) next ≡ going (n * 10 + d) bs next
+pub going-digit : (n b d : ℕ) (bs : List ℕ) (next : Next) → Digit b d
+    → going n (b ∷ bs) next ≡ going (n * 10 + d) bs next
 unfolding going first others digits value
 going-digit n b d bs next g =
     simp (digit-no-space b (g .low), le-leb 48 b (g .low), le-leb b 57 (g .high), g .value)
@@ -90,23 +91,27 @@ pub goes-says : (s : List ℕ) (i : ℕ) → endsAt s i ≡ false → Goes s i
 goes-says s i e = goes-by s i (leb (length s) i) refl e
 
 -- the ways out of the loop
-pub going-end : (s : List ℕ) (n i : ℕ) (next : Next) → n ≤ LARGEST → Ends s i → going n (drop i s) next ≡ next n (left s (i + 1))
+pub going-end : (s : List ℕ) (n i : ℕ) (next : Next) → n ≤ LARGEST → Ends s i
+    → going n (drop i s) next ≡ next n (left s (i + 1))
 unfolding going digits value
 going-end s n i next h e = rw (e .field, e .after, le-leb n LARGEST h)
 
-pub going-bad : (s : List ℕ) (n i : ℕ) (next : Next) → Goes s i → 10 ≤ digitOf (getD s i 0) → going n (drop i s) next ≡ Malformed
+pub going-bad : (s : List ℕ) (n i : ℕ) (next : Next) → Goes s i → 10 ≤ digitOf (getD s i 0)
+    → going n (drop i s) next ≡ Malformed
 unfolding going first others digits
 going-bad s n i next g h = rw (drop-cons s i 0 (g .within), g .here, not-digit (getD s i 0) h)
 
 -- the way in
-pub number-starts : (s : List ℕ) (i d : ℕ) (next : Next) → d ≡ digitOf (getD s i 0) → d < 10 → number (left s i) next ≡ going 0 (drop i s) next
+pub number-starts : (s : List ℕ) (i d : ℕ) (next : Next) → d ≡ digitOf (getD s i 0) → d < 10
+    → number (left s i) next ≡ going 0 (drop i s) next
 unfolding number left going first others
 number-starts s i d next e h =
     let l = digit-within s i d e h in
     let g = digit-says (getD s i 0) d e h in
     rw (le-leb i (length s) (omega arith), drop-cons s i 0 l, digit-no-space (getD s i 0) (g .low))
 
-missing-by : (s : List ℕ) (i : ℕ) (next : Next) (q r t : Bool) → leb i (length s) ≡ q → leb (length s) i ≡ r → eqb (getD s i 0) SPACE ≡ t
+missing-by : (s : List ℕ) (i : ℕ) (next : Next) (q r t : Bool) → leb i (length s) ≡ q → leb (length s) i ≡ r
+    → eqb (getD s i 0) SPACE ≡ t
     → 10 ≤ digitOf (getD s i 0) → number (left s i) next ≡ Malformed
 unfolding number left first digits
 missing-by s i next false r t eq er et h = rw eq
@@ -116,16 +121,19 @@ missing-by s i next true false false eq er et h =
     rw (eq, drop-cons s i 0 (leb-false (length s) i er), et, not-digit (getD s i 0) h)
 
 pub number-missing : (s : List ℕ) (i : ℕ) (next : Next) → 10 ≤ digitOf (getD s i 0) → number (left s i) next ≡ Malformed
-number-missing s i next h = missing-by s i next (leb i (length s)) (leb (length s) i) (eqb (getD s i 0) SPACE) refl refl refl h
+number-missing s i next h =
+    missing-by s i next (leb i (length s)) (leb (length s) i) (eqb (getD s i 0) SPACE) refl refl refl h
 
 -- a field of one byte
-letter-none-by : (s : List ℕ) (i : ℕ) (other : Parsed) (next : Next) (q : Bool) → leb i (length s) ≡ q → endsAt s i ≡ true
+letter-none-by : (s : List ℕ) (i : ℕ) (other : Parsed) (next : Next) (q : Bool) → leb i (length s) ≡ q
+    → endsAt s i ≡ true
     → letterOr (left s i) other next ≡ other
 unfolding letterOr left
 letter-none-by s i other next false t e = rw t
 letter-none-by s i other next true t e = rw (t, ends-says s i (leb-true i (length s) t) e .field)
 
-pub letter-none : (s : List ℕ) (i : ℕ) (other : Parsed) (next : Next) → endsAt s i ≡ true → letterOr (left s i) other next ≡ other
+pub letter-none : (s : List ℕ) (i : ℕ) (other : Parsed) (next : Next) → endsAt s i ≡ true
+    → letterOr (left s i) other next ≡ other
 letter-none s i other next e = letter-none-by s i other next (leb i (length s)) refl e
 
 letter-one-by : (s : List ℕ) (i : ℕ) (other : Parsed) (next : Next) (fs : List (List ℕ)) → Goes s i
@@ -140,9 +148,11 @@ letter-one s i other next g e =
     let two : i + 1 + 1 ≡ i + 2 = omega arith in
     letter-one-by s i other next (left s (i + 2)) g (rw (← add-one i) (e .field)) (rw (← add-one i, ← two) (e .after))
 
-pub letter-more : (s : List ℕ) (i : ℕ) (other : Parsed) (next : Next) → Goes s i → Goes s (i + 1) → letterOr (left s i) other next ≡ other
+pub letter-more : (s : List ℕ) (i : ℕ) (other : Parsed) (next : Next) → Goes s i → Goes s (i + 1)
+    → letterOr (left s i) other next ≡ other
 unfolding letterOr left first others
 letter-more s i other next g e =
     let h : suc i < length s = omega (arith, e .within) in
     let z : eqb (getD s (suc i) 0) SPACE ≡ false = rw (← add-one i) (e .here) in
-    rw (le-leb i (length s) (omega (arith, g .within)), drop-cons s i 0 (g .within), g .here, drop-cons s (suc i) 0 h, z)
+    rw
+    (le-leb i (length s) (omega (arith, g .within)), drop-cons s i 0 (g .within), g .here, drop-cons s (suc i) 0 h, z)

@@ -1,6 +1,7 @@
--- Which call a script line is, by document 01: "F records edits versions locks accesses; B; W handle record value; L handle record low
--- high flag; R handle record m flag; C handle E, L or point, S or K; A handle S or K; S handle; P record b; V record p". Any other line,
--- one of more than 200 bytes among them, is malformed. Rests on Fields and the types of meaning.
+-- Which call a script line is, by document 01: "F records edits versions locks accesses; B; W handle record value; L
+-- handle record low high flag; R handle record m flag; C handle E, L or point, S or K; A handle S or K; S handle; P
+-- record b; V record p". Any other line, one of more than 200 bytes among them, is malformed. Rests on Fields and the
+-- types of meaning.
 use Prim.Native.Nat.{ℕ}
 use Prim.Native.Char.{code}
 use mathlib.Core.Bool.{cond}
@@ -45,11 +46,15 @@ letter fs next = letterOr fs P.Malformed next
 
 -- the flag A or P
 unfoldable pub extent : Fields → ExtentNext → Parsed
-extent fs next = letter fs (λ b rest. cond (eqb b (code "A")) (next X.All rest) (cond (eqb b (code "P")) (next X.Part rest) P.Malformed))
+extent fs next =
+    letter fs
+    (λ b rest. cond (eqb b (code "A")) (next X.All rest) (cond (eqb b (code "P")) (next X.Part rest) P.Malformed))
 
 -- the flag S or K
 unfoldable pub finish : Fields → FinishNext → Parsed
-finish fs next = letter fs (λ b rest. cond (eqb b (code "S")) (next F.Settle rest) (cond (eqb b (code "K")) (next F.Keep rest) P.Malformed))
+finish fs next =
+    letter fs
+    (λ b rest. cond (eqb b (code "S")) (next F.Settle rest) (cond (eqb b (code "K")) (next F.Keep rest) P.Malformed))
 
 abbrev pub named : Fields → PickNext → Parsed
 named fs next = number fs (λ p rest. next (K.Named (point p)) rest)
@@ -58,7 +63,8 @@ named fs next = number fs (λ p rest. next (K.Named (point p)) rest)
 unfoldable pub pick : Fields → PickNext → Parsed
 pick fs next =
     letterOr fs (named fs next)
-    (λ b rest. cond (eqb b (code "E")) (next K.Earliest rest) (cond (eqb b (code "L")) (next K.Latest rest) (named fs next)))
+    (λ b rest. cond (eqb b (code "E")) (next K.Earliest rest)
+    (cond (eqb b (code "L")) (next K.Latest rest) (named fs next)))
 
 abbrev pub counts : ℕ → ℕ → ℕ → ℕ → ℕ → Counts
 counts r e v l a = record { records = r; edits = e; versions = v; locks = l; accesses = a }
@@ -113,5 +119,9 @@ called b fs =
     (cond (eqb b (code "P")) (purging fs)
     (cond (eqb b (code "V")) (viewing fs) P.Malformed)))))))))
 
+-- "over 200 bytes"
+abbrev pub LONGEST : ℕ
+LONGEST = 200
+
 unfoldable pub parsed : List ℕ → Parsed
-parsed s = cond (leb (length s) 200) (letter (fields s) called) P.Malformed
+parsed s = cond (leb (length s) LONGEST) (letter (fields s) called) P.Malformed

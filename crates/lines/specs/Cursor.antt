@@ -1,5 +1,5 @@
--- Positions in a line: what the functions that read one field promise. The definition of a line (Fields, Calls) knows no positions.
--- Rests on Fields, Calls and the types of src/lib.rt.
+-- Positions in a line: what the functions that read one field promise. The definition of a line (Fields, Calls) knows
+-- no positions. Rests on Fields, Calls and the types of src/lib.rt.
 use Prim.Native.Nat.{ℕ, _-_}
 use mathlib.Core.Bool.{Bool, cond, _||_}
 use mathlib.Core.List.{List, []}

@@ -61,7 +61,8 @@ SessionShown = map (λ r. shown (lineOf r)) sessionReplies ≡ output
 -- leading zeros, and the largest number
 abbrev pub Accepted : Type 0
 Accepted =
-    map parsed (text "W 065 00 7" ∷ text "W 65 0 18446744073709551615" ∷ text "W 65 0 00000000000000000000000001" ∷ text "C 65 12 K" ∷ [])
+    map parsed (text "W 065 00 7" ∷ text "W 65 0 18446744073709551615" ∷ text "W 65 0 00000000000000000000000001"
+    ∷ text "C 65 12 K" ∷ [])
     ≡ P.Call (C.Write (handle 65) 0 7)
     ∷ P.Call (C.Write (handle 65) 0 18446744073709551615)
     ∷ P.Call (C.Write (handle 65) 0 1)

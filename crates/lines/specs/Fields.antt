@@ -1,5 +1,5 @@
--- A script line as fields, and what a field may be: a number, or one letter. "one call a line, numbers in decimal, single spaces".
--- Rests on the type Parsed of src/lib.rt.
+-- A script line as fields, and what a field may be: a number, or one letter. "one call a line, numbers in decimal,
+-- single spaces". Rests on the type Parsed of src/lib.rt.
 use Prim.Native.Nat.{ℕ, _+_, _-_, _*_}
 use mathlib.Core.Bool.{Bool, true, false, cond, _&&_}
 use mathlib.Core.List.{List, [], _∷_}

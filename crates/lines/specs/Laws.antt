@@ -1,6 +1,7 @@
 -- Laws that tie the definitions to their plain reading. proofs/Laws proves each.
--- The fields, joined by single spaces, are the line, and no field has a space; the decimal digits of a number are digits, read back as the
--- number, and have no leading zero; so every number that is printed is one that is read. Rests on Fields and Shown.
+-- The fields, joined by single spaces, are the line, and no field has a space; the decimal digits of a number are
+-- digits, read back as the number, and have no leading zero; so every number that is printed is one that is read. Rests
+-- on Fields and Shown.
 use Prim.Native.Nat.{ℕ, _≤_, _<_}
 use mathlib.Core.Path.{_≡_}
 use mathlib.Core.Bool.{Bool, true, false, not, _&&_}

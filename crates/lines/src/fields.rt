@@ -1,5 +1,5 @@
-// Fields of a line, read at a position: a number, one letter, a flag, a commit's point. Each says what follows from the field it found,
-// and where the next one begins.
+// Fields of a line, read at a position: a number, one letter, a flag, a commit's point. Each says what follows from the
+// field it found, and where the next one begins. Rests on the crates `meaning` and `printing`.
 ghost use mathlib.Core.Path.{_≡_};
 ghost use mathlib.Core.List.{List};
 ghost use Prim.Native.Nat.{ℕ, _+_, _*_};
@@ -8,8 +8,10 @@ ghost use lib.Dec.{leb};
 ghost use Rattle.lines.specs.declared.Parsed.{Parsed};
 ghost use Rattle.printing.specs.Text.{LARGEST};
 ghost use Rattle.lines.specs.Fields.{number as number·of, letterOr};
-ghost use Rattle.lines.specs.Calls.{ExtentNext, FinishNext, PickNext, extent as extent·of, finish as finish·of, pick as pick·of, named as named·of};
-ghost use Rattle.lines.specs.Cursor.{left, afterNumber, afterLetter, digitOf, endsAt, afterExtent, afterFinish, afterPick};
+ghost use Rattle.lines.specs.Calls.{ExtentNext, FinishNext, PickNext, extent as extent·of, finish as finish·of};
+ghost use Rattle.lines.specs.Calls.{pick as pick·of, named as named·of};
+ghost use Rattle.lines.specs.Cursor.{left, afterNumber, afterLetter, digitOf, endsAt, afterExtent, afterFinish};
+ghost use Rattle.lines.specs.Cursor.{afterPick};
 use crate::FoundExtent;
 use crate::FoundFinish;
 use crate::FoundLetter;
@@ -18,8 +20,7 @@ use crate::FoundPick;
 use meaning::Extent;
 use meaning::Finish;
 use meaning::Pick;
-
-const SPACE: u8 = 32;
+use printing::SPACE;
 
 const LARGEST: u64 = 18446744073709551615;
 
@@ -62,7 +63,10 @@ fn room(n: u64, d: u64) -> bool
 
 // The number that is the field at this position.
 pub fn number(line: &[u8], at: usize) -> FoundNumber
-    ensures { λ r. ⌜ ((next : ℕ → List (List ℕ) → Parsed) → number·of (left (now (line .entry)) at) next ≡ afterNumber (now (line .entry)) r next) ⌝ }
+    ensures { λ r. ⌜
+        ((next : ℕ → List (List ℕ) → Parsed)
+        → number·of (left (now (line .entry)) at) next ≡ afterNumber (now (line .entry)) r next)
+        ⌝ }
 {
     let mut d = digit(line, at);
     if 9 < d {
@@ -87,7 +91,10 @@ pub fn number(line: &[u8], at: usize) -> FoundNumber
 
 // The one byte that is the field at this position.
 pub fn letter(line: &[u8], at: usize) -> FoundLetter
-    ensures { λ r. ⌜ ((other : Parsed) (next : ℕ → List (List ℕ) → Parsed) → letterOr (left (now (line .entry)) at) other next ≡ afterLetter (now (line .entry)) r other next) ⌝ }
+    ensures { λ r. ⌜
+        ((other : Parsed) (next : ℕ → List (List ℕ) → Parsed)
+        → letterOr (left (now (line .entry)) at) other next ≡ afterLetter (now (line .entry)) r other next)
+        ⌝ }
 {
     if ends(line, at) {
         return FoundLetter::Missing;
@@ -102,7 +109,9 @@ pub fn letter(line: &[u8], at: usize) -> FoundLetter
 
 // The flag A or P at this position.
 pub fn extent(line: &[u8], at: usize) -> FoundExtent
-    ensures { λ r. ⌜ ((next : ExtentNext) → extent·of (left (now (line .entry)) at) next ≡ afterExtent (now (line .entry)) r next) ⌝ }
+    ensures { λ r. ⌜
+        ((next : ExtentNext) → extent·of (left (now (line .entry)) at) next ≡ afterExtent (now (line .entry)) r next)
+        ⌝ }
 {
     let FoundLetter::At(b, i) = letter(line, at) else {
         return FoundExtent::Missing;
@@ -118,7 +127,9 @@ pub fn extent(line: &[u8], at: usize) -> FoundExtent
 
 // The flag S or K at this position.
 pub fn finish(line: &[u8], at: usize) -> FoundFinish
-    ensures { λ r. ⌜ ((next : FinishNext) → finish·of (left (now (line .entry)) at) next ≡ afterFinish (now (line .entry)) r next) ⌝ }
+    ensures { λ r. ⌜
+        ((next : FinishNext) → finish·of (left (now (line .entry)) at) next ≡ afterFinish (now (line .entry)) r next)
+        ⌝ }
 {
     let FoundLetter::At(b, i) = letter(line, at) else {
         return FoundFinish::Missing;
@@ -134,7 +145,9 @@ pub fn finish(line: &[u8], at: usize) -> FoundFinish
 
 // The named point of a commit at this position.
 fn named(line: &[u8], at: usize) -> FoundPick
-    ensures { λ r. ⌜ ((next : PickNext) → named·of (left (now (line .entry)) at) next ≡ afterPick (now (line .entry)) r next) ⌝ }
+    ensures { λ r. ⌜
+        ((next : PickNext) → named·of (left (now (line .entry)) at) next ≡ afterPick (now (line .entry)) r next)
+        ⌝ }
 {
     let FoundNumber::At(n, i) = number(line, at) else {
         return FoundPick::Missing;
@@ -144,7 +157,9 @@ fn named(line: &[u8], at: usize) -> FoundPick
 
 // E, L or a named point at this position.
 pub fn pick(line: &[u8], at: usize) -> FoundPick
-    ensures { λ r. ⌜ ((next : PickNext) → pick·of (left (now (line .entry)) at) next ≡ afterPick (now (line .entry)) r next) ⌝ }
+    ensures { λ r. ⌜
+        ((next : PickNext) → pick·of (left (now (line .entry)) at) next ≡ afterPick (now (line .entry)) r next)
+        ⌝ }
 {
     let FoundLetter::At(b, i) = letter(line, at) else {
         return named(line, at);

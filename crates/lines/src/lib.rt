@@ -1,5 +1,6 @@
 // Script lines: one line of bytes read as a call, or found to be of another form. Nothing here knows a store.
-// This file has the types; `fields` reads a field and `parsing` a line. Each function is proved against specs/.
+// This file has the types; `fields` reads a field and `parsing` a line. Each function is proved against specs/. Rests
+// on the crates `meaning` and `printing`.
 mod fields;
 mod parsing;
 
@@ -9,6 +10,9 @@ use meaning::Extent;
 use meaning::Finish;
 use meaning::Pick;
 pub use parsing::parse;
+
+// A line "over 200 bytes" is malformed (document 01).
+pub const LONGEST: usize = 200;
 
 // What a line is.
 pub enum Parsed {

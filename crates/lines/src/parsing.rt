@@ -1,12 +1,14 @@
-// The calls, one function for each letter, and the whole line.
+// The calls, one function for each letter, and the whole line. Rests on the crate `meaning` and on the module `fields`.
 ghost use mathlib.Core.Path.{_≡_};
-ghost use Rattle.lines.specs.Calls.{formatting, beginning, writing, locking, reading, committing, aborting, settling, purging, viewing, called as called·of, parsed};
+ghost use Rattle.lines.specs.Calls.{formatting, beginning, writing, locking, reading, committing, aborting};
+ghost use Rattle.lines.specs.Calls.{settling, purging, viewing, called as called·of, parsed};
 ghost use Rattle.lines.specs.Cursor.{left};
 use crate::FoundExtent;
 use crate::FoundFinish;
 use crate::FoundLetter;
 use crate::FoundNumber;
 use crate::FoundPick;
+use crate::LONGEST;
 use crate::Parsed;
 use crate::fields::extent;
 use crate::fields::finish;
@@ -250,7 +252,7 @@ fn called(line: &[u8], b: u8, at: usize) -> Parsed
 pub fn parse(line: &[u8]) -> Parsed
     ensures { λ r. ⌜ r ≡ parsed (now (line .entry)) ⌝ }
 {
-    if 200 < line.len() {
+    if LONGEST < line.len() {
         return Parsed::Malformed;
     }
     let FoundLetter::At(b, i) = letter(line, 0) else {

@@ -1,4 +1,5 @@
--- An access takes its place in an open edit: the edit and the store stay sound; Write as an instance. Rests on EditChanged and Kept.
+-- An access takes its place in an open edit: the edit and the store stay sound; Write as an instance. Rests on
+-- EditChanged and Kept.
 use Prim.Native.Nat.{ℕ, suc, _+_, _≤_, _<_}
 use native.Mathlib.Omega.{arith}
 use mathlib.Core.Path.{_≡_, refl, sym, ap}
@@ -10,7 +11,8 @@ use lib.ListN.{length, length-map}
 use borrow.Author.Tests.{ltb-true, eqb-true, eq-eqb, ne-eqb}
 use Rattle.meaning.specs.Lists.{_∈_, all, pairwise}
 use Rattle.meaning.specs.Limits.{OPEN}
-use Rattle.meaning.specs.Store.{Val, Access, Rec, Edit, Store, setEdit, editAt, recOf, withEdit, isOf, noAccess, accessOf, names, accessesUsed}
+use Rattle.meaning.specs.Store.{Val, Access, Rec, Edit, Store, setEdit, editAt, recOf, withEdit, isOf, noAccess}
+use Rattle.meaning.specs.Store.{accessOf, names, accessesUsed}
 use Rattle.meaning.specs.Outcomes.{accessRoom}
 use Rattle.meaning.specs.Edits.{withAccess, writtenAccess, written}
 use Rattle.meaning.specs.Sound.{namesOnce}
@@ -34,7 +36,8 @@ put-rec a b = go (test (isOf (a .rec) b))
     go (inr q) = rw q
 
 -- the accesses stay those of different records
-pub put-all : (a : Access) (r : ℕ) (acc : List Access) → all (λ y. not (eqb r (y .rec))) acc ≡ true → all (λ y. not (eqb r (y .rec))) (map (put a) acc) ≡ true
+pub put-all : (a : Access) (r : ℕ) (acc : List Access) → all (λ y. not (eqb r (y .rec))) acc ≡ true
+    → all (λ y. not (eqb r (y .rec))) (map (put a) acc) ≡ true
 put-all a r [] h = refl
 put-all a r (x ∷ acc) h =
     let p = not (eqb r (x .rec)) in
@@ -61,7 +64,8 @@ put-out a (x ∷ acc) b m = go (isOf (a .rec) x) (List·Memᴰ·cases-cons m) (p
     later (inl q) = inl q
     later (inr n) = inr (List·Memᴰ·tail n)
 
-    go : (t : Bool) → (b ≡ cond t a x) ⊎ (b ∈ map (put a) acc) → (b ∈ map (put a) acc → (b ≡ a) ⊎ (b ∈ acc)) → (b ≡ a) ⊎ (b ∈ x ∷ acc)
+    go : (t : Bool) → (b ≡ cond t a x) ⊎ (b ∈ map (put a) acc) → (b ∈ map (put a) acc → (b ≡ a) ⊎ (b ∈ acc))
+        → (b ≡ a) ⊎ (b ∈ x ∷ acc)
     go t (inl q) ih = here t q
     go t (inr n) ih = later (ih n)
 
@@ -82,7 +86,9 @@ module _ (e : Edit) (a : Access) where
       go (inl q) = rw q (put-apart a (e .accesses) h)
       go (inr q) =
           rw q
-          (and-in (all-in (apart a) (e .accesses) (λ b m. ap not (ne-eqb (a .rec) (b .rec) (λ z. any-none (isOf (a .rec)) (e .accesses) q m (eq-eqb (b .rec) (a .rec) (sym z)))))) h)
+          (and-in (all-in (apart a) (e .accesses)
+          (λ b m. ap not (ne-eqb (a .rec) (b .rec)
+          (λ z. any-none (isOf (a .rec)) (e .accesses) q m (eq-eqb (b .rec) (a .rec) (sym z)))))) h)
 
   pub access-put-named : names e (a .rec) ≡ true → length (withAccess e a .accesses) ≡ length (e .accesses)
   unfolding withAccess
@@ -103,7 +109,8 @@ pub record AccessFits (rs : List Rec) (k : ℕ) (a : Access) : Type 0 where
   pub locked : (tr : ℕ) → a .from ≡ suc tr → ReadStarts k (suc tr) (recOf rs (a .rec) .locks)
 
 -- a property of every access, before and of the new one, is one of every access after
-pub put-each : (P : Access → Type 0) (e : Edit) (a : Access) → P a → ((b : Access) → b ∈ e .accesses → P b) → (b : Access) → b ∈ withAccess e a .accesses → P b
+pub put-each : (P : Access → Type 0) (e : Edit) (a : Access) → P a → ((b : Access) → b ∈ e .accesses → P b)
+    → (b : Access) → b ∈ withAccess e a .accesses → P b
 put-each P e a new old b m = go (access-put-out e a b m)
   where
     go : (b ≡ a) ⊎ (b ∈ e .accesses) → P b
@@ -120,8 +127,12 @@ module _ (rs : List Rec) (k : ℕ) (e : Edit) (a : Access) (o : e .state ≡ OPE
         point = h .point;
         existing = put-each (λ b. b .rec < length rs) e a (fit .existing) (h .existing);
         once = access-put-once e a (h .once);
-        present = λ b tr m. put-each (λ c. c .from ≡ suc tr → Present (recOf rs (c .rec)) tr) e a (fit .present tr) (λ c n. h .present c tr n) b m;
-        locked = λ b tr m. put-each (λ c. c .from ≡ suc tr → ReadStarts k (suc tr) (recOf rs (c .rec) .locks)) e a (fit .locked tr) (λ c n. h .locked c tr n) b m;
+        present =
+            λ b tr m. put-each (λ c. c .from ≡ suc tr → Present (recOf rs (c .rec)) tr) e a (fit .present tr)
+            (λ c n. h .present c tr n) b m;
+        locked =
+            λ b tr m. put-each (λ c. c .from ≡ suc tr → ReadStarts k (suc tr) (recOf rs (c .rec) .locks)) e a
+            (fit .locked tr) (λ c n. h .locked c tr n) b m;
         common = λ q. absurd (omega (arith, o, q));
         idle = λ q. absurd (omega (arith, o, q));
       }
@@ -139,7 +150,8 @@ accessRoom-out s k r h = go (or-out (names (editAt s k) r) (ltb (accessesUsed s)
     go (inr q) = inr (ltb-true (accessesUsed s) (s .accessRows) q)
 
 module _ (s : Store) (h : SoundStore s) (k : ℕ) (o : editAt s k .state ≡ OPEN) where
-  pub access-put : (a : Access) → AccessFits (s .records) k a → AccessRoom s k (a .rec) → SoundStore (withEdit s k (withAccess (editAt s k) a))
+  pub access-put : (a : Access) → AccessFits (s .records) k a → AccessRoom s k (a .rec)
+      → SoundStore (withEdit s k (withAccess (editAt s k) a))
   unfolding withAccess
   access-put a fit room =
       edit-changed s k (withAccess (editAt s k) a)
@@ -147,12 +159,16 @@ module _ (s : Store) (h : SoundStore s) (k : ℕ) (o : editAt s k .state ≡ OPE
         range = used-range (s .edits) k (λ q. omega (arith, o, q));
         used = λ q. omega (arith, o, q);
         room = fits room;
-        wrote = λ r t. none-wrote (s .edits) (setEdit (s .edits) k (withAccess (editAt s k) a)) k r t (λ q. omega (arith, o, q));
+        wrote =
+            λ r t. none-wrote (s .edits) (setEdit (s .edits) k (withAccess (editAt s k) a)) k r t
+            (λ q. omega (arith, o, q));
         fits = access-put-sound (s .records) k (editAt s k) a o fit (h .edits k);
       })
       h
     where
-      fits : AccessRoom s k (a .rec) → accessesUsed s + length (withAccess (editAt s k) a .accesses) ≤ s .accessRows + length (editAt s k .accesses)
+      fits : AccessRoom s k (a .rec)
+          → accessesUsed s + length (withAccess (editAt s k) a .accesses)
+          ≤ s .accessRows + length (editAt s k .accesses)
       fits (inl q) = omega (arith, access-put-named (editAt s k) a q, h .accesses-fit)
       fits (inr q) = omega (arith, access-put-length (editAt s k) a, q)
 
@@ -161,11 +177,13 @@ module _ (s : Store) (h : SoundStore s) (k : ℕ) (o : editAt s k .state ≡ OPE
     abbrev x : Access
     x = accessOf (editAt s k) r
 
-    read-present : (x ≡ noAccess r) ⊎ ((x ∈ editAt s k .accesses) × (x .rec ≡ r)) → (tr : ℕ) → x .from ≡ suc tr → Present (recOf (s .records) r) tr
+    read-present : (x ≡ noAccess r) ⊎ ((x ∈ editAt s k .accesses) × (x .rec ≡ r)) → (tr : ℕ) → x .from ≡ suc tr
+        → Present (recOf (s .records) r) tr
     read-present (inl z) tr q = absurd (omega (arith, q, ap (λ (b : Access). b .from) z))
     read-present (inr w) tr q = rw (w .1) at (h .edits k .present x tr (w .0) q)
 
-    read-locked : (x ≡ noAccess r) ⊎ ((x ∈ editAt s k .accesses) × (x .rec ≡ r)) → (tr : ℕ) → x .from ≡ suc tr → ReadStarts k (suc tr) (recOf (s .records) r .locks)
+    read-locked : (x ≡ noAccess r) ⊎ ((x ∈ editAt s k .accesses) × (x .rec ≡ r)) → (tr : ℕ) → x .from ≡ suc tr
+        → ReadStarts k (suc tr) (recOf (s .records) r .locks)
     read-locked (inl z) tr q = absurd (omega (arith, q, ap (λ (b : Access). b .from) z))
     read-locked (inr w) tr q = rw (w .1) at (h .edits k .locked x tr (w .0) q)
 
@@ -174,5 +192,9 @@ module _ (s : Store) (h : SoundStore s) (k : ℕ) (o : editAt s k .state ≡ OPE
   unfolding written
   written-sound r v there room =
       access-put (writtenAccess (editAt s k) r v)
-      (record { existing = there; present = read-present r (access-out (editAt s k) r); locked = read-locked r (access-out (editAt s k) r) })
+      (record {
+        existing = there;
+        present = read-present r (access-out (editAt s k) r);
+        locked = read-locked r (access-out (editAt s k) r);
+      })
       room

@@ -1,5 +1,5 @@
--- Each test of the checks fails exactly where its cause of the table stands: the tests on a handle, a record, a point and the rows left.
--- Rests on Verdicts.
+-- Each test of the checks fails exactly where its cause of the table stands: the tests on a handle, a record, a point
+-- and the rows left. Rests on Verdicts.
 use Prim.Native.Nat.{ℕ, _+_, _≤_, _<_}
 use native.Mathlib.Omega.{arith}
 use mathlib.Core.Path.{_≡_, refl}
@@ -10,9 +10,11 @@ use lib.ListN.{length}
 use borrow.Author.Tests.{ltb-true, ltb-false, leb-true, leb-false, eqb-true, eqb-false, eq-eqb, not-true, not-false}
 use Rattle.meaning.specs.Lists.{any}
 use Rattle.meaning.specs.Limits.{LAST, FREE, OPEN, COMMITTED, ABORTED}
-use Rattle.meaning.specs.Store.{Store, slotOf, generationOf, editAt, inUse, isOf, names, writtenOf, versionsUsed, locksUsed, accessesUsed}
+use Rattle.meaning.specs.Store.{Store, slotOf, generationOf, editAt, inUse, isOf, names, writtenOf, versionsUsed}
+use Rattle.meaning.specs.Store.{locksUsed, accessesUsed}
 use Rattle.meaning.specs.Outcomes.{knows, isOpen, hasRecord, isPoint, accessRoom, lockRoom, versionRoom}
-use Rattle.meaning.specs.Causes.{NoSuchEdit, slot-zero, slot-past, slot-free, other-generation, HasEnded, NoAccessRow}
+use Rattle.meaning.specs.Causes.{NoSuchEdit, slot-zero, slot-past, slot-free, other-generation, HasEnded}
+use Rattle.meaning.specs.Causes.{NoAccessRow}
 use Rattle.meaning.proofs.Lists.{and-left, and-right, or-out, test, not-both, any-out, any-none}
 use Rattle.meaning.proofs.Verdicts.{Known, knows-out}
 
@@ -39,10 +41,14 @@ both-fail true b e = absurd (not-both refl e)
 no-edit-stands : (s : Store) (h : ℕ) → knows s h ≡ false → NoSuchEdit s h
 unfolding knows inUse
 no-edit-stands s h e =
-    go (either-fails (not (eqb (editAt s (slotOf h) .state) FREE)) (eqb (editAt s (slotOf h) .generation) (generationOf h)) e)
+    go (either-fails (not (eqb (editAt s (slotOf h) .state) FREE))
+    (eqb (editAt s (slotOf h) .generation) (generationOf h)) e)
   where
-    go : (not (eqb (editAt s (slotOf h) .state) FREE) ≡ false) ⊎ (eqb (editAt s (slotOf h) .generation) (generationOf h) ≡ false) → NoSuchEdit s h
-    go (inl q) = slot-free (eqb-true (editAt s (slotOf h) .state) FREE (not-false (eqb (editAt s (slotOf h) .state) FREE) q))
+    go : (not (eqb (editAt s (slotOf h) .state) FREE) ≡ false)
+        ⊎ (eqb (editAt s (slotOf h) .generation) (generationOf h) ≡ false)
+        → NoSuchEdit s h
+    go (inl q) =
+        slot-free (eqb-true (editAt s (slotOf h) .state) FREE (not-false (eqb (editAt s (slotOf h) .state) FREE) q))
     go (inr q) = other-generation (eqb-false (editAt s (slotOf h) .generation) (generationOf h) q)
 
 no-edit-free : (s : Store) (h : ℕ) → Known s h → NoSuchEdit s h → ⊥
@@ -55,21 +61,29 @@ pub known-test : (s : Store) (h : ℕ) → Refutes (knows s h) (NoSuchEdit s h)
 known-test s h = record { stands = no-edit-stands s h; free = λ e. no-edit-free s h (knows-out s h e) }
 
 -- 3: a slot in use is open, committed or aborted
-ended-stands : (s : Store) (h : ℕ) → knows s h ≡ true → editAt s (slotOf h) .state ≤ ABORTED → isOpen s h ≡ false → HasEnded s h
+ended-stands : (s : Store) (h : ℕ) → knows s h ≡ true → editAt s (slotOf h) .state ≤ ABORTED → isOpen s h ≡ false
+    → HasEnded s h
 unfolding isOpen
 ended-stands s h k l e = go (test (eqb (editAt s (slotOf h) .state) COMMITTED))
   where
-    go : (eqb (editAt s (slotOf h) .state) COMMITTED ≡ true) ⊎ (eqb (editAt s (slotOf h) .state) COMMITTED ≡ false) → HasEnded s h
+    go : (eqb (editAt s (slotOf h) .state) COMMITTED ≡ true) ⊎ (eqb (editAt s (slotOf h) .state) COMMITTED ≡ false)
+        → HasEnded s h
     go (inl q) = inl (eqb-true (editAt s (slotOf h) .state) COMMITTED q)
     go (inr q) =
-        inr (omega (arith, eqb-false (editAt s (slotOf h) .state) COMMITTED q, eqb-false (editAt s (slotOf h) .state) OPEN e, knows-out s h k .used))
+        inr (omega (
+          arith,
+          eqb-false (editAt s (slotOf h) .state) COMMITTED q,
+          eqb-false (editAt s (slotOf h) .state) OPEN e,
+          knows-out s h k .used,
+        ))
 
 ended-free : (s : Store) (h : ℕ) → isOpen s h ≡ true → HasEnded s h → ⊥
 unfolding isOpen
 ended-free s h e (inl q) = omega (arith, eqb-true (editAt s (slotOf h) .state) OPEN e)
 ended-free s h e (inr q) = omega (arith, eqb-true (editAt s (slotOf h) .state) OPEN e)
 
-pub open-test : (s : Store) (h : ℕ) → editAt s (slotOf h) .state ≤ ABORTED → knows s h ≡ true → Refutes (isOpen s h) (HasEnded s h)
+pub open-test : (s : Store) (h : ℕ) → editAt s (slotOf h) .state ≤ ABORTED → knows s h ≡ true
+    → Refutes (isOpen s h) (HasEnded s h)
 open-test s h l k = record { stands = ended-stands s h k l; free = ended-free s h }
 
 -- 4
@@ -96,7 +110,10 @@ record-test s r = below-test r (length (s .records))
 
 -- 6: a point above 0, as a count in its range
 positive-test : (n : ℕ) → Refutes (leb 1 n) (n ≡ 0)
-positive-test n = record { stands = λ (e : leb 1 n ≡ false). omega (arith, leb-false 1 n e); free = λ (e : leb 1 n ≡ true) q. omega (arith, leb-true 1 n e) }
+positive-test n = record {
+  stands = λ (e : leb 1 n ≡ false). omega (arith, leb-false 1 n e);
+  free = λ (e : leb 1 n ≡ true) q. omega (arith, leb-true 1 n e);
+}
 
 pub range-test : (n top : ℕ) → Refutes (leb 1 n && leb n top) ((n ≡ 0) ⊎ (top < n))
 range-test n top = and-test (positive-test n) (at-most-test n top)
@@ -138,7 +155,8 @@ unfolding accessRoom names
 access-free s k r e n = go (or-out (any (isOf r) (editAt s k .accesses)) (ltb (accessesUsed s) (s .accessRows)) e)
   where
     go : (any (isOf r) (editAt s k .accesses) ≡ true) ⊎ (ltb (accessesUsed s) (s .accessRows) ≡ true) → ⊥
-    go (inl q) = let w = any-out (isOf r) (editAt s k .accesses) q in n .unnamed (w .0) (w .1) (eqb-true (w .0 .rec) r (w .2))
+    go (inl q) =
+        let w = any-out (isOf r) (editAt s k .accesses) q in n .unnamed (w .0) (w .1) (eqb-true (w .0 .rec) r (w .2))
     go (inr q) = omega (arith, ltb-true (accessesUsed s) (s .accessRows) q, n .full)
 
 pub access-test : (s : Store) (k r : ℕ) → Refutes (accessRoom s k r) (NoAccessRow s k r)
@@ -149,6 +167,7 @@ pub lock-row-test : (s : Store) → Refutes (lockRoom s) (s .lockRows ≤ locksU
 unfolding lockRoom
 lock-row-test s = below-test (locksUsed s) (s .lockRows)
 
-pub version-row-test : (s : Store) (k : ℕ) → Refutes (versionRoom s k) (s .versionRows < versionsUsed s + length (writtenOf (editAt s k)))
+pub version-row-test : (s : Store) (k : ℕ)
+    → Refutes (versionRoom s k) (s .versionRows < versionsUsed s + length (writtenOf (editAt s k)))
 unfolding versionRoom
 version-row-test s k = at-most-test (versionsUsed s + length (writtenOf (editAt s k))) (s .versionRows)

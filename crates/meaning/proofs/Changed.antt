@@ -1,5 +1,5 @@
--- What committing, settling and purging make of one record and of one slot, as a function of its index, and that the counts stay.
--- Rests on Stores, Kept and LocksLeft.
+-- What committing, settling and purging make of one record and of one slot, as a function of its index, and that the
+-- counts stay. Rests on Stores, Kept and LocksLeft.
 use Prim.Native.Nat.{ℕ, _≤_, _<_}
 use native.Mathlib.Omega.{arith}
 use native.Mathlib.Decide.{decLt}
@@ -8,11 +8,13 @@ use mathlib.Core.Bool.{true}
 use lib.ListN.{length, length-set}
 use Rattle.meaning.specs.Lists.{_∈_, mapFrom}
 use Rattle.meaning.specs.Limits.{COMMITTED, ABORTED}
-use Rattle.meaning.specs.Store.{Access, Rec, Edit, Store, freshRec, countsOf, editAt, recAt, withEdit, withRecords, withRec}
+use Rattle.meaning.specs.Store.{Access, Rec, Edit, Store, freshRec, countsOf, editAt, recAt, withEdit}
+use Rattle.meaning.specs.Store.{withRecords, withRec}
 use Rattle.meaning.specs.Ending.{ended, freed, settledRec, settled, committedRec, committed, aborted}
 use Rattle.meaning.specs.Records.{goodCounts}
 use Rattle.meaning.proofs.Lists.{length-mapFrom}
-use Rattle.meaning.proofs.Stores.{InRange, edit-same, edit-other, length-setEdit, rec-same, rec-other, rec-past, rec-map, rec-map-past}
+use Rattle.meaning.proofs.Stores.{InRange, edit-same, edit-other, length-setEdit, rec-same, rec-other, rec-past}
+use Rattle.meaning.proofs.Stores.{rec-map, rec-map-past}
 use Rattle.meaning.proofs.Kept.{access-past}
 use Rattle.meaning.proofs.LocksLeft.{settled-none}
 
@@ -35,7 +37,11 @@ module _ (s : Store) (k t r : ℕ) where
       go : Dec (r < length (s .records)) → recAt (committed s k t) r ≡ committedRec (editAt s k) t r (recAt s r)
       go (yes h) = rec-committed h
       go (no h) =
-          rw (rec-committed-past (omega arith), access-past (editAt s k) r (s .records) f (omega arith), rec-past (s .records) r (omega arith)) refl
+          rw (
+            rec-committed-past (omega arith),
+            access-past (editAt s k) r (s .records) f (omega arith),
+            rec-past (s .records) r (omega arith),
+          ) refl
 
 module _ (s : Store) (k r : ℕ) where
   pub rec-settled : r < length (s .records) → recAt (settled s k) r ≡ settledRec k (editAt s k) r (recAt s r)
@@ -103,9 +109,11 @@ module _ (s : Store) (k : ℕ) where
   unfolding aborted withEdit
   edit-aborted-other j h = edit-other (s .edits) k j (ended (editAt s k) ABORTED 0) h
 
--- every record changed by its index and one slot changed, or one record changed: as many as before, and the counts as good
+-- every record changed by its index and one slot changed, or one record changed: as many as before, and the counts as
+-- good
 module _ (s : Store) (f : ℕ → Rec → Rec) (k : ℕ) (e : Edit) where
-  pub counts-map : goodCounts (countsOf s) ≡ true → goodCounts (countsOf (withEdit (withRecords s (mapFrom 0 f (s .records))) k e)) ≡ true
+  pub counts-map : goodCounts (countsOf s) ≡ true
+      → goodCounts (countsOf (withEdit (withRecords s (mapFrom 0 f (s .records))) k e)) ≡ true
   unfolding withEdit withRecords
   counts-map h = rw (length-mapFrom f 0 (s .records), length-setEdit (s .edits) k e) h
 

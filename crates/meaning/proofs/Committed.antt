@@ -1,5 +1,5 @@
--- Committing an open edit at a point of its common set keeps a store sound: an own write lock shuts every other owner out there, so no
--- version stands on the point yet, and it backs the new one. Rests on Changed, Kept and Inserted.
+-- Committing an open edit at a point of its common set keeps a store sound: an own write lock shuts every other owner
+-- out there, so no version stands on the point yet, and it backs the new one. Rests on Changed, Kept and Inserted.
 use Prim.Native.Nat.{ℕ, _+_, _≤_, _<_}
 use native.Mathlib.Omega.{arith}
 use native.Mathlib.Nat.{le-refl}
@@ -10,7 +10,8 @@ use mathlib.Core.List.{List}
 use lib.ListN.{length}
 use Rattle.meaning.specs.Lists.{_∈_, mapFrom}
 use Rattle.meaning.specs.Limits.{LAST, WRITE, SETTLED, OPEN, COMMITTED}
-use Rattle.meaning.specs.Store.{Version, Rec, Edit, Store, freshRec, editOf, setEdit, recOf, editAt, recAt, withEdit, withRecords, accessOf, writtenOf, versionsUsed, locksUsed, accessesUsed}
+use Rattle.meaning.specs.Store.{Version, Rec, Edit, Store, freshRec, editOf, setEdit, recOf, editAt, recAt}
+use Rattle.meaning.specs.Store.{withEdit, withRecords, accessOf, writtenOf, versionsUsed, locksUsed, accessesUsed}
 use Rattle.meaning.specs.Ending.{ended, insert, newVersion, committedRec, committed}
 use Rattle.meaning.specs.Sound.{versionsFall, namesOnce}
 use Rattle.meaning.specs.Pointwise.{LockOn, InCommonSet}
@@ -22,7 +23,8 @@ use Rattle.meaning.proofs.Kept.{Keeps, edit-kept, access-written}
 use Rattle.meaning.proofs.EditChanged.{edit-changed, none-wrote}
 use Rattle.meaning.proofs.Inserted.{insert-old, insert-out, insert-falls, versions-added}
 
-module _ (s : Store) (k t : ℕ) (good : SoundStore s) (st : editAt s k .state ≡ OPEN) (common : InCommonSet (s .records) k (editAt s k) t) where
+module _ (s : Store) (k t : ℕ) (good : SoundStore s) (st : editAt s k .state ≡ OPEN)
+    (common : InCommonSet (s .records) k (editAt s k) t) where
   abbrev e : Edit
   e = editAt s k
 
@@ -70,7 +72,14 @@ module _ (s : Store) (k t : ℕ) (good : SoundStore s) (st : editAt s k .state �
         once = h .once;
         present = h .present;
         locked = h .locked;
-        common = λ z. record { least = common .least; last = common .last; written = common .written; above = common .above; under = common .under };
+        common =
+            λ z. record {
+              least = common .least;
+              last = common .last;
+              written = common .written;
+              above = common .above;
+              under = common .under;
+            };
         idle = λ z. absurd (omega arith);
       }
 
@@ -114,11 +123,19 @@ module _ (s : Store) (k t : ℕ) (good : SoundStore s) (st : editAt s k .state �
     back v (inl z) h =
         let l = own-lock r q in
         let p : v .point ≡ t = ap (λ (w : Version). w .point) z in
-        record { lock = l .lock; member = l .member; write = l .moded; from = rw p (l .from); upto = rw p (l .upto); owner = inr (rw (p, l .owned) (wrote-now r q)) }
+        record {
+          lock = l .lock;
+          member = l .member;
+          write = l .moded;
+          from = rw p (l .from);
+          upto = rw p (l .upto);
+          owner = inr (rw (p, l .owned) (wrote-now r q));
+        }
     back v (inr m) h = rec-turned r .backed v m h
 
     -- a bound on every version
-    each : (P : ℕ → Type 0) → P t → ((v : Version) → v ∈ x .versions → P (v .point)) → (v : Version) → v ∈ insert new (x .versions) → P (v .point)
+    each : (P : ℕ → Type 0) → P t → ((v : Version) → v ∈ x .versions → P (v .point)) → (v : Version)
+        → v ∈ insert new (x .versions) → P (v .point)
     each P a f v m = go (insert-out new (x .versions) m)
       where
         go : (v ≡ new) ⊎ (v ∈ x .versions) → P (v .point)
@@ -134,7 +151,9 @@ module _ (s : Store) (k t : ℕ) (good : SoundStore s) (st : editAt s k .state �
           falls = insert-falls new (x .versions) (none-there r q) (b .falls);
           low = each (λ p. x .floor ≤ p) (omega (arith, above)) (b .low);
           high = each (λ p. p ≤ LAST) (common .last) (b .high);
-          base = λ h. let w = b .base h in record { version = w .version; member = insert-old new (x .versions) (w .member); stands = w .stands };
+          base =
+              λ h. let w = b .base h in
+              record { version = w .version; member = insert-old new (x .versions) (w .member); stands = w .stands };
           nonzero = each (λ p. 0 < p) (common .least) (b .nonzero);
           span = b .span;
           owner = b .owner;
@@ -146,7 +165,11 @@ module _ (s : Store) (k t : ℕ) (good : SoundStore s) (st : editAt s k .state �
   rec-done r = go (accessOf e r .written) refl
     where
       go : (b : Bool) → accessOf e r .written ≡ b
-          → SoundRec es′ r (record { versions = cond b (insert (newVersion (accessOf e r) t) (recAt s r .versions)) (recAt s r .versions); locks = recAt s r .locks; floor = recAt s r .floor })
+          → SoundRec es′ r (record {
+            versions = cond b (insert (newVersion (accessOf e r) t) (recAt s r .versions)) (recAt s r .versions);
+            locks = recAt s r .locks;
+            floor = recAt s r .floor;
+          })
       go true q = rec-written r q
       go false q = rec-turned r
 
@@ -156,9 +179,11 @@ module _ (s : Store) (k t : ℕ) (good : SoundStore s) (st : editAt s k .state �
 
   present-kept : (r tr : ℕ) → Present (recAt s r) tr → Present (committedRec e t r (recAt s r)) tr
   present-kept r tr (inr z) = inr z
-  present-kept r tr (inl w) = inl (record { version = w .version; member = go (accessOf e r .written); stands = w .stands })
+  present-kept r tr (inl w) =
+      inl (record { version = w .version; member = go (accessOf e r .written); stands = w .stands })
     where
-      go : (b : Bool) → w .version ∈ cond b (insert (newVersion (accessOf e r) t) (recAt s r .versions)) (recAt s r .versions)
+      go : (b : Bool)
+          → w .version ∈ cond b (insert (newVersion (accessOf e r) t) (recAt s r .versions)) (recAt s r .versions)
       go true = insert-old (newVersion (accessOf e r) t) (recAt s r .versions) (w .member)
       go false = w .member
 
@@ -176,7 +201,12 @@ module _ (s : Store) (k t : ℕ) (good : SoundStore s) (st : editAt s k .state �
       record {
         counts = counts-map s (committedRec e t) k done (good .counts);
         versions-fit = omega (arith, room, versions-added e t (s .records));
-        locks-fit = omega (arith, good .locks-fit, total-mapFrom (λ x. length (x .locks)) (committedRec e t) 0 (s .records) freshRec (λ j h. le-refl _));
+        locks-fit =
+            omega (
+              arith,
+              good .locks-fit,
+              total-mapFrom (λ x. length (x .locks)) (committedRec e t) 0 (s .records) freshRec (λ j h. le-refl _),
+            );
         accesses-fit = turned .accesses-fit;
         recs = λ r. rw (rec-is r) (rec-done r);
         edits = λ j. edit-kept j (editOf es′ j) (s .records) rs′ (keeps j (editOf es′ j)) (turned .edits j);

@@ -1,5 +1,5 @@
--- Membership of the common set is document 01's sentence: each access allows the point exactly if an own write lock or own locks from
--- the point read on are there. Rests on Tests and Spans.
+-- Membership of the common set is document 01's sentence: each access allows the point exactly if an own write lock or
+-- own locks from the point read on are there. Rests on Tests and Spans.
 use Prim.Native.Nat.{ℕ, suc, _≤_, _<_}
 use native.Mathlib.Omega.{arith}
 use mathlib.Core.Path.{_≡_}
@@ -11,11 +11,13 @@ use borrow.Author.Tests.{leb-true, le-leb, ltb-true, lt-ltb}
 use Rattle.meaning.specs.Lists.{_∈_, all}
 use Rattle.meaning.specs.Limits.{LAST, WRITE}
 use Rattle.meaning.specs.Store.{Lock, Access, Rec, Edit, recOf, hasRead}
-use Rattle.meaning.specs.Points.{covered, own, writes, firstFree, ownOn, allowsWrite, allowsRead, allows, lowest, inCommon}
+use Rattle.meaning.specs.Points.{covered, own, writes, firstFree, ownOn, allowsWrite, allowsRead, allows, lowest}
+use Rattle.meaning.specs.Points.{inCommon}
 use Rattle.meaning.specs.Pointwise.{LockOn, HeldOn, InCommonSet}
 use Rattle.meaning.specs.Laws.{CommonSetIs}
 use Rattle.meaning.proofs.Lists.{and-in, and-left, and-right, implies-out, implies-in, test, all-out, all-in}
-use Rattle.meaning.proofs.Tests.{read-out, read-in, unread-out, own-out, own-in, writes-out, writes-in, Covered, covered-out, covered-in}
+use Rattle.meaning.proofs.Tests.{read-out, read-in, unread-out, own-out, own-in, writes-out, writes-in, Covered}
+use Rattle.meaning.proofs.Tests.{covered-out, covered-in}
 use Rattle.meaning.proofs.Spans.{firstFree-run, reached}
 
 module _ (ls : List Lock) (k p : ℕ) where
@@ -26,7 +28,11 @@ module _ (ls : List Lock) (k p : ℕ) where
       record { lock = c .lock; member = w .0; owned = w .1; from = c .under .from; upto = c .under .upto }
 
   pub held-in : HeldOn ls k p → Covered (own k ls) p
-  held-in h = record { lock = h .lock; member = own-in k ls (h .member) (h .owned); under = record { from = h .from; upto = h .upto } }
+  held-in h = record {
+    lock = h .lock;
+    member = own-in k ls (h .member) (h .owned);
+    under = record { from = h .from; upto = h .upto };
+  }
 
   pub written-out : Covered (writes (own k ls)) p → LockOn ls k WRITE p
   written-out c =
@@ -42,7 +48,8 @@ module _ (ls : List Lock) (k p : ℕ) where
         under = record { from = h .from; upto = h .upto };
       }
 
--- the test for one access, as orders: under a write lock if written; if read, between `from` and the first point under none of the locks
+-- the test for one access, as orders: under a write lock if written; if read, between `from` and the first point under
+-- none of the locks
 pub record Parts (ls : List Lock) (a : Access) (p : ℕ) : Type 0 where
   pub written : a .written ≡ true → Covered (writes ls) p
   pub from : a .from ≤ p
@@ -76,7 +83,8 @@ module _ (ls : List Lock) (a : Access) (p : ℕ) where
   parts-in w =
       and-in
       (implies-in (a .written) (covered (writes ls) p) (λ h. covered-in (writes ls) p (w .written h)))
-      (implies-in (hasRead a) (starts && ends) (λ h. and-in (le-leb (a .from) p (w .from)) (lt-ltb p (firstFree ls (a .from) LAST) (w .upto h))))
+      (implies-in (hasRead a) (starts && ends)
+      (λ h. and-in (le-leb (a .from) p (w .from)) (lt-ltb p (firstFree ls (a .from) LAST) (w .upto h))))
 
 -- the sentence for one access
 pub record Allowed (rs : List Rec) (k p : ℕ) (a : Access) : Type 0 where
@@ -97,7 +105,8 @@ module _ (rs : List Rec) (k p : ℕ) (a : Access) where
         above = λ tr q. omega (arith, w .from);
         under =
             λ tr q s g h.
-            held-out ls k q (firstFree-run (own k ls) (a .from) LAST q (omega arith) (omega (arith, w .upto (read-in a tr s))));
+            held-out ls k q
+            (firstFree-run (own k ls) (a .from) LAST q (omega arith) (omega (arith, w .upto (read-in a tr s))));
       }
 
   -- what is covered from `from` on ends at LAST, so this direction is for points

@@ -1,5 +1,5 @@
--- A store stays sound where one slot gets another edit that is in use, sound, and keeps what the old one wrote and committed; Begin and
--- Abort that keeps as instances. Rests on SoundParts' facts and Stores.
+-- A store stays sound where one slot gets another edit that is in use, sound, and keeps what the old one wrote and
+-- committed; Begin and Abort that keeps as instances. Rests on SoundParts' facts and Stores.
 use Prim.Native.Nat.{ℕ, _+_, _≤_}
 use native.Mathlib.Omega.{arith}
 use native.Mathlib.Decide.{ℕ-discrete}
@@ -8,7 +8,8 @@ use mathlib.Core.Logic.{_⊎_, inl, inr}
 use mathlib.Core.List.{List, List·Memᴰ·not-nil}
 use lib.ListN.{length}
 use Rattle.meaning.specs.Limits.{SETTLED, FREE, OPEN, COMMITTED, ABORTED}
-use Rattle.meaning.specs.Store.{Lock, Rec, Edit, Store, editOf, setEdit, editAt, recAt, withEdit, accessesUsed, versionsUsed, locksUsed}
+use Rattle.meaning.specs.Store.{Lock, Rec, Edit, Store, editOf, setEdit, editAt, recAt, withEdit, accessesUsed}
+use Rattle.meaning.specs.Store.{versionsUsed, locksUsed}
 use Rattle.meaning.specs.Edits.{openedEdit, begun}
 use Rattle.meaning.specs.Ending.{ended, aborted}
 use Rattle.meaning.specs.Sound.{namesOnce}
@@ -24,9 +25,17 @@ pub record EditsKept (es es′ : List Edit) : Type 0 where
 module _ (es es′ : List Edit) (kept : EditsKept es es′) (r : ℕ) where
   pub backed-kept : (p : ℕ) (ls : List Lock) → Backed es r p ls → Backed es′ r p ls
   backed-kept p ls b =
-      record { lock = b .lock; member = b .member; write = b .write; from = b .from; upto = b .upto; owner = go (b .owner) }
+      record {
+        lock = b .lock;
+        member = b .member;
+        write = b .write;
+        from = b .from;
+        upto = b .upto;
+        owner = go (b .owner);
+      }
     where
-      go : (b .lock .owner ≡ SETTLED) ⊎ WroteAt es (b .lock .owner) r p → (b .lock .owner ≡ SETTLED) ⊎ WroteAt es′ (b .lock .owner) r p
+      go : (b .lock .owner ≡ SETTLED) ⊎ WroteAt es (b .lock .owner) r p
+          → (b .lock .owner ≡ SETTLED) ⊎ WroteAt es′ (b .lock .owner) r p
       go (inl q) = inl q
       go (inr q) = inr (kept .wrote (b .lock .owner) r p q)
 
@@ -45,7 +54,8 @@ module _ (es es′ : List Edit) (kept : EditsKept es es′) (r : ℕ) where
         backed = λ v m a. backed-kept (v .point) (x .locks) (h .backed v m a);
       }
     where
-      go : (l : Lock) → (l .owner ≡ SETTLED) ⊎ (editOf es (l .owner) .state ≡ FREE → ⊥) → (l .owner ≡ SETTLED) ⊎ (editOf es′ (l .owner) .state ≡ FREE → ⊥)
+      go : (l : Lock) → (l .owner ≡ SETTLED) ⊎ (editOf es (l .owner) .state ≡ FREE → ⊥)
+          → (l .owner ≡ SETTLED) ⊎ (editOf es′ (l .owner) .state ≡ FREE → ⊥)
       go l (inl q) = inl q
       go l (inr q) = inr (kept .used (l .owner) q)
 
@@ -58,7 +68,8 @@ pub record EditFits (s : Store) (k : ℕ) (e : Edit) : Type 0 where
   pub fits : SoundEdit (s .records) k e
 
 module _ (s : Store) (k : ℕ) (e : Edit) (fit : EditFits s k e) where
-  pub accesses-changed : accessesUsed (withEdit s k e) + length (editAt s k .accesses) ≡ accessesUsed s + length (e .accesses)
+  pub accesses-changed : accessesUsed (withEdit s k e) + length (editAt s k .accesses)
+      ≡ accessesUsed s + length (e .accesses)
   unfolding accessesUsed withEdit
   accesses-changed = accesses-set (s .edits) k e (fit .range)
 
@@ -69,7 +80,8 @@ module _ (s : Store) (k : ℕ) (e : Edit) (fit : EditFits s k e) where
         wrote = λ j r t h. wrote j r t h (ℕ-discrete j k);
       }
     where
-      used : (j : ℕ) → (editOf (s .edits) j .state ≡ FREE → ⊥) → Dec (j ≡ k) → editOf (setEdit (s .edits) k e) j .state ≡ FREE → ⊥
+      used : (j : ℕ) → (editOf (s .edits) j .state ≡ FREE → ⊥) → Dec (j ≡ k)
+          → editOf (setEdit (s .edits) k e) j .state ≡ FREE → ⊥
       used j h (yes q) = rw (q, edit-same (s .edits) k e (fit .range)) (fit .used)
       used j h (no q) = rw (edit-other (s .edits) k j e q) h
 
@@ -92,7 +104,8 @@ module _ (s : Store) (k : ℕ) (e : Edit) (fit : EditFits s k e) where
       }
 
 -- an edit that has not committed wrote no version
-pub none-wrote : (es es′ : List Edit) (k r t : ℕ) → (editOf es k .state ≡ COMMITTED → ⊥) → WroteAt es k r t → WroteAt es′ k r t
+pub none-wrote : (es es′ : List Edit) (k r t : ℕ) → (editOf es k .state ≡ COMMITTED → ⊥) → WroteAt es k r t
+    → WroteAt es′ k r t
 none-wrote es es′ k r t h w = absurd (h (w .state))
 
 module _ (s : Store) (h : SoundStore s) (k : ℕ) where
@@ -105,7 +118,9 @@ module _ (s : Store) (h : SoundStore s) (k : ℕ) where
         range = range;
         used = λ q. omega (arith, q);
         room = omega (arith, h .accesses-fit);
-        wrote = λ r t. none-wrote (s .edits) (setEdit (s .edits) k (openedEdit (editAt s k))) k r t (λ q. omega (arith, free, q));
+        wrote =
+            λ r t. none-wrote (s .edits) (setEdit (s .edits) k (openedEdit (editAt s k))) k r t
+            (λ q. omega (arith, free, q));
         fits = opened;
       })
       h
@@ -133,7 +148,9 @@ module _ (s : Store) (h : SoundStore s) (k : ℕ) where
         range = used-range (s .edits) k (λ q. omega (arith, o, q));
         used = λ q. omega (arith, q);
         room = omega (arith, h .accesses-fit);
-        wrote = λ r t. none-wrote (s .edits) (setEdit (s .edits) k (ended (editAt s k) ABORTED 0)) k r t (λ q. omega (arith, o, q));
+        wrote =
+            λ r t. none-wrote (s .edits) (setEdit (s .edits) k (ended (editAt s k) ABORTED 0)) k r t
+            (λ q. omega (arith, o, q));
         fits = gone (h .edits k);
       })
       h

@@ -1,5 +1,5 @@
--- The clauses of soundness that speak of an edit, each as the fact that it says, both ways: edit-out and edit-in. Rests on Lists, Tests
--- and CommonSet.
+-- The clauses of soundness that speak of an edit, each as the fact that it says, both ways: edit-out and edit-in. Rests
+-- on Lists, Tests and CommonSet.
 use Prim.Native.Nat.{ℕ, suc}
 use native.Mathlib.Omega.{arith}
 use mathlib.Core.Path.{_≡_, refl, ap}
@@ -13,9 +13,11 @@ use Rattle.meaning.specs.Lists.{_∈_, any}
 use Rattle.meaning.specs.Limits.{GENERATIONS, WRITE, FREE, COMMITTED, ABORTED}
 use Rattle.meaning.specs.Store.{Lock, Access, Rec, Edit, recOf, hasRead}
 use Rattle.meaning.specs.Points.{isWrite, isOwned, inCommon}
-use Rattle.meaning.specs.Sound.{stateListed, generationListed, pointListed, namesExisting, namesOnce, isPresent, readsPresent, startsRead, readsLocked, pointCommon, freeIdle, soundEdit}
+use Rattle.meaning.specs.Sound.{stateListed, generationListed, pointListed, namesExisting, namesOnce, isPresent}
+use Rattle.meaning.specs.Sound.{readsPresent, startsRead, readsLocked, pointCommon, freeIdle, soundEdit}
 use Rattle.meaning.specs.SoundFacts.{Present, ReadStarts, SoundEdit}
-use Rattle.meaning.proofs.Lists.{and-in, and-left, and-right, or-out, or-left, or-right, implies-out, implies-in, test, every-at, any-in, any-out, all-in, all-out}
+use Rattle.meaning.proofs.Lists.{and-in, and-left, and-right, or-out, or-left, or-right, implies-out, implies-in}
+use Rattle.meaning.proofs.Lists.{test, every-at, any-in, any-out, all-in, all-out}
 use Rattle.meaning.proofs.Tests.{read-out, read-in}
 use Rattle.meaning.proofs.CommonSet.{common-set-is}
 use Rattle.meaning.proofs.RecParts.{_also_}
@@ -25,20 +27,26 @@ pub present-out : (x : Rec) (from tr : ℕ) → from ≡ suc tr → isPresent x 
 unfolding isPresent
 present-out x from tr f e = go (or-out (any (λ v. eqb (suc (v .point)) from) (x .versions)) _ e)
   where
-    go : (any (λ v. eqb (suc (v .point)) from) (x .versions) ≡ true) ⊎ ((eqb from 1 && eqb (x .floor) 0) ≡ true) → Present x tr
+    go : (any (λ v. eqb (suc (v .point)) from) (x .versions) ≡ true) ⊎ ((eqb from 1 && eqb (x .floor) 0) ≡ true)
+        → Present x tr
     go (inl q) =
         let w = any-out (λ v. eqb (suc (v .point)) from) (x .versions) q in
         inl (record { version = w .0; member = w .1; stands = omega (arith, eqb-true (suc (w .0 .point)) from (w .2)) })
     go (inr q) =
-        inr (omega (arith, eqb-true from 1 (and-left (eqb from 1) (eqb (x .floor) 0) q)), eqb-true (x .floor) 0 (and-right (eqb from 1) (eqb (x .floor) 0) q))
+        inr (
+          omega (arith, eqb-true from 1 (and-left (eqb from 1) (eqb (x .floor) 0) q)),
+          eqb-true (x .floor) 0 (and-right (eqb from 1) (eqb (x .floor) 0) q),
+        )
 
 pub present-in : (x : Rec) (from tr : ℕ) → from ≡ suc tr → Present x tr → isPresent x from ≡ true
 unfolding isPresent
 present-in x from tr f (inl w) =
     or-left (eqb from 1 && eqb (x .floor) 0)
-    (any-in (λ v. eqb (suc (v .point)) from) (w .member) (eq-eqb (suc (w .version .point)) from (omega (arith, w .stands))))
+    (any-in (λ v. eqb (suc (v .point)) from) (w .member)
+    (eq-eqb (suc (w .version .point)) from (omega (arith, w .stands))))
 present-in x from tr f (inr w) =
-    or-right (any (λ v. eqb (suc (v .point)) from) (x .versions)) (and-in (eq-eqb from 1 (omega (arith, w .0))) (eq-eqb (x .floor) 0 (w .1)))
+    or-right (any (λ v. eqb (suc (v .point)) from) (x .versions))
+    (and-in (eq-eqb from 1 (omega (arith, w .0))) (eq-eqb (x .floor) 0 (w .1)))
 
 pub starts-out : (k from : ℕ) (ls : List Lock) → any (startsRead k from) ls ≡ true → ReadStarts k from ls
 unfolding startsRead
@@ -92,7 +100,8 @@ module _ (rs : List Rec) (k : ℕ) (e : Edit) where
   locked a = not (hasRead a) || any (startsRead k (a .from)) (recOf rs (a .rec) .locks)
 
   pub edit-out : soundEdit rs k e ≡ true → SoundEdit rs k e
-  unfolding soundEdit stateListed generationListed pointListed namesExisting readsPresent readsLocked pointCommon freeIdle
+  unfolding soundEdit stateListed generationListed pointListed namesExisting readsPresent readsLocked pointCommon
+      freeIdle
   edit-out h =
       record {
         state = leb-true (e .state) ABORTED (tests 0);
@@ -102,48 +111,68 @@ module _ (rs : List Rec) (k : ℕ) (e : Edit) where
         once = tests 4;
         present = presented;
         locked = started;
-        common = λ c. common-set-is rs k e (e .point) .0 (implies-out (eqb (e .state) COMMITTED) (inCommon rs k e (e .point)) (tests 7) (eq-eqb (e .state) COMMITTED c));
-        idle = λ c. no-length (e .accesses) (eqb-true (length (e .accesses)) 0 (implies-out (eqb (e .state) FREE) (eqb (length (e .accesses)) 0) (tests 8) (eq-eqb (e .state) FREE c)));
+        common =
+            λ c. common-set-is rs k e (e .point) .0
+            (implies-out (eqb (e .state) COMMITTED) (inCommon rs k e (e .point)) (tests 7)
+            (eq-eqb (e .state) COMMITTED c));
+        idle =
+            λ c. no-length (e .accesses)
+            (eqb-true (length (e .accesses)) 0
+            (implies-out (eqb (e .state) FREE) (eqb (length (e .accesses)) 0) (tests 8) (eq-eqb (e .state) FREE c)));
       }
     where
       tests : (i : ℕ) → getD (editTests rs k e) i true ≡ true
       tests i = every-at (editTests rs k e) h i
 
-      pointed : (e .state ≡ COMMITTED → ⊥) → (eqb (e .state) COMMITTED ≡ true) ⊎ (eqb (e .point) 0 ≡ true) → e .point ≡ 0
+      pointed : (e .state ≡ COMMITTED → ⊥) → (eqb (e .state) COMMITTED ≡ true) ⊎ (eqb (e .point) 0 ≡ true)
+          → e .point ≡ 0
       pointed o (inl q) = absurd (o (eqb-true (e .state) COMMITTED q))
       pointed o (inr q) = eqb-true (e .point) 0 q
 
       presented : (a : Access) (tr : ℕ) → a ∈ e .accesses → a .from ≡ suc tr → Present (recOf rs (a .rec)) tr
       presented a tr m f =
           let t = all-out present (e .accesses) (tests 5) a m in
-          present-out (recOf rs (a .rec)) (a .from) tr f (implies-out (hasRead a) (isPresent (recOf rs (a .rec)) (a .from)) t (read-in a tr f))
+          present-out (recOf rs (a .rec)) (a .from) tr f
+          (implies-out (hasRead a) (isPresent (recOf rs (a .rec)) (a .from)) t (read-in a tr f))
 
-      started : (a : Access) (tr : ℕ) → a ∈ e .accesses → a .from ≡ suc tr → ReadStarts k (suc tr) (recOf rs (a .rec) .locks)
+      started : (a : Access) (tr : ℕ) → a ∈ e .accesses → a .from ≡ suc tr
+          → ReadStarts k (suc tr) (recOf rs (a .rec) .locks)
       started a tr m f =
           let ls = recOf rs (a .rec) .locks in
           let t = all-out locked (e .accesses) (tests 6) a m in
-          rw f at (starts-out k (a .from) ls (implies-out (hasRead a) (any (startsRead k (a .from)) ls) t (read-in a tr f)))
+          rw f at
+          (starts-out k (a .from) ls (implies-out (hasRead a) (any (startsRead k (a .from)) ls) t (read-in a tr f)))
 
   pub edit-in : SoundEdit rs k e → soundEdit rs k e ≡ true
-  unfolding soundEdit stateListed generationListed pointListed namesExisting readsPresent readsLocked pointCommon freeIdle
+  unfolding soundEdit stateListed generationListed pointListed namesExisting readsPresent readsLocked pointCommon
+      freeIdle
   edit-in s =
       le-leb (e .state) ABORTED (s .state)
       also lt-ltb (e .generation) GENERATIONS (s .generation)
       also pointed (test (eqb (e .state) COMMITTED))
       also all-in exists (e .accesses) (λ a m. lt-ltb (a .rec) (length rs) (s .existing a m))
       also s .once
-      also all-in present (e .accesses) (λ a m. implies-in (hasRead a) (isPresent (recOf rs (a .rec)) (a .from)) (λ r. presented a m (read-out a r)))
-      also all-in locked (e .accesses) (λ a m. implies-in (hasRead a) (any (startsRead k (a .from)) (recOf rs (a .rec) .locks)) (λ r. started a m (read-out a r)))
-      also implies-in (eqb (e .state) COMMITTED) (inCommon rs k e (e .point)) (λ c. common-set-is rs k e (e .point) .1 (s .common (eqb-true (e .state) COMMITTED c)))
-      also implies-in (eqb (e .state) FREE) (eqb (length (e .accesses)) 0) (λ c. eq-eqb (length (e .accesses)) 0 (ap length (s .idle (eqb-true (e .state) FREE c))))
+      also all-in present (e .accesses)
+      (λ a m. implies-in (hasRead a) (isPresent (recOf rs (a .rec)) (a .from)) (λ r. presented a m (read-out a r)))
+      also all-in locked (e .accesses)
+      (λ a m. implies-in (hasRead a) (any (startsRead k (a .from)) (recOf rs (a .rec) .locks))
+      (λ r. started a m (read-out a r)))
+      also implies-in (eqb (e .state) COMMITTED) (inCommon rs k e (e .point))
+      (λ c. common-set-is rs k e (e .point) .1 (s .common (eqb-true (e .state) COMMITTED c)))
+      also implies-in (eqb (e .state) FREE) (eqb (length (e .accesses)) 0)
+      (λ c. eq-eqb (length (e .accesses)) 0 (ap length (s .idle (eqb-true (e .state) FREE c))))
       also refl
     where
-      pointed : (eqb (e .state) COMMITTED ≡ true) ⊎ (eqb (e .state) COMMITTED ≡ false) → (eqb (e .state) COMMITTED || eqb (e .point) 0) ≡ true
+      pointed : (eqb (e .state) COMMITTED ≡ true) ⊎ (eqb (e .state) COMMITTED ≡ false)
+          → (eqb (e .state) COMMITTED || eqb (e .point) 0) ≡ true
       pointed (inl q) = or-left (eqb (e .point) 0) q
-      pointed (inr q) = or-right (eqb (e .state) COMMITTED) (eq-eqb (e .point) 0 (s .point (eqb-false (e .state) COMMITTED q)))
+      pointed (inr q) =
+          or-right (eqb (e .state) COMMITTED) (eq-eqb (e .point) 0 (s .point (eqb-false (e .state) COMMITTED q)))
 
-      presented : (a : Access) → a ∈ e .accesses → (tr : ℕ) × (a .from ≡ suc tr) → isPresent (recOf rs (a .rec)) (a .from) ≡ true
+      presented : (a : Access) → a ∈ e .accesses → (tr : ℕ) × (a .from ≡ suc tr)
+          → isPresent (recOf rs (a .rec)) (a .from) ≡ true
       presented a m t = present-in (recOf rs (a .rec)) (a .from) (t .0) (t .1) (s .present a (t .0) m (t .1))
 
-      started : (a : Access) → a ∈ e .accesses → (tr : ℕ) × (a .from ≡ suc tr) → any (startsRead k (a .from)) (recOf rs (a .rec) .locks) ≡ true
+      started : (a : Access) → a ∈ e .accesses → (tr : ℕ) × (a .from ≡ suc tr)
+          → any (startsRead k (a .from)) (recOf rs (a .rec) .locks) ≡ true
       started a m t = starts-in k (a .from) (recOf rs (a .rec) .locks) (rw (t .1) (s .locked a (t .0) m (t .1)))

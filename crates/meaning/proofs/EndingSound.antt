@@ -1,5 +1,5 @@
--- Commit, Abort, Settle and Purge keep a sound store sound. Rests on Committed, Settled and Purged, and on the laws of the common set and
--- of the newest version.
+-- Commit, Abort, Settle and Purge keep a sound store sound. Rests on Committed, Settled and Purged, and on the laws of
+-- the common set and of the newest version.
 use Prim.Native.Nat.{ℕ, suc, _+_, _-_, _<_}
 use native.Mathlib.Omega.{arith}
 use mathlib.Core.Path.{_≡_, refl, ap}
@@ -11,15 +11,19 @@ use lib.ListN.{length}
 use borrow.Author.Tests.{leb-true, leb-false, ltb-true, ltb-false, not-true}
 use Rattle.meaning.specs.Lists.{_∈_, any}
 use Rattle.meaning.specs.Limits.{LAST, SETTLED, FREE, OPEN}
-use Rattle.meaning.specs.Store.{Version, Lock, Rec, Edit, Store, slotOf, editAt, recAt, withRec, newestAt, versionsUsed, writtenOf}
+use Rattle.meaning.specs.Store.{Version, Lock, Rec, Edit, Store, slotOf, editAt, recAt, withRec, newestAt}
+use Rattle.meaning.specs.Store.{versionsUsed, writtenOf}
 use Rattle.meaning.specs.Points.{isOwned, earliest, latest}
 use Rattle.meaning.specs.Outcomes.{replies, pass, needs, unless, knows, isOpen, hasRecord, versionRoom}
 use Rattle.meaning.specs.Replies.{ok, commit, nopoint, purged}
-use Rattle.meaning.specs.Ending.{finished, settled, committed, aborted, goodPick, chosen, allowed, noCommon, commitVerdict, commitOpen, commitChecks, committing, abortChecks, aborting, settleChecks, settling}
+use Rattle.meaning.specs.Ending.{finished, settled, committed, aborted, goodPick, chosen, allowed, noCommon}
+use Rattle.meaning.specs.Ending.{commitVerdict, commitOpen, commitChecks, committing, abortChecks, aborting}
+use Rattle.meaning.specs.Ending.{settleChecks, settling}
 use Rattle.meaning.specs.Records.{purgedRec, purgeVerdict, purgeTo, purgeChecks, purging}
 use Rattle.meaning.specs.Sound.{soundStore}
 use Rattle.meaning.specs.SoundFacts.{SoundStore}
-use Rattle.meaning.specs.Pointwise.{InCommonSet, EmptyCommonSet, LeastCommon, GreatestCommon, VersionOn, NewestIs, none, one}
+use Rattle.meaning.specs.Pointwise.{InCommonSet, EmptyCommonSet, LeastCommon, GreatestCommon, VersionOn, NewestIs}
+use Rattle.meaning.specs.Pointwise.{none, one}
 use Rattle.meaning.specs.declared.Pick.{Pick}
 use Rattle.meaning.specs.declared.Pick.the-variants.{Earliest, Latest, Named}
 use Rattle.meaning.specs.declared.Finish.{Finish}
@@ -40,7 +44,8 @@ use Rattle.meaning.proofs.Settled.{settled-sound}
 use Rattle.meaning.proofs.Purged.{purged-sound}
 
 -- the end of an edit, settled or not
-finished-sound : (f : Finish) (s : Store) (k : ℕ) → SoundStore s → (editAt s k .state ≡ FREE → ⊥) → IsSound (finished f s k)
+finished-sound : (f : Finish) (s : Store) (k : ℕ) → SoundStore s → (editAt s k .state ≡ FREE → ⊥)
+    → IsSound (finished f s k)
 finished-sound F.Settle s k good used = sound-in (settled s k) (settled-sound s k good used)
 finished-sound F.Keep s k good used = sound-in s good
 
@@ -59,14 +64,16 @@ module _ (s : Store) (k : ℕ) (some : noCommon s k ≡ false) where
   unfolding noCommon
   earliest-common = go (earliest-is-least (s .records) k (editAt s k))
     where
-      go : LeastCommon (s .records) k (editAt s k) low ⊎ ((low ≡ suc LAST) × EmptyCommonSet (s .records) k (editAt s k)) → In low
+      go : LeastCommon (s .records) k (editAt s k) low ⊎ ((low ≡ suc LAST) × EmptyCommonSet (s .records) k (editAt s k))
+          → In low
       go (inl c) = c .common
       go (inr w) = absurd (omega (arith, ltb-false LAST low some, w .0))
 
   latest-common : In high
   latest-common = go (latest-is-greatest (s .records) k (editAt s k))
     where
-      go : GreatestCommon (s .records) k (editAt s k) high ⊎ ((high ≡ 0) × EmptyCommonSet (s .records) k (editAt s k)) → In high
+      go : GreatestCommon (s .records) k (editAt s k) high ⊎ ((high ≡ 0) × EmptyCommonSet (s .records) k (editAt s k))
+          → In high
       go (inl c) = c .common
       go (inr w) = absurd (w .1 low earliest-common)
 
@@ -79,14 +86,21 @@ module _ (s : Store) (k : ℕ) (holds : IsSound s) (st : editAt s k .state ≡ O
   aborted-finished : (f : Finish) → IsSound (finished f (aborted s k) k)
   aborted-finished f =
       finished-sound f (aborted s k) k (aborted-sound s (sound-out s holds) k st)
-      (λ z. omega (arith, z, ap (λ (e : Edit). e .state) (edit-aborted s k (used-range (s .edits) k (λ y. omega (arith, st, y))))))
+      (λ z. omega
+      (arith, z, ap (λ (e : Edit). e .state) (edit-aborted s k (used-range (s .edits) k (λ y. omega (arith, st, y))))))
 
-  committed-finished : (f : Finish) (t : ℕ) → InCommonSet (s .records) k (editAt s k) t → versionRoom s k ≡ true → IsSound (finished f (committed s k t) k)
+  committed-finished : (f : Finish) (t : ℕ) → InCommonSet (s .records) k (editAt s k) t → versionRoom s k ≡ true
+      → IsSound (finished f (committed s k t) k)
   unfolding versionRoom
   committed-finished f t c room =
       finished-sound f (committed s k t) k
-      (committed-sound s k t (sound-out s holds) st c (leb-true (versionsUsed s + length (writtenOf (editAt s k))) (s .versionRows) room))
-      (λ z. omega (arith, z, ap (λ (e : Edit). e .state) (edit-committed s k t (used-range (s .edits) k (λ y. omega (arith, st, y))))))
+      (committed-sound s k t (sound-out s holds) st c
+      (leb-true (versionsUsed s + length (writtenOf (editAt s k))) (s .versionRows) room))
+      (λ z. omega (
+        arith,
+        z,
+        ap (λ (e : Edit). e .state) (edit-committed s k t (used-range (s .edits) k (λ y. omega (arith, st, y)))),
+      ))
 
   open-keeps : (pick : Pick) (f : Finish) → IsSound (commitOpen s k pick f .store)
   unfolding commitOpen commitVerdict
@@ -94,7 +108,8 @@ module _ (s : Store) (k : ℕ) (holds : IsSound s) (st : editAt s k .state ≡ O
     where
       go : (b : Bool) → noCommon s k ≡ b
           → IsSound (cond b (replies (finished f (aborted s k) k) nopoint)
-          (unless s (needs (allowed s k pick) 14 (needs (versionRoom s k) 12 pass)) (replies (finished f (committed s k (chosen s k pick)) k) (commit (chosen s k pick)))) .store)
+          (unless s (needs (allowed s k pick) 14 (needs (versionRoom s k) 12 pass))
+          (replies (finished f (committed s k (chosen s k pick)) k) (commit (chosen s k pick)))) .store)
       go true q = aborted-finished f
       go false q =
           unless-keeps IsSound s (needs (allowed s k pick) 14 (needs (versionRoom s k) 12 pass))
@@ -105,7 +120,8 @@ module _ (s : Store) (k : ℕ) (holds : IsSound s) (st : editAt s k .state ≡ O
           let b = needs-pass (versionRoom s k) 12 pass (a .1) in
           committed-finished f (chosen s k pick) (chosen-common s k q pick (a .0)) (b .0))
 
-pub commit-keeps : (h : ℕ) (pick : Pick) (f : Finish) (s : Store) → soundStore s ≡ true → soundStore (committing h pick f s .store) ≡ true
+pub commit-keeps : (h : ℕ) (pick : Pick) (f : Finish) (s : Store) → soundStore s ≡ true
+    → soundStore (committing h pick f s .store) ≡ true
 unfolding committing commitChecks
 commit-keeps h pick f s holds =
     unless-keeps IsSound s (commitChecks s h pick) (commitOpen s (slotOf h) pick f) holds
@@ -126,7 +142,8 @@ settle-keeps h s holds =
     sound-in (settled s (slotOf h)) (settled-sound s (slotOf h) (sound-out s holds) (knows-out s h (a .0) .used)))
 
 -- the newest version at or below b stands there, if its point is above 0
-newest-stands : (x : Rec) (v : Version) (bound : ℕ) → NewestIs (x .versions) bound v → 0 < v .point → VersionOn x (v .point)
+newest-stands : (x : Rec) (v : Version) (bound : ℕ) → NewestIs (x .versions) bound v → 0 < v .point
+    → VersionOn x (v .point)
 newest-stands x v bound (none z f) h = absurd (omega (arith, h, ap (λ (w : Version). w .point) z))
 newest-stands x v bound (one m l f) h = record { version = v; member = m; stands = refl }
 
@@ -134,7 +151,8 @@ abbrev barring : ℕ → Lock → Bool
 barring v l = not (isOwned SETTLED l) && leb (l .low) v
 
 -- 15 is not given: no unsettled lock is at or below v
-unbarred : (ls : List Lock) (v : ℕ) → not (any (barring v) ls) ≡ true → (l : Lock) → l ∈ ls → (l .owner ≡ SETTLED → ⊥) → v < l .low
+unbarred : (ls : List Lock) (v : ℕ) → not (any (barring v) ls) ≡ true → (l : Lock) → l ∈ ls → (l .owner ≡ SETTLED → ⊥)
+    → v < l .low
 unbarred ls v h l m d = go (leb (l .low) v) refl
   where
     go : (b : Bool) → leb (l .low) v ≡ b → v < l .low
@@ -153,7 +171,8 @@ module _ (s : Store) (r b : ℕ) (holds : IsSound s) (there : hasRecord s r ≡ 
   purged-keeps h q =
       let good = sound-out s holds in
       purged-sound s r v good (ltb-true r (length (s .records)) there)
-      (newest-stands x (newestAt (x .versions) b) (suc b) (newest-at-is x b (good .recs r .falls)) (omega arith)) h (unbarred (x .locks) v q)
+      (newest-stands x (newestAt (x .versions) b) (suc b) (newest-at-is x b (good .recs r .falls)) (omega arith)) h
+      (unbarred (x .locks) v q)
 
   to-keeps : IsSound (purgeTo s r v .store)
   unfolding purgeTo purgeVerdict
@@ -162,7 +181,9 @@ module _ (s : Store) (r b : ℕ) (holds : IsSound s) (there : hasRecord s r ≡ 
       go : (c : Bool) → leb v (x .floor) ≡ c
           → IsSound (cond c (replies s (purged 0 0))
           (unless s (needs (not (any (barring v) (x .locks))) 15 pass)
-          (replies (withRec s r (purgedRec x v)) (purged (length (x .versions) - length (purgedRec x v .versions)) (length (x .locks) - length (purgedRec x v .locks))))) .store)
+          (replies (withRec s r (purgedRec x v))
+          (purged (length (x .versions) - length (purgedRec x v .versions))
+          (length (x .locks) - length (purgedRec x v .locks))))) .store)
       go true q = holds
       go false q =
           unless-keeps IsSound s (needs (not (any (barring v) (x .locks))) 15 pass) _ holds

@@ -1,5 +1,6 @@
--- The laws of the refusals: a refusal changes nothing and has a number of its call; of a sound store it is given exactly for the first
--- cause of the order that stands, and 8 names the lowest holder. Rests on the judging of each call.
+-- The laws of the refusals: a refusal changes nothing and has a number of its call; of a sound store it is given
+-- exactly for the first cause of the order that stands, and 8 names the lowest holder. Rests on the judging of each
+-- call.
 use Prim.Native.Nat.{ℕ, _<_}
 use native.Mathlib.Omega.{arith}
 use native.Mathlib.Decide.{decLt}
@@ -10,7 +11,8 @@ use mathlib.Core.List.{[], _∷_}
 use Rattle.meaning.specs.Limits.{SLOTS, SETTLED, FREE, READ, WRITE}
 use Rattle.meaning.specs.Store.{Lock, Counts, Store, slotOf, countsOf, editOf, recAt}
 use Rattle.meaning.specs.Points.{holder}
-use Rattle.meaning.specs.Replies.{Reply, ok, edit, locked, read, own, again, commit, nopoint, purged, at, point, refusing, refused}
+use Rattle.meaning.specs.Replies.{Reply, ok, edit, locked, read, own, again, commit, nopoint, purged, at, point}
+use Rattle.meaning.specs.Replies.{refusing, refused}
 use Rattle.meaning.specs.Outcomes.{handleAt}
 use Rattle.meaning.specs.Locking.{readFrom}
 use Rattle.meaning.specs.Records.{goodCounts}
@@ -19,7 +21,8 @@ use Rattle.meaning.specs.Sound.{soundStore}
 use Rattle.meaning.specs.Pointwise.{Blocked, BlockedBy, LowestHolder}
 use Rattle.meaning.specs.Causes.{edits}
 use Rattle.meaning.specs.Order.{order, held, Stands, Refuses, HeldByLowest}
-use Rattle.meaning.specs.Laws.{RefusalChangesNothing, RefusedForCause, GrantedWithoutCause, OnlyOwnNumbers, HolderIsLowest}
+use Rattle.meaning.specs.Laws.{RefusalChangesNothing, RefusedForCause, GrantedWithoutCause, OnlyOwnNumbers}
+use Rattle.meaning.specs.Laws.{HolderIsLowest}
 use Rattle.meaning.specs.declared.Call.{Call}
 use Rattle.meaning.specs.declared.Call.the-variants as C
 use Rattle.meaning.proofs.Stores.{used-range}
@@ -29,7 +32,8 @@ use Rattle.meaning.proofs.SoundParts.{sound-out}
 use Rattle.meaning.proofs.FormatCauses.{counts-test}
 use Rattle.meaning.proofs.Denials.{least-one, found-least}
 use Rattle.meaning.proofs.Judging.{Judging, holders}
-use Rattle.meaning.proofs.JudgingLaws.{says-first, first-says, grants-none, none-grants, refusal-reason, first-stands}
+use Rattle.meaning.proofs.JudgingLaws.{says-first, first-says, grants-none, none-grants, refusal-reason}
+use Rattle.meaning.proofs.JudgingLaws.{first-stands}
 use Rattle.meaning.proofs.JudgeEdits.{judging-begin, judging-write}
 use Rattle.meaning.proofs.JudgeLocking.{proper, judging-lock}
 use Rattle.meaning.proofs.JudgeReading.{judging-read}
@@ -77,28 +81,36 @@ refusal-changes-nothing c s e =
     refusal-reason (judging c s) (w .0) (w .1 .0) (w .1 .1) .1
 
 -- the owner of a lock is below SLOTS
-few-edits : (c : Counts) → goodCounts c ≡ true → c .edits < SLOTS
+pub few-edits : (c : Counts) → goodCounts c ≡ true → c .edits < SLOTS
 few-edits c e = go (decLt (c .edits) SLOTS)
   where
     go : Dec (c .edits < SLOTS) → c .edits < SLOTS
     go (yes h) = h
     go (no h) = absurd (counts-test c .free e (edits (inr (omega arith))))
 
-owner-slot : (s : Store) → soundStore s ≡ true → (r mode k p o : ℕ) → BlockedBy mode k (recAt s r) p o → o < SLOTS
+pub owner-slot : (s : Store) → soundStore s ≡ true → (r mode k p o : ℕ) → BlockedBy mode k (recAt s r) p o → o < SLOTS
 owner-slot s g r mode k p o b = go (sound-out s g .recs r .owner (b .lock) (b .member))
   where
     go : (b .lock .owner ≡ SETTLED) ⊎ (editOf (s .edits) (b .lock .owner) .state ≡ FREE → ⊥) → o < SLOTS
     go (inl e) = omega (arith, b .owned)
-    go (inr f) = omega (arith, b .owned, used-range (s .edits) (b .lock .owner) f .upto, few-edits (countsOf s) (sound-out s g .counts))
+    go (inr f) =
+        omega (
+          arith,
+          b .owned,
+          used-range (s .edits) (b .lock .owner) f .upto,
+          few-edits (countsOf s) (sound-out s g .counts),
+        )
 
 -- the holder at a judged point
-lowest-at : (s : Store) → soundStore s ≡ true → (r mode k p h : ℕ) → Blocked mode k (recAt s r) p → h ∷ [] ≡ handleAt s (holder mode k (recAt s r) p) ∷ []
+lowest-at : (s : Store) → soundStore s ≡ true → (r mode k p h : ℕ) → Blocked mode k (recAt s r) p
+    → h ∷ [] ≡ handleAt s (holder mode k (recAt s r) p) ∷ []
     → (o : ℕ) × LowestHolder mode k (recAt s r) p o × (h ≡ handleAt s o)
 lowest-at s g r mode k p h b e =
     (holder mode k (recAt s r) p, holder-is-lowest mode k (recAt s r) p (owner-slot s g r mode k p) b, cc)
 
 -- what 8 carries, at the point that the cause names
-lowest-held : (c : Call) (s : Store) (h : ℕ) → soundStore s ≡ true → h ∷ [] ≡ holders c s → Stands held c s → HeldByLowest c s h
+lowest-held : (c : Call) (s : Store) (h : ℕ) → soundStore s ≡ true → h ∷ [] ≡ holders c s → Stands held c s
+    → HeldByLowest c s h
 lowest-held C.Begin s h g e z = z
 lowest-held (C.Write x r v) s h g e z = z
 lowest-held (C.Lock x r low high w) s h g e z =

@@ -59,7 +59,8 @@ fits-test : (b : Bool) → Refutes b (b ≡ false)
 fits-test b = record { stands = λ e. e; free = not-both }
 
 -- a reply that is a refusal exactly where a test fails
-refused-iff : {P : Type 0} (n : ℕ) (f : Bool → Reply) (b : Bool) → Refutes b P → f false ≡ refusing n [] → ((more : List ℕ) → f true ≡ refusing n more → ⊥) → Refuses n (f b) ↔ P
+refused-iff : {P : Type 0} (n : ℕ) (f : Bool → Reply) (b : Bool) → Refutes b P → f false ≡ refusing n []
+    → ((more : List ℕ) → f true ≡ refusing n more → ⊥) → Refuses n (f b) ↔ P
 refused-iff n f true t no-more other = (λ w. absurd (other (w .0) (w .1)), λ p. absurd (t .free refl p))
 refused-iff n f false t no-more other = (λ w. t .stands refl, λ p. ([], no-more))
 
@@ -71,8 +72,10 @@ format-refused-for-cause fits c s =
 
 pub point-refused-for-cause : PointRefusedForCause
 point-refused-for-cause reading seat =
-    refused-iff 6 (λ b. cond b (point (reading * SEATS + seat)) (refusing 6 [])) (ltb reading READINGS && ltb seat SEATS)
-    (and-test (below-test reading READINGS) (below-test seat SEATS)) refl (λ more e. let z : _≡_ {A = ℕ} 0 1 = cc in omega arith)
+    refused-iff 6 (λ b. cond b (point (reading * SEATS + seat)) (refusing 6 []))
+    (ltb reading READINGS && ltb seat SEATS)
+    (and-test (below-test reading READINGS) (below-test seat SEATS)) refl
+    (λ more e. let z : _≡_ {A = ℕ} 0 1 = cc in omega arith)
 
 -- two points, by their readings and then by their seats
 pub points-order-as-pairs : PointsOrderAsPairs

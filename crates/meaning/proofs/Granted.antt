@@ -1,5 +1,5 @@
--- What Lock and Read take of a sound record is a lock that fits, and the version read is present; the slot that Begin finds is free.
--- Rests on Points, Newest and LockAdded.
+-- What Lock and Read take of a sound record is a lock that fits, and the version read is present; the slot that Begin
+-- finds is free. Rests on Points, Newest and LockAdded.
 use Prim.Native.Nat.{ℕ, suc, _+_, _≤_, _<_}
 use native.Mathlib.Omega.{arith}
 use native.Mathlib.Decide.{decLt}
@@ -33,7 +33,8 @@ pub record Taken (mode k : ℕ) (x : Rec) (low high from end : ℕ) : Type 0 whe
   pub upto : end ≤ high
   pub free : NoneBlocked mode k x from end
 
-pub lock-taken : (w : Extent) (k : ℕ) (x : Rec) (low high from end : ℕ) → low ≤ high → LockTakes w k x low high from end → Taken WRITE k x low high from end
+pub lock-taken : (w : Extent) (k : ℕ) (x : Rec) (low high from end : ℕ) → low ≤ high → LockTakes w k x low high from end
+    → Taken WRITE k x low high from end
 lock-taken All k x low high from end h t =
     record {
       starts = omega (arith, t .0);
@@ -44,12 +45,19 @@ lock-taken All k x low high from end h t =
 lock-taken Part k x low high from end h t =
     record { starts = t .starts; some = t .taken .some; upto = t .taken .upto; free = t .taken .free }
 
-pub read-taken : (w : Extent) (k : ℕ) (x : Rec) (low high end : ℕ) → low ≤ high → ReadTakes w k x low high end → Taken READ k x low high low end
+pub read-taken : (w : Extent) (k : ℕ) (x : Rec) (low high end : ℕ) → low ≤ high → ReadTakes w k x low high end
+    → Taken READ k x low high low end
 read-taken All k x low high end h t =
-    record { starts = le-refl low; some = omega (arith, t .0); upto = omega (arith, t .0); free = λ q a b. t .1 q a (omega (arith, t .0)) }
+    record {
+      starts = le-refl low;
+      some = omega (arith, t .0);
+      upto = omega (arith, t .0);
+      free = λ q a b. t .1 q a (omega (arith, t .0));
+    }
 read-taken Part k x low high end h t = record { starts = le-refl low; some = t .some; upto = t .upto; free = t .free }
 
-module _ (es : List Edit) (r : ℕ) (x : Rec) (h : SoundRec es r x) (k : ℕ) (used : editOf es k .state ≡ FREE → ⊥) (low high : ℕ)
+module _ (es : List Edit) (r : ℕ) (x : Rec) (h : SoundRec es r x) (k : ℕ) (used : editOf es k .state ≡ FREE → ⊥)
+    (low high : ℕ)
     (above : x .floor < low) (order : low ≤ high) (last : high ≤ LAST) where
   proper : Proper x
   proper l m = h .span l m .some
@@ -68,7 +76,8 @@ module _ (es : List Edit) (r : ℕ) (x : Rec) (h : SoundRec es r x) (k : ℕ) (u
       → LockFits es x (record { low = lockFrom w k x low high; high = lockEnd w k x low high; mode = WRITE; owner = k })
   lock-fits w g =
       taken-fits WRITE (lockFrom w k x low high) (lockEnd w k x low high) (inr refl)
-      (lock-taken w k x low high (lockFrom w k x low high) (lockEnd w k x low high) order (lock-takes-run w k x low high proper order .0 g))
+      (lock-taken w k x low high (lockFrom w k x low high) (lockEnd w k x low high) order
+      (lock-takes-run w k x low high proper order .0 g))
 
   pub read-fits : (w : Extent) → readGranted w k x low high ≡ true
       → LockFits es x (record { low = low; high = grantEnd w READ k x low high; mode = READ; owner = k })
@@ -82,7 +91,8 @@ pub record ReadAt (x : Rec) (m tr : ℕ) : Type 0 where
   pub below : tr < m
   pub present : Present x tr
 
-pub read-at : (es : List Edit) (r : ℕ) (x : Rec) → SoundRec es r x → (m : ℕ) → x .floor < m → ReadAt x m (newestBelow (x .versions) m .point)
+pub read-at : (es : List Edit) (r : ℕ) (x : Rec) → SoundRec es r x → (m : ℕ) → x .floor < m
+    → ReadAt x m (newestBelow (x .versions) m .point)
 read-at es r x h m low = go (newest-below-is x m (h .falls))
   where
     ground : ((w : Version) → w ∈ x .versions → m ≤ w .point) → Dec (0 < x .floor) → x .floor ≡ 0
@@ -112,15 +122,20 @@ found-free j [] h = absurd (omega arith)
 found-free j (e ∷ es) h = go (test (eqb (e .state) FREE)) (found-free (suc j) es)
   where
     later : eqb (e .state) FREE ≡ false
-        → (i : ℕ) × (freeFrom (suc (suc j)) es ≡ suc (suc j + i)) × (i < length es) × (getD es i freshEdit .state ≡ FREE)
-        → (i : ℕ) × (freeFrom (suc j) (e ∷ es) ≡ suc (j + i)) × (i < suc (length es)) × (getD (e ∷ es) i freshEdit .state ≡ FREE)
+        → (i : ℕ) × (freeFrom (suc (suc j)) es ≡ suc (suc j + i)) × (i < length es)
+        × (getD es i freshEdit .state ≡ FREE)
+        → (i : ℕ) × (freeFrom (suc j) (e ∷ es) ≡ suc (j + i)) × (i < suc (length es))
+        × (getD (e ∷ es) i freshEdit .state ≡ FREE)
     later q w =
         let z : freeFrom (suc (suc j)) es ≡ suc (j + suc (w .0)) = omega (arith, w .1) in
         (suc (w .0), rw q z, omega (arith, w .2), w .3)
 
     go : (eqb (e .state) FREE ≡ true) ⊎ (eqb (e .state) FREE ≡ false)
-        → (freeFrom (suc (suc j)) es ≤ suc j + length es → (i : ℕ) × (freeFrom (suc (suc j)) es ≡ suc (suc j + i)) × (i < length es) × (getD es i freshEdit .state ≡ FREE))
-        → (i : ℕ) × (freeFrom (suc j) (e ∷ es) ≡ suc (j + i)) × (i < suc (length es)) × (getD (e ∷ es) i freshEdit .state ≡ FREE)
+        → (freeFrom (suc (suc j)) es ≤ suc j + length es
+        → (i : ℕ) × (freeFrom (suc (suc j)) es ≡ suc (suc j + i)) × (i < length es)
+        × (getD es i freshEdit .state ≡ FREE))
+        → (i : ℕ) × (freeFrom (suc j) (e ∷ es) ≡ suc (j + i)) × (i < suc (length es))
+        × (getD (e ∷ es) i freshEdit .state ≡ FREE)
     go (inl q) ih = (0, rw q (omega arith), omega arith, eqb-true (e .state) FREE q)
     go (inr q) ih = let b : freeFrom (suc (suc j)) es ≤ j + suc (length es) = rw q at h in later q (ih (omega arith))
 

@@ -23,11 +23,13 @@ use Rattle.meaning.proofs.CauseTests.{Refutes, known-test, open-test, r
 use Rattle.meaning.proofs.Judging.{Judging, granted, _next_, never, decided}
 
 -- 13: where the search for a free slot ends past the last, none is free
-none-free : (k : ℕ) (es : List Edit) → k + length es ≤ freeFrom k es → (j : ℕ) → j < length es → getD es j freshEdit .state ≡ FREE → ⊥
+none-free : (k : ℕ) (es : List Edit) → k + length es ≤ freeFrom k es → (j : ℕ) → j < length es
+    → getD es j freshEdit .state ≡ FREE → ⊥
 none-free k [] h j l z = omega arith
 none-free k (e ∷ es) h j l z = go (test (eqb (e .state) FREE)) j l z (none-free (suc k) es)
   where
-    go : (eqb (e .state) FREE ≡ true) ⊎ (eqb (e .state) FREE ≡ false) → (j : ℕ) → j < suc (length es) → getD (e ∷ es) j freshEdit .state ≡ FREE
+    go : (eqb (e .state) FREE ≡ true) ⊎ (eqb (e .state) FREE ≡ false) → (j : ℕ) → j < suc (length es)
+        → getD (e ∷ es) j freshEdit .state ≡ FREE
         → (suc k + length es ≤ freeFrom (suc k) es → (i : ℕ) → i < length es → getD es i freshEdit .state ≡ FREE → ⊥)
         → ⊥
     go (inl b) j l z ih = omega (arith, rw b at h)

@@ -5,7 +5,8 @@ use mathlib.Core.Bool.{not}
 use Rattle.meaning.specs.Store.{Store, slotOf, editAt}
 use Rattle.meaning.specs.Replies.{nopoint}
 use Rattle.meaning.specs.Outcomes.{knows, isOpen, versionRoom}
-use Rattle.meaning.specs.Ending.{goodPick, chosen, allowed, noCommon, committing, commitChecks, commitOpen, commitVerdict, aborting, abortChecks, settling, settleChecks}
+use Rattle.meaning.specs.Ending.{goodPick, chosen, allowed, noCommon, committing, commitChecks, commitOpen}
+use Rattle.meaning.specs.Ending.{commitVerdict, aborting, abortChecks, settling, settleChecks}
 use Rattle.meaning.specs.Causes.{BadPoint, NotCommon}
 use Rattle.meaning.specs.Order.{order}
 use Rattle.meaning.specs.declared.Handle.{Handle}
@@ -26,7 +27,8 @@ judging-abort h f s =
     not-both next
     never next
     decided (knows s (h .0)) (λ g. known-test s (h .0)) refl (λ a. rw a) λ a.
-    decided (isOpen s (h .0)) (λ g. open-test s (h .0) (sound-out s g .edits (slotOf (h .0)) .state) a) refl (λ b. rw (a, b)) λ b.
+    decided (isOpen s (h .0)) (λ g. open-test s (h .0) (sound-out s g .edits (slotOf (h .0)) .state) a) refl
+    (λ b. rw (a, b)) λ b.
     never next never next never next never next never next never next never next
     never next never next never next never next never next never next
     granted (rw (a, b))
@@ -50,14 +52,16 @@ pick-test h Latest f = record { stands = λ e. absurd (not-both refl e); free = 
 pick-test h (Named p) f = point-test (p .0)
 
 -- 14
-common-test : (h : Handle) (pick : Pick) (f : Finish) (s : Store) → Refutes (allowed s (slotOf (h .0)) pick) (NotCommon (C.Commit h pick f) s)
+common-test : (h : Handle) (pick : Pick) (f : Finish) (s : Store)
+    → Refutes (allowed s (slotOf (h .0)) pick) (NotCommon (C.Commit h pick f) s)
 common-test h Earliest f s = record { stands = λ e. absurd (not-both refl e); free = never }
 common-test h Latest f s = record { stands = λ e. absurd (not-both refl e); free = never }
 common-test h (Named p) f s =
     let w = common-set-is (s .records) (slotOf (h .0)) (editAt s (slotOf (h .0))) (p .0) in
     record { stands = λ e m. not-both (w .1 m) e; free = λ e m. m (w .0 e) }
 
-pub judging-commit : (h : Handle) (pick : Pick) (f : Finish) (s : Store) → Judging (C.Commit h pick f) s (committing (h .0) pick f s) order
+pub judging-commit : (h : Handle) (pick : Pick) (f : Finish) (s : Store)
+    → Judging (C.Commit h pick f) s (committing (h .0) pick f s) order
 unfolding committing commitChecks commitOpen commitVerdict
 judging-commit h pick f s =
     let k : ℕ = slotOf (h .0) in

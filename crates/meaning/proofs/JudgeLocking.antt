@@ -69,7 +69,8 @@ judging-lock h r low high w s =
     let j : soundStore s ≡ true → LockJudged s k r (low .0) (high .0) w p =
     λ g. lock-denied s k r (low .0) (high .0) w (proper s g r) l t
     in
-    shown (frozen s r WRITE p) (λ g. frozen-lock s k r (low .0) (high .0) w p (j g)) refl (λ u. rw (a, b, c, d, e, t, u)) λ u.
+    shown (frozen s r WRITE p) (λ g. frozen-lock s k r (low .0) (high .0) w p (j g)) refl
+    (λ u. rw (a, b, c, d, e, t, u)) λ u.
     refuses 8 (handleAt s (holder WRITE k x p) ∷ []) (λ g. (p, j g, tt)) (_, refl)
     (record { number = listed 8 (concerns (C.Lock h r low high w)) refl; holder = λ q. refl })
     (rw (a, b, c, d, e, t, u)))

@@ -12,7 +12,8 @@ use Rattle.meaning.specs.Store.{Value, Access, Rec, Store, slotOf, editA
 use Rattle.meaning.specs.Points.{firstBlocked, frozen, holder}
 use Rattle.meaning.specs.Replies.{own, again}
 use Rattle.meaning.specs.Outcomes.{knows, isOpen, hasRecord, isPoint, judge, handleAt, accessRoom, lockRoom}
-use Rattle.meaning.specs.Locking.{readGranted, readVersion, readFrom, reading, readChecks, readOpen, readNew, readVerdict}
+use Rattle.meaning.specs.Locking.{readGranted, readVersion, readFrom, reading, readChecks, readOpen, readNew}
+use Rattle.meaning.specs.Locking.{readVerdict}
 use Rattle.meaning.specs.Sound.{soundStore}
 use Rattle.meaning.specs.SoundFacts.{SoundStore}
 use Rattle.meaning.specs.Pointwise.{Frozen, NewestIs}
@@ -28,12 +29,15 @@ use Rattle.meaning.proofs.Points.{frozen-is}
 use Rattle.meaning.proofs.Newest.{newest-below-is, newest-below}
 use Rattle.meaning.proofs.Denials.{read-granted, read-denied, read-judged-one}
 use Rattle.meaning.proofs.Accessed.{accessed-in, accessed-out}
-use Rattle.meaning.proofs.CauseTests.{known-test, open-test, record-test, point-test, below-test, access-test, lock-row-test}
+use Rattle.meaning.proofs.CauseTests.{known-test, open-test, record-test, point-test, below-test, access-test}
+use Rattle.meaning.proofs.CauseTests.{lock-row-test}
 use Rattle.meaning.proofs.JudgeLocking.{proper}
-use Rattle.meaning.proofs.Judging.{Judging, granted, refuses, answers, _next_, never, listed, decided, shown, by-test}
+use Rattle.meaning.proofs.Judging.{Judging, granted, refuses, answers, _next_, never, listed, decided, shown}
+use Rattle.meaning.proofs.Judging.{by-test}
 
 -- an access without a mark is neither an own value nor a read
-not-accessed : (s : Store) (k r : ℕ) → SoundStore s → accessOf (editAt s k) r .written ≡ false → hasRead (accessOf (editAt s k) r) ≡ false → Accessed s k r → ⊥
+not-accessed : (s : Store) (k r : ℕ) → SoundStore s → accessOf (editAt s k) r .written ≡ false
+    → hasRead (accessOf (editAt s k) r) ≡ false → Accessed s k r → ⊥
 not-accessed s k r g w h d = go (accessed-out s k r (g .edits k .once) d)
   where
     go : (accessOf (editAt s k) r .written ≡ true) ⊎ (0 < accessOf (editAt s k) r .from) → ⊥
@@ -62,17 +66,21 @@ judging-read h r m w s =
     not-both next
     never next
     decided (knows s (h .0)) (λ g. known-test s (h .0)) refl (λ e₁. rw e₁) λ e₁.
-    decided (isOpen s (h .0)) (λ g. open-test s (h .0) (sound-out s g .edits k .state) e₁) refl (λ e₂. rw (e₁, e₂)) λ e₂.
+    decided (isOpen s (h .0)) (λ g. open-test s (h .0) (sound-out s g .edits k .state) e₁) refl (λ e₂. rw (e₁, e₂))
+    λ e₂.
     never next
     decided (hasRecord s r) (λ g. record-test s r) refl (λ e₃. rw (e₁, e₂, e₃)) λ e₃.
     decided (isPoint (m .0)) (λ g. point-test (m .0)) refl (λ e₄. rw (e₁, e₂, e₃, e₄)) λ e₄.
     by-test (a .written)
-    (λ e₅. answers (own (a .value)) (λ g. accessed-in s k r (inl e₅)) (inl (a .value, refl)) refl (rw (e₁, e₂, e₃, e₄, e₅))) λ e₅.
+    (λ e₅. answers (own (a .value)) (λ g. accessed-in s k r (inl e₅)) (inl (a .value, refl)) refl
+    (rw (e₁, e₂, e₃, e₄, e₅)))
+    λ e₅.
     by-test (hasRead a)
     (λ e₆. answers (again (a .from - 1) old) (λ g. accessed-in s k r (inr (ltb-true 0 (a .from) e₆)))
     (inr (a .from - 1, (old, refl))) refl (rw (e₁, e₂, e₃, e₄, e₅, e₆))) λ e₆.
     (λ g. not-accessed s k r (sound-out s g) e₅ e₆) next
-    decided (ltb (x .floor) (m .0)) (λ g. below-test (x .floor) (m .0)) refl (λ e₇. rw (e₁, e₂, e₃, e₄, e₅, e₆, e₇)) λ e₇.
+    decided (ltb (x .floor) (m .0)) (λ g. below-test (x .floor) (m .0)) refl (λ e₇. rw (e₁, e₂, e₃, e₄, e₅, e₆, e₇))
+    λ e₇.
     never next never next never next
     let l : soundStore s ≡ true → low ≤ m .0 =
     λ g. newest-below (n g) (leb-true 1 (m .0) (and-left (leb 1 (m .0)) (leb (m .0) LAST) e₄))
@@ -89,7 +97,8 @@ judging-read h r m w s =
     let j : soundStore s ≡ true → ReadJudged s k r (m .0) w p =
     λ g. read-denied s k r (m .0) w (proper s g r) (n g) (l g) e₈
     in
-    shown (frozen s r READ p) (λ g. frozen-read s k r (m .0) w p (j g)) refl (λ u. rw (e₁, e₂, e₃, e₄, e₅, e₆, e₇, e₈, u)) λ u.
+    shown (frozen s r READ p) (λ g. frozen-read s k r (m .0) w p (j g)) refl
+    (λ u. rw (e₁, e₂, e₃, e₄, e₅, e₆, e₇, e₈, u)) λ u.
     refuses 8 (handleAt s (holder READ k x p) ∷ []) (λ g. (p, j g, tt)) (_, refl)
     (record { number = listed 8 (concerns (C.Read h r m w)) refl; holder = λ q. refl })
     (rw (e₁, e₂, e₃, e₄, e₅, e₆, e₇, e₈, u)))

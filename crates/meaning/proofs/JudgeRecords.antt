@@ -28,7 +28,8 @@ use Rattle.meaning.proofs.Judging.{Judging, granted, _next_, never, dec
 -- View of a record that is there, at a point up to LAST: shown from the floor on, refused below it
 module _ (s : Store) (r p : ℕ) (there : hasRecord s r ≡ true) (good : leb p LAST ≡ true) where
   view-shown : recAt s r .floor ≤ p
-      → viewing r p s ≡ replies s (at (newestAt (recAt s r .versions) p .point) (newestAt (recAt s r .versions) p .value))
+      → viewing r p s
+      ≡ replies s (at (newestAt (recAt s r .versions) p .point) (newestAt (recAt s r .versions) p .value))
   unfolding viewing viewChecks
   view-shown h = simp (there, good, le-leb (recAt s r .floor) p h)
 
@@ -63,7 +64,12 @@ module _ (s : Store) (r b : ℕ) (good : SoundStore s) where
   -- 15: nothing to do where v is the floor
   at-floor : leb (newestAt (recAt s r .versions) b .point) (recAt s r .floor) ≡ true → LockedBelow s r b → ⊥
   at-floor e l =
-      omega (arith, newest-one newest (l .newest), l .above, leb-true (newestAt (recAt s r .versions) b .point) (recAt s r .floor) e)
+      omega (
+        arith,
+        newest-one newest (l .newest),
+        l .above,
+        leb-true (newestAt (recAt s r .versions) b .point) (recAt s r .floor) e,
+      )
 
   locked-test : leb (newestAt (recAt s r .versions) b .point) (recAt s r .floor) ≡ false
       → Refutes (not (any (locked-to (newestAt (recAt s r .versions) b .point)) (recAt s r .locks))) (LockedBelow s r b)
@@ -80,13 +86,18 @@ module _ (s : Store) (r b : ℕ) (good : SoundStore s) where
               above = leb-false (v .point) (recAt s r .floor) e;
               lock = l;
               member = w .1;
-              unsettled = eqb-false (l .owner) SETTLED (not-true (isOwned SETTLED l) (and-left (not (isOwned SETTLED l)) (leb (l .low) (v .point)) (w .2)));
-              below = leb-true (l .low) (v .point) (and-right (not (isOwned SETTLED l)) (leb (l .low) (v .point)) (w .2));
+              unsettled =
+                  eqb-false (l .owner) SETTLED
+                  (not-true (isOwned SETTLED l) (and-left (not (isOwned SETTLED l)) (leb (l .low) (v .point)) (w .2)));
+              below =
+                  leb-true (l .low) (v .point) (and-right (not (isOwned SETTLED l)) (leb (l .low) (v .point)) (w .2));
             };
         free = λ q l.
             let u : not (isOwned SETTLED (l .lock)) ≡ true = rw (ne-eqb (l .lock .owner) SETTLED (l .unsettled)) in
-            let p : leb (l .lock .low) (v .point) ≡ true = le-leb (l .lock .low) (v .point) (omega (arith, newest-one newest (l .newest), l .below)) in
-            not-both (any-in (locked-to (v .point)) (l .member) (and-in u p)) (not-true (any (locked-to (v .point)) ls) q);
+            let p : leb (l .lock .low) (v .point) ≡ true =
+            le-leb (l .lock .low) (v .point) (omega (arith, newest-one newest (l .newest), l .below)) in
+            not-both (any-in (locked-to (v .point)) (l .member) (and-in u p))
+            (not-true (any (locked-to (v .point)) ls) q);
       }
 
 pub judging-purge : (r : ℕ) (b : Point) (s : Store) → Judging (C.Purge r b) s (purging r (b .0) s) order
@@ -104,6 +115,7 @@ judging-purge r b s =
     never next never next never next never next never next
     granted (rw (a, c, d) (0, (0, refl))))
     (λ d.
-    decided (not (any (locked-to v) (recAt s r .locks))) (λ g. locked-test s r (b .0) (sound-out s g) d) refl (λ e. rw (a, c, d, e)) λ e.
+    decided (not (any (locked-to v) (recAt s r .locks))) (λ g. locked-test s r (b .0) (sound-out s g) d) refl
+    (λ e. rw (a, c, d, e)) λ e.
     never next never next never next never next never next
     granted (rw (a, c, d, e) (_, (_, refl))))

@@ -1,5 +1,6 @@
--- The judging of a call along the order of the checks: which items it passes and where it stops. Each call is walked once, on any store;
--- that causes stand or not is said of a sound one. Every law of the refusals follows from the walk by induction. Rests on CauseTests.
+-- The judging of a call along the order of the checks: which items it passes and where it stops. Each call is walked
+-- once, on any store; that causes stand or not is said of a sound one. Every law of the refusals follows from the walk
+-- by induction. Rests on CauseTests.
 use Prim.Native.Nat.{ℕ, suc, _<_}
 use native.Mathlib.Omega.{arith}
 use mathlib.Core.Path.{_≡_, refl, sym, ap, _∙_}
@@ -13,11 +14,14 @@ use Rattle.meaning.specs.Lists.{_∈_, any}
 use Rattle.meaning.specs.Limits.{READ, WRITE}
 use Rattle.meaning.specs.Store.{Store, slotOf, recAt}
 use Rattle.meaning.specs.Points.{holder, firstBlocked}
-use Rattle.meaning.specs.Replies.{Reply, ok, edit, locked, read, own, again, commit, nopoint, purged, at, point, refusing, refused}
+use Rattle.meaning.specs.Replies.{Reply, ok, edit, locked, read, own, again, commit, nopoint, purged, at, point}
+use Rattle.meaning.specs.Replies.{refusing, refused}
 use Rattle.meaning.specs.Outcomes.{Outcome, replies, handleAt}
 use Rattle.meaning.specs.Locking.{readFrom}
 use Rattle.meaning.specs.Sound.{soundStore}
-use Rattle.meaning.specs.Order.{Item, unsound, noSlot, noEdit, ended, stillOpen, noRecord, badPoint, ownOrAgain, belowFloor, emptySet, notCommon, lockedBelow, frozen, held, noAccessRow, noLockRow, noVersionRow, Stands, Says, Grants, Refuses, concerns}
+use Rattle.meaning.specs.Order.{Item, unsound, noSlot, noEdit, ended, stillOpen, noRecord, badPoint, ownOrAgain}
+use Rattle.meaning.specs.Order.{belowFloor, emptySet, notCommon, lockedBelow, frozen, held, noAccessRow}
+use Rattle.meaning.specs.Order.{noLockRow, noVersionRow, Stands, Says, Grants, Refuses, concerns}
 use Rattle.meaning.specs.declared.Call.{Call}
 use Rattle.meaning.specs.declared.Call.the-variants as C
 use Rattle.meaning.proofs.Lists.{and-left, and-right, any-out}
@@ -67,11 +71,13 @@ pub record Reason (c : Call) (s : Store) (n : ℕ) (more : List ℕ) : Type 0 wh
 
 pub data Judging (c : Call) (s : Store) (o : Outcome) : List Item → Type 0 where
   granted : Grants c (o .reply) → Judging c s o []
-  refuses : {i : Item} {is : List Item} (n : ℕ) (more : List ℕ) → (soundStore s ≡ true → Stands i c s) → Says i (refusing n more)
+  refuses : {i : Item} {is : List Item} (n : ℕ) (more : List ℕ) → (soundStore s ≡ true → Stands i c s)
+      → Says i (refusing n more)
       → Reason c s n more → o ≡ replies s (refusing n more) → Judging c s o (i ∷ is)
   answers : {i : Item} {is : List Item} (r : Reply) → (soundStore s ≡ true → Stands i c s) → Says i r
       → refused r ≡ false → o .reply ≡ r → Judging c s o (i ∷ is)
-  passes : {i : Item} {is : List Item} → (soundStore s ≡ true → Stands i c s → ⊥) → Judging c s o is → Judging c s o (i ∷ is)
+  passes : {i : Item} {is : List Item} → (soundStore s ≡ true → Stands i c s → ⊥) → Judging c s o is
+      → Judging c s o (i ∷ is)
 
 -- an item that does not stand, before the next; `never` is for one that cannot concern the call
 infixr 3 _next_
@@ -147,7 +153,8 @@ pub by-test : {P : Type 0} (b : Bool) → (b ≡ true → P) → (b ≡ false �
 by-test true f g = f refl
 by-test false f g = g refl
 
--- The kind of a reply: its number + 1 for a refusal, 17 for an own or repeated read, 18 for `nopoint`, 0 for what a call grants
+-- The kind of a reply: its number + 1 for a refusal, 17 for an own or repeated read, 18 for `nopoint`, 0 for what a
+-- call grants
 kind : Reply → ℕ
 kind ok = 0
 kind (edit h) = 0

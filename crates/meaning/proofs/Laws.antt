@@ -1,6 +1,10 @@
--- The theorems of specs/Laws, each under its name and with its statement for a type. Rests on the files that prove them; only that every
--- call keeps a sound store sound is put together here.
-use Rattle.meaning.specs.Laws.{FirstBlockedIsLeast, LockTakesRun, ReadTakesRun, CommonSetIs, EarliestIsLeast, LatestIsGreatest, NoCommonIsEmpty, NewestBelowIs, NewestAtIs, SettlingNeedsNoRow, SoundIsFacts, FreshIsSound, CallsKeepSound, RefusalChangesNothing, RefusedForCause, GrantedWithoutCause, OnlyOwnNumbers, HolderIsLowest, FormatRefusedForCause, PointRefusedForCause, PointsOrderAsPairs, PointsRunToLast}
+-- The theorems of specs/Laws, each under its name and with its statement for a type. Rests on the files that prove
+-- them; only that every call keeps a sound store sound is put together here.
+use Rattle.meaning.specs.Laws.{FirstBlockedIsLeast, LockTakesRun, ReadTakesRun, CommonSetIs, EarliestIsLeast}
+use Rattle.meaning.specs.Laws.{LatestIsGreatest, NoCommonIsEmpty, NewestBelowIs, NewestAtIs, SettlingNeedsNoRow}
+use Rattle.meaning.specs.Laws.{SoundIsFacts, FreshIsSound, CallsKeepSound, RefusalChangesNothing, RefusedForCause}
+use Rattle.meaning.specs.Laws.{GrantedWithoutCause, OnlyOwnNumbers, HolderIsLowest, FormatRefusedForCause}
+use Rattle.meaning.specs.Laws.{PointRefusedForCause, PointsOrderAsPairs, PointsRunToLast}
 use Rattle.meaning.specs.Calls.{act}
 use Rattle.meaning.specs.declared.Call.the-variants as C
 use Rattle.meaning.proofs.Points as points

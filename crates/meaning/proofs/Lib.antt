@@ -1,3 +1,5 @@
+-- Laws of the meaning, from lists, points and searches, over the parts of soundness and what each call keeps of them,
+-- to the judging of calls and the laws of specs/Laws. Rests on the definitions in specs/ alone.
 pub mod Lists
 pub mod Stores
 pub mod Values

@@ -1,15 +1,18 @@
--- Laws of the tests on Bool and of the list functions of specs/Lists: what a computed test says of every element, and back. Rests on nothing.
+-- Laws of the tests on Bool and of the list functions of specs/Lists: what a computed test says of every element, and
+-- back. Rests on nothing.
 use Prim.Native.Nat.{ℕ, zero, suc, _+_, _≤_, _<_, min, max}
 use native.Mathlib.Omega.{arith}
 use native.Mathlib.Nat.{le-refl, add-zero}
 use mathlib.Core.Path.{_≡_, refl, sym, ap, _∙_, subst}
 use mathlib.Core.Logic.{_⊎_, inl, inr}
 use mathlib.Core.Bool.{Bool, true, false, not, cond, _&&_, _||_, false≢true}
-use mathlib.Core.List.{List, [], _∷_, map, _++_, List·Memᴰ·head, List·Memᴰ·tail, List·Memᴰ·not-nil, List·Memᴰ·cases-cons, Memᴰ·cast}
+use mathlib.Core.List.{List, [], _∷_, map, _++_, List·Memᴰ·head, List·Memᴰ·tail, List·Memᴰ·not-nil}
+use mathlib.Core.List.{List·Memᴰ·cases-cons, Memᴰ·cast}
 use lib.Dec.{leb, ltb, eqb}
 use lib.ListN.{length, getD, set}
 use borrow.Author.Tests.{leb-true, leb-false, not-true, not-false}
-use Rattle.meaning.specs.Lists.{_∈_, every, all, any, keep, find, pairwise, total, mapFrom, allFrom, least, greatest}
+use Rattle.meaning.specs.Lists.{_∈_, every, all, any, keep, find, pairwise, total, mapFrom, allFrom, least}
+use Rattle.meaning.specs.Lists.{greatest}
 
 -- tests
 pub and-in : {a b : Bool} → a ≡ true → b ≡ true → (a && b) ≡ true
@@ -127,18 +130,22 @@ module _ {A : Type 0} (p : A → Bool) where
   keep-split (x ∷ xs) = go (p x) (keep-split xs)
     where
       go : (b : Bool) → length (keep p xs) + length (keep (λ x. not (p x)) xs) ≡ length xs
-          → length (cond b (x ∷ keep p xs) (keep p xs)) + length (cond (not b) (x ∷ keep (λ x. not (p x)) xs) (keep (λ x. not (p x)) xs)) ≡ suc (length xs)
+          → length (cond b (x ∷ keep p xs) (keep p xs))
+          + length (cond (not b) (x ∷ keep (λ x. not (p x)) xs) (keep (λ x. not (p x)) xs))
+          ≡ suc (length xs)
       go true h = omega arith
       go false h = omega arith
 
   -- find gives the default where none passes, or the first that passes
-  pub find-out : (d : A) (xs : List A) → ((find p d xs ≡ d) × (any p xs ≡ false)) ⊎ ((find p d xs ∈ xs) × (p (find p d xs) ≡ true))
+  pub find-out : (d : A) (xs : List A)
+      → ((find p d xs ≡ d) × (any p xs ≡ false)) ⊎ ((find p d xs ∈ xs) × (p (find p d xs) ≡ true))
   find-out d [] = inl (refl, refl)
   find-out d (x ∷ xs) = go (test (p x)) (find-out d xs)
     where
       go : (p x ≡ true) ⊎ (p x ≡ false)
           → ((find p d xs ≡ d) × (any p xs ≡ false)) ⊎ ((find p d xs ∈ xs) × (p (find p d xs) ≡ true))
-          → ((find p d (x ∷ xs) ≡ d) × (any p (x ∷ xs) ≡ false)) ⊎ ((find p d (x ∷ xs) ∈ x ∷ xs) × (p (find p d (x ∷ xs)) ≡ true))
+          → ((find p d (x ∷ xs) ≡ d) × (any p (x ∷ xs) ≡ false))
+          ⊎ ((find p d (x ∷ xs) ∈ x ∷ xs) × (p (find p d (x ∷ xs)) ≡ true))
       go (inl q) ih = rw q (inr (List·Memᴰ·head refl, q))
       go (inr q) (inl w) = rw q (inl w)
       go (inr q) (inr w) = rw q (inr (List·Memᴰ·tail (w .0), w .1))
@@ -170,38 +177,45 @@ module _ {A : Type 0} where
   pairwise-out r xs h (List·Memᴰ·tail {x = z} {xs = ys} m) (List·Memᴰ·tail n) =
       pairwise-out r ys (and-right (all (r z) ys) (pairwise r ys) h) m n
 
-  pub pairwise-in : (r : A → A → Bool) (xs : List A) → ((x y : A) → x ∈ xs → y ∈ xs → r x y ≡ true) → pairwise r xs ≡ true
+  pub pairwise-in : (r : A → A → Bool) (xs : List A) → ((x y : A) → x ∈ xs → y ∈ xs → r x y ≡ true)
+      → pairwise r xs ≡ true
   pairwise-in r [] f = refl
   pairwise-in r (x ∷ xs) f =
       and-in (all-in (r x) xs (λ y m. f x y (List·Memᴰ·head refl) (List·Memᴰ·tail m)))
       (pairwise-in r xs (λ y z m n. f y z (List·Memᴰ·tail m) (List·Memᴰ·tail n)))
 
-  pub pairwise-keep : (r : A → A → Bool) (p : A → Bool) (xs : List A) → pairwise r xs ≡ true → pairwise r (keep p xs) ≡ true
+  pub pairwise-keep : (r : A → A → Bool) (p : A → Bool) (xs : List A) → pairwise r xs ≡ true
+      → pairwise r (keep p xs) ≡ true
   pairwise-keep r p [] h = refl
   pairwise-keep r p (x ∷ xs) h = go (p x) (pairwise-keep r p xs (and-right (all (r x) xs) (pairwise r xs) h))
     where
       go : (b : Bool) → pairwise r (keep p xs) ≡ true → pairwise r (cond b (x ∷ keep p xs) (keep p xs)) ≡ true
       go true ih =
           and-in
-          (all-in (r x) (keep p xs) (λ y m. all-out (r x) xs (and-left (all (r x) xs) (pairwise r xs) h) y (keep-out p xs m .0)))
+          (all-in (r x) (keep p xs)
+          (λ y m. all-out (r x) xs (and-left (all (r x) xs) (pairwise r xs) h) y (keep-out p xs m .0)))
           ih
       go false ih = ih
 
   -- all and map with an index
-  pub allFrom-out : (p : ℕ → A → Bool) (i : ℕ) (xs : List A) (d : A) → allFrom i p xs ≡ true → (j : ℕ) → j < length xs → p (i + j) (getD xs j d) ≡ true
+  pub allFrom-out : (p : ℕ → A → Bool) (i : ℕ) (xs : List A) (d : A) → allFrom i p xs ≡ true → (j : ℕ) → j < length xs
+      → p (i + j) (getD xs j d) ≡ true
   allFrom-out p i [] d e j h = absurd (omega arith)
   allFrom-out p i (x ∷ xs) d e zero h = rw (add-zero i) (and-left (p i x) (allFrom (suc i) p xs) e)
   allFrom-out p i (x ∷ xs) d e (suc j) h =
       let s : i + suc j ≡ suc i + j = omega arith in
       rw s (allFrom-out p (suc i) xs d (and-right (p i x) (allFrom (suc i) p xs) e) j (omega arith))
 
-  pub allFrom-in : (p : ℕ → A → Bool) (i : ℕ) (xs : List A) (d : A) → ((j : ℕ) → j < length xs → p (i + j) (getD xs j d) ≡ true) → allFrom i p xs ≡ true
+  pub allFrom-in : (p : ℕ → A → Bool) (i : ℕ) (xs : List A) (d : A)
+      → ((j : ℕ) → j < length xs → p (i + j) (getD xs j d) ≡ true) → allFrom i p xs ≡ true
   allFrom-in p i [] d f = refl
   allFrom-in p i (x ∷ xs) d f =
       and-in (rw (add-zero i) at (f 0 (omega arith)))
-      (allFrom-in p (suc i) xs d (λ j h. let s : i + suc j ≡ suc i + j = omega arith in rw s at (f (suc j) (omega arith))))
+      (allFrom-in p (suc i) xs d
+      (λ j h. let s : i + suc j ≡ suc i + j = omega arith in rw s at (f (suc j) (omega arith))))
 
-  pub getD-mapFrom : {B : Type 0} (f : ℕ → A → B) (i : ℕ) (xs : List A) (j : ℕ) (d : A) (e : B) → j < length xs → getD (mapFrom i f xs) j e ≡ f (i + j) (getD xs j d)
+  pub getD-mapFrom : {B : Type 0} (f : ℕ → A → B) (i : ℕ) (xs : List A) (j : ℕ) (d : A) (e : B) → j < length xs
+      → getD (mapFrom i f xs) j e ≡ f (i + j) (getD xs j d)
   getD-mapFrom f i [] j d e h = absurd (omega arith)
   getD-mapFrom f i (x ∷ xs) zero d e h = rw (add-zero i)
   getD-mapFrom f i (x ∷ xs) (suc j) d e h =
@@ -213,16 +227,21 @@ module _ {A : Type 0} where
   length-mapFrom f i (x ∷ xs) = ap suc (length-mapFrom f (suc i) xs)
 
   -- sums: one entry changed, and every entry changed by its index
-  pub total-set : (m : A → ℕ) (xs : List A) (j : ℕ) (y d : A) → j < length xs → total m (set xs j y) + m (getD xs j d) ≡ total m xs + m y
+  pub total-set : (m : A → ℕ) (xs : List A) (j : ℕ) (y d : A) → j < length xs
+      → total m (set xs j y) + m (getD xs j d) ≡ total m xs + m y
   total-set m [] j y d h = absurd (omega arith)
   total-set m (x ∷ xs) zero y d h = omega arith
   total-set m (x ∷ xs) (suc j) y d h = omega (arith, total-set m xs j y d (omega arith))
 
-  pub total-mapFrom : (m : A → ℕ) (f : ℕ → A → A) (i : ℕ) (xs : List A) (d : A) → ((j : ℕ) → j < length xs → m (f (i + j) (getD xs j d)) ≤ m (getD xs j d)) → total m (mapFrom i f xs) ≤ total m xs
+  pub total-mapFrom : (m : A → ℕ) (f : ℕ → A → A) (i : ℕ) (xs : List A) (d : A)
+      → ((j : ℕ) → j < length xs → m (f (i + j) (getD xs j d)) ≤ m (getD xs j d))
+      → total m (mapFrom i f xs) ≤ total m xs
   total-mapFrom m f i [] d h = le-refl 0
   total-mapFrom m f i (x ∷ xs) d h =
       let a : m (f i x) ≤ m x = rw (add-zero i) at (h 0 (omega arith)) in
-      let b = total-mapFrom m f (suc i) xs d (λ j q. let s : i + suc j ≡ suc i + j = omega arith in rw s at (h (suc j) (omega arith))) in
+      let b =
+      total-mapFrom m f (suc i) xs d
+      (λ j q. let s : i + suc j ≡ suc i + j = omega arith in rw s at (h (suc j) (omega arith))) in
       omega arith
 
 -- least and greatest

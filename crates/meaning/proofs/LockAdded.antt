@@ -7,7 +7,8 @@ use mathlib.Core.List.{List, List·Memᴰ·head, List·Memᴰ·tail, List·Mem�
 use lib.ListN.{length, set, length-set}
 use Rattle.meaning.specs.Lists.{_∈_}
 use Rattle.meaning.specs.Limits.{READ, WRITE, SETTLED, FREE, OPEN}
-use Rattle.meaning.specs.Store.{Version, Lock, Rec, Edit, Store, editOf, recOf, editAt, recAt, withRecords, withRec, withLocks, locksUsed, accessesUsed}
+use Rattle.meaning.specs.Store.{Version, Lock, Rec, Edit, Store, editOf, recOf, editAt, recAt, withRecords}
+use Rattle.meaning.specs.Store.{withRec, withLocks, locksUsed, accessesUsed}
 use Rattle.meaning.specs.Points.{addLock}
 use Rattle.meaning.specs.Locking.{withLock, readAccess, readStore}
 use Rattle.meaning.specs.Pointwise.{NoneBlocked, VersionOn}
@@ -37,7 +38,8 @@ present-stays x l tr (inl v) = inl (version-stays x l tr v)
 present-stays x l tr (inr z) = inr z
 
 -- a property of the new lock and of every old one
-pub added-each : (P : Lock → Type 0) (l : Lock) (ls : List Lock) → P l → ((m : Lock) → m ∈ ls → P m) → (m : Lock) → m ∈ addLock l ls → P m
+pub added-each : (P : Lock → Type 0) (l : Lock) (ls : List Lock) → P l → ((m : Lock) → m ∈ ls → P m) → (m : Lock)
+    → m ∈ addLock l ls → P m
 unfolding addLock
 added-each P l ls new old m i = go (List·Memᴰ·cases-cons i)
   where
@@ -52,12 +54,15 @@ added-old l ls i = List·Memᴰ·tail i
 module _ (es : List Edit) (r : ℕ) (x : Rec) (l : Lock) (fit : LockFits es x l) (h : SoundRec es r x) where
   -- no write lock shares a point with a lock of another owner, of two locks
   abbrev Parted : Lock → Lock → Type 0
-  Parted a b = a .mode ≡ WRITE → (a .owner ≡ b .owner → ⊥) → (p : ℕ) → a .low ≤ p → p ≤ a .high → b .low ≤ p → p ≤ b .high → ⊥
+  Parted a b =
+      a .mode ≡ WRITE → (a .owner ≡ b .owner → ⊥) → (p : ℕ) → a .low ≤ p → p ≤ a .high → b .low ≤ p → p ≤ b .high → ⊥
 
   new-parted : (m : Lock) → m ∈ x .locks → Parted l m
   new-parted m i w o p a b c d =
-      fit .free p a b
-      (m .owner, record { lock = m; member = i; owned = refl; other = λ q. o (sym q); against = inl w; from = c; upto = d })
+      fit .free p a b (
+        m .owner,
+        record { lock = m; member = i; owned = refl; other = λ q. o (sym q); against = inl w; from = c; upto = d },
+      )
 
   old-parted : (m : Lock) → m ∈ x .locks → Parted m l
   old-parted m i w o p a b c d =
@@ -75,7 +80,9 @@ module _ (es : List Edit) (r : ℕ) (x : Rec) (l : Lock) (fit : LockFits es x l)
         base = λ f. version-stays x l (x .floor) (h .base f);
         nonzero = h .nonzero;
         span = added-each (λ m. Span (x .floor) m) l (x .locks) (fit .span) (h .span);
-        owner = added-each (λ m. (m .owner ≡ SETTLED) ⊎ (editOf es (m .owner) .state ≡ FREE → ⊥)) l (x .locks) (inr (fit .used)) (h .owner);
+        owner =
+            added-each (λ m. (m .owner ≡ SETTLED) ⊎ (editOf es (m .owner) .state ≡ FREE → ⊥)) l (x .locks)
+            (inr (fit .used)) (h .owner);
         apart = λ a b i j. added-each (λ c. Parted c b) l (x .locks) (newer b j) (λ c n. older c n b j) a i;
         backed = λ v m f. backed v (h .backed v m f);
       }
@@ -87,7 +94,14 @@ module _ (es : List Edit) (r : ℕ) (x : Rec) (l : Lock) (fit : LockFits es x l)
       older c n b j = added-each (λ d. Parted c d) l (x .locks) (old-parted c n) (λ d m. h .apart c d n m) b j
 
       backed : (v : Version) → Backed es r (v .point) (x .locks) → Backed es r (v .point) (addLock l (x .locks))
-      backed v b = record { lock = b .lock; member = added-old l (x .locks) (b .member); write = b .write; from = b .from; upto = b .upto; owner = b .owner }
+      backed v b = record {
+        lock = b .lock;
+        member = added-old l (x .locks) (b .member);
+        write = b .write;
+        from = b .from;
+        upto = b .upto;
+        owner = b .owner;
+      }
 
 module _ (s : Store) (h : SoundStore s) (r : ℕ) (there : r < length (s .records)) where
   -- every edit keeps its locks and the versions that it read
@@ -100,14 +114,17 @@ module _ (s : Store) (h : SoundStore s) (r : ℕ) (there : r < length (s .record
         record {
           count = omega (arith, length-set (s .records) r (lockedRec (recAt s r) l));
           lock = λ a i m o.
-              each-rec (λ j y. m ∈ recOf (s .records) j .locks → m ∈ y .locks) (s .records) r (lockedRec (recAt s r) l) there
+              each-rec (λ j y. m ∈ recOf (s .records) j .locks → m ∈ y .locks) (s .records) r (lockedRec (recAt s r) l)
+              there
               (added-old l (recAt s r .locks)) (λ j n. n) (a .rec);
           version = λ a tr i q.
-              each-rec (λ j y. Present (recOf (s .records) j) tr → Present y tr) (s .records) r (lockedRec (recAt s r) l) there
+              each-rec (λ j y. Present (recOf (s .records) j) tr → Present y tr) (s .records) r
+              (lockedRec (recAt s r) l) there
               (present-stays (recAt s r) l tr) (λ j n. n) (a .rec);
         }
 
-    pub lock-added : LockFits (s .edits) (recAt s r) l → locksUsed s < s .lockRows → SoundStore (withRec s r (lockedRec (recAt s r) l))
+    pub lock-added : LockFits (s .edits) (recAt s r) l → locksUsed s < s .lockRows
+        → SoundStore (withRec s r (lockedRec (recAt s r) l))
     unfolding withRecords accessesUsed addLock
     lock-added fit room =
         record {
@@ -123,7 +140,9 @@ module _ (s : Store) (h : SoundStore s) (r : ℕ) (there : r < length (s .record
 
   module _ (k low high : ℕ) (room : locksUsed s < s .lockRows) where
     -- Lock
-    pub locked-sound : (mode : ℕ) → LockFits (s .edits) (recAt s r) (record { low = low; high = high; mode = mode; owner = k }) → SoundStore (withLock s r mode k low high)
+    pub locked-sound : (mode : ℕ)
+        → LockFits (s .edits) (recAt s r) (record { low = low; high = high; mode = mode; owner = k })
+        → SoundStore (withLock s r mode k low high)
     unfolding withLock
     locked-sound mode fit = lock-added (record { low = low; high = high; mode = mode; owner = k }) fit room
 
@@ -132,7 +151,8 @@ module _ (s : Store) (h : SoundStore s) (r : ℕ) (there : r < length (s .record
 
     starts : (t : ℕ) → low ≡ suc t → ReadStarts k (suc t) (addLock new (recAt s r .locks))
     unfolding addLock
-    starts t z = record { lock = new; member = List·Memᴰ·head refl; owned = refl; mode = λ w. omega (arith, w); starts = z }
+    starts t z =
+        record { lock = new; member = List·Memᴰ·head refl; owned = refl; mode = λ w. omega (arith, w); starts = z }
 
     -- Read: the edit gets the access of the point read besides
     pub read-sound : (tr : ℕ) → low ≡ suc tr → Present (recAt s r) tr → LockFits (s .edits) (recAt s r) new

@@ -1,5 +1,5 @@
--- The four changes of a record's locks, point by point: which owner has a lock of which mode on which point after a change, in terms of
--- before; and lock by lock. Rests on Lists and Tests.
+-- The four changes of a record's locks, point by point: which owner has a lock of which mode on which point after a
+-- change, in terms of before; and lock by lock. Rests on Lists and Tests.
 use Prim.Native.Nat.{ℕ, suc, _≤_, _<_, max}
 use native.Mathlib.Omega.{arith}
 use mathlib.Core.Path.{_≡_, refl, sym, ap, _∙_}
@@ -24,7 +24,8 @@ pub record IsOn (l : Lock) (o m p : ℕ) : Type 0 where
   pub upto : p ≤ l .high
 
 pub lock-on : {ls : List Lock} {l : Lock} {o m p : ℕ} → l ∈ ls → IsOn l o m p → LockOn ls o m p
-lock-on {l = l} i w = record { lock = l; member = i; owned = w .owned; moded = w .moded; from = w .from; upto = w .upto }
+lock-on {l = l} i w =
+    record { lock = l; member = i; owned = w .owned; moded = w .moded; from = w .from; upto = w .upto }
 
 pub is-on : {ls : List Lock} {o m p : ℕ} → (w : LockOn ls o m p) → IsOn (w .lock) o m p
 is-on w = record { owned = w .owned; moded = w .moded; from = w .from; upto = w .upto }
@@ -32,7 +33,10 @@ is-on w = record { owned = w .owned; moded = w .moded; from = w .from; upto = w 
 -- held is locked in some mode
 pub held-is : (ls : List Lock) (o p : ℕ) → HeldOn ls o p ↔ ((m : ℕ) × LockOn ls o m p)
 held-is ls o p = (
-  λ h. (h .lock .mode, record { lock = h .lock; member = h .member; owned = h .owned; moded = refl; from = h .from; upto = h .upto }),
+  λ h. (
+    h .lock .mode,
+    record { lock = h .lock; member = h .member; owned = h .owned; moded = refl; from = h .from; upto = h .upto },
+  ),
   λ w. record { lock = w .1 .lock; member = w .1 .member; owned = w .1 .owned; from = w .1 .from; upto = w .1 .upto },
 )
 
@@ -49,7 +53,8 @@ cons-is l ls o m p = (λ w. out w (List·Memᴰ·cases-cons (w .member)), back)
     back (inr w) = lock-on (List·Memᴰ·tail (w .member)) (is-on w)
 
 -- a lock is added: it counts besides those before
-pub add-lock-is : (l : Lock) (ls : List Lock) (o m p : ℕ) → LockOn (addLock l ls) o m p ↔ (IsOn l o m p ⊎ LockOn ls o m p)
+pub add-lock-is : (l : Lock) (ls : List Lock) (o m p : ℕ)
+    → LockOn (addLock l ls) o m p ↔ (IsOn l o m p ⊎ LockOn ls o m p)
 unfolding addLock
 add-lock-is l ls o m p = cons-is l ls o m p
 
@@ -72,7 +77,8 @@ leave-settled-is true mode low high ls o m p = (λ w. out (is .0 w), λ w. is .1
 
     out : IsOn (record { low = low; high = high; mode = mode; owner = SETTLED }) o m p ⊎ LockOn ls o m p
         → LeftOn true mode low high o m p ⊎ LockOn ls o m p
-    out (inl w) = inl (record { left = refl; owned = sym (w .owned); moded = sym (w .moded); from = w .from; upto = w .upto })
+    out (inl w) =
+        inl (record { left = refl; owned = sym (w .owned); moded = sym (w .moded); from = w .from; upto = w .upto })
     out (inr w) = inr w
 
     back : LeftOn true mode low high o m p ⊎ LockOn ls o m p
@@ -88,17 +94,21 @@ leave-settled-is false mode low high ls o m p = (inr, back)
 -- one owner's locks go
 pub drop-owner-member : (k : ℕ) (ls : List Lock) {l : Lock} → (l ∈ dropOwner k ls) ↔ ((l ∈ ls) × (l .owner ≡ k → ⊥))
 unfolding dropOwner
-drop-owner-member k ls {l} =
-    (λ i. let w = keep-out (λ l. not (isOwned k l)) ls i in (w .0, other-out k l (w .1)), λ w. keep-in (λ l. not (isOwned k l)) (w .0) (other-in k l (w .1)))
+drop-owner-member k ls {l} = (
+  λ i. let w = keep-out (λ l. not (isOwned k l)) ls i in (w .0, other-out k l (w .1)),
+  λ w. keep-in (λ l. not (isOwned k l)) (w .0) (other-in k l (w .1)),
+)
 
-pub drop-owner-is : (k : ℕ) (ls : List Lock) (o m p : ℕ) → LockOn (dropOwner k ls) o m p ↔ (LockOn ls o m p × (o ≡ k → ⊥))
+pub drop-owner-is : (k : ℕ) (ls : List Lock) (o m p : ℕ)
+    → LockOn (dropOwner k ls) o m p ↔ (LockOn ls o m p × (o ≡ k → ⊥))
 drop-owner-is k ls o m p = (
   λ w. let i = drop-owner-member k ls .0 (w .member) in (lock-on (i .0) (is-on w), λ e. i .1 (w .owned ∙ e)),
   λ w. lock-on (drop-owner-member k ls .1 (w .0 .member, λ e. w .1 (sym (w .0 .owned) ∙ e))) (is-on (w .0)),
 )
 
 -- settled locks lose their points up to v: a lock after the change is one before it, trimmed, that is not emptied
-pub trim-to-member : (v : ℕ) (ls : List Lock) {l : Lock} → l ∈ trimTo v ls → (n : Lock) × (n ∈ ls) × (emptied v n ≡ false) × (trimmed v n ≡ l)
+pub trim-to-member : (v : ℕ) (ls : List Lock) {l : Lock} → l ∈ trimTo v ls
+    → (n : Lock) × (n ∈ ls) × (emptied v n ≡ false) × (trimmed v n ≡ l)
 unfolding trimTo
 trim-to-member v ls i =
     let w = Memᴰ·of-map (trimmed v) (keep (λ l. not (emptied v l)) ls) i in
@@ -113,23 +123,29 @@ member-trim-to v ls i e = Memᴰ·map (trimmed v) (keep-in (λ l. not (emptied v
 pub stays : (v : ℕ) (l : Lock) → (l .owner ≡ SETTLED → v < l .high) → emptied v l ≡ false
 stays v l f =
     false-in (emptied v l)
-    (λ e. not-both (and-right (isOwned SETTLED l) (leb (l .high) v) e) (lt-leb (l .high) v (f (owned-out SETTLED l (and-left (isOwned SETTLED l) (leb (l .high) v) e)))))
+    (λ e. not-both (and-right (isOwned SETTLED l) (leb (l .high) v) e)
+    (lt-leb (l .high) v (f (owned-out SETTLED l (and-left (isOwned SETTLED l) (leb (l .high) v) e)))))
 
 trimmed-is : (v : ℕ) (l : Lock) (o m p : ℕ) → IsOn (trimmed v l) o m p ↔ (IsOn l o m p × (o ≡ SETTLED → v < p))
 trimmed-is v l o m p = go (isOwned SETTLED l) refl
   where
     go : (b : Bool) → isOwned SETTLED l ≡ b
-        → IsOn (cond b (record { low = max (l .low) (suc v); high = l .high; mode = l .mode; owner = l .owner }) l) o m p
+        → IsOn (cond b (record { low = max (l .low) (suc v); high = l .high; mode = l .mode; owner = l .owner }) l) o m
+        p
         ↔ (IsOn l o m p × (o ≡ SETTLED → v < p))
     go true e = (
-      λ w. (record { owned = w .owned; moded = w .moded; from = omega (arith, w .from); upto = w .upto }, λ q. omega (arith, w .from)),
+      λ w. (
+        record { owned = w .owned; moded = w .moded; from = omega (arith, w .from); upto = w .upto },
+        λ q. omega (arith, w .from),
+      ),
       λ w.
           let h = w .1 (sym (w .0 .owned) ∙ owned-out SETTLED l e) in
           record { owned = w .0 .owned; moded = w .0 .moded; from = omega (arith, w .0 .from); upto = w .0 .upto },
     )
     go false e = (λ w. (w, λ q. absurd (unowned-out SETTLED l e (w .owned ∙ q))), λ w. w .0)
 
-pub trim-to-is : (v : ℕ) (ls : List Lock) (o m p : ℕ) → LockOn (trimTo v ls) o m p ↔ (LockOn ls o m p × (o ≡ SETTLED → v < p))
+pub trim-to-is : (v : ℕ) (ls : List Lock) (o m p : ℕ)
+    → LockOn (trimTo v ls) o m p ↔ (LockOn ls o m p × (o ≡ SETTLED → v < p))
 trim-to-is v ls o m p = (out, back)
   where
     out : LockOn (trimTo v ls) o m p → LockOn ls o m p × (o ≡ SETTLED → v < p)

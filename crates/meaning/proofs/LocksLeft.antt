@@ -1,5 +1,5 @@
--- Which locks of a record settling leaves, and that they are no more than before: an own write lock goes for the one left on the commit
--- point, an own read lock for the one left from the point read. Rests on LockChanges.
+-- Which locks of a record settling leaves, and that they are no more than before: an own write lock goes for the one
+-- left on the commit point, an own read lock for the one left from the point read. Rests on LockChanges.
 use Prim.Native.Nat.{ℕ, suc, _+_, _≤_, _<_}
 use native.Mathlib.Omega.{arith}
 use native.Mathlib.Nat.{le-refl}
@@ -24,15 +24,18 @@ abbrev pub settledLock : ℕ → ℕ → ℕ → Lock
 settledLock mode low high = record { low = low; high = high; mode = mode; owner = SETTLED }
 
 module _ (b : Bool) (mode low high : ℕ) (ls : List Lock) where
-  pub leave-out : (l : Lock) → l ∈ leaveSettled b mode low high ls → ((b ≡ true) × (l ≡ settledLock mode low high)) ⊎ (l ∈ ls)
+  pub leave-out : (l : Lock) → l ∈ leaveSettled b mode low high ls
+      → ((b ≡ true) × (l ≡ settledLock mode low high)) ⊎ (l ∈ ls)
   unfolding leaveSettled
   leave-out l m = go b refl m
     where
-      first : b ≡ true → (l ≡ settledLock mode low high) ⊎ (l ∈ ls) → ((b ≡ true) × (l ≡ settledLock mode low high)) ⊎ (l ∈ ls)
+      first : b ≡ true → (l ≡ settledLock mode low high) ⊎ (l ∈ ls)
+          → ((b ≡ true) × (l ≡ settledLock mode low high)) ⊎ (l ∈ ls)
       first q (inl z) = inl (q, z)
       first q (inr n) = inr n
 
-      go : (c : Bool) → b ≡ c → l ∈ cond c (settledLock mode low high ∷ ls) ls → ((b ≡ true) × (l ≡ settledLock mode low high)) ⊎ (l ∈ ls)
+      go : (c : Bool) → b ≡ c → l ∈ cond c (settledLock mode low high ∷ ls) ls
+          → ((b ≡ true) × (l ≡ settledLock mode low high)) ⊎ (l ∈ ls)
       go true q n = first q (List·Memᴰ·cases-cons n)
       go false q n = inr n
 
@@ -51,8 +54,10 @@ module _ (b : Bool) (mode low high : ℕ) (ls : List Lock) where
 -- where a lock of record r comes from after slot k, with the edit e, is settled
 pub data LeftBy (k : ℕ) (e : Edit) (r : ℕ) (ls : List Lock) (l : Lock) : Type 0 where
   other : l ∈ ls → (l .owner ≡ k → ⊥) → LeftBy k e r ls l
-  wrote : e .state ≡ COMMITTED → accessOf e r .written ≡ true → l ≡ settledLock WRITE (e .point) (e .point) → LeftBy k e r ls l
-  read : e .state ≡ COMMITTED → (tr : ℕ) → accessOf e r .from ≡ suc tr → l ≡ settledLock READ (accessOf e r .from) (e .point) → LeftBy k e r ls l
+  wrote : e .state ≡ COMMITTED → accessOf e r .written ≡ true → l ≡ settledLock WRITE (e .point) (e .point)
+      → LeftBy k e r ls l
+  read : e .state ≡ COMMITTED → (tr : ℕ) → accessOf e r .from ≡ suc tr
+      → l ≡ settledLock READ (accessOf e r .from) (e .point) → LeftBy k e r ls l
 
 module _ (k : ℕ) (e : Edit) (r : ℕ) (ls : List Lock) where
   abbrev a : Access
@@ -65,17 +70,21 @@ module _ (k : ℕ) (e : Edit) (r : ℕ) (ls : List Lock) where
       dropped : l ∈ dropOwner k ls → LeftBy k e r ls l
       dropped n = let w = drop-owner-member k ls .0 n in other (w .0) (w .1)
 
-      second : e .state ≡ COMMITTED → ((hasRead a ≡ true) × (l ≡ settledLock READ (a .from) (e .point))) ⊎ (l ∈ dropOwner k ls) → LeftBy k e r ls l
+      second : e .state ≡ COMMITTED
+          → ((hasRead a ≡ true) × (l ≡ settledLock READ (a .from) (e .point))) ⊎ (l ∈ dropOwner k ls)
+          → LeftBy k e r ls l
       second z (inl w) = let t = read-out a (w .0) in read z (t .0) (t .1) (w .1)
       second z (inr n) = dropped n
 
-      first : {ms : List Lock} → e .state ≡ COMMITTED → ((a .written ≡ true) × (l ≡ settledLock WRITE (e .point) (e .point))) ⊎ (l ∈ ms)
+      first : {ms : List Lock} → e .state ≡ COMMITTED
+          → ((a .written ≡ true) × (l ≡ settledLock WRITE (e .point) (e .point))) ⊎ (l ∈ ms)
           → (l ∈ ms → ((hasRead a ≡ true) × (l ≡ settledLock READ (a .from) (e .point))) ⊎ (l ∈ dropOwner k ls))
           → LeftBy k e r ls l
       first z (inl w) f = wrote z (w .0) (w .1)
       first z (inr n) f = second z (f n)
 
-      go : (b : Bool) → eqb (e .state) COMMITTED ≡ b → l ∈ cond b (locksLeft e a (dropOwner k ls)) (dropOwner k ls) → LeftBy k e r ls l
+      go : (b : Bool) → eqb (e .state) COMMITTED ≡ b → l ∈ cond b (locksLeft e a (dropOwner k ls)) (dropOwner k ls)
+          → LeftBy k e r ls l
       go true q n = first (eqb-true (e .state) COMMITTED q) (leave-out _ _ _ _ _ l n) (λ i. leave-out _ _ _ _ _ l i)
       go false q n = dropped n
 
@@ -87,16 +96,21 @@ module _ (k : ℕ) (e : Edit) (r : ℕ) (ls : List Lock) where
       go true = leave-old _ _ _ _ _ l (leave-old _ _ _ _ _ l (drop-owner-member k ls .1 (m, h)))
       go false = drop-owner-member k ls .1 (m, h)
 
-  pub settled-wrote : e .state ≡ COMMITTED → a .written ≡ true → settledLock WRITE (e .point) (e .point) ∈ settledLocks k e r ls
+  pub settled-wrote : e .state ≡ COMMITTED → a .written ≡ true
+      → settledLock WRITE (e .point) (e .point) ∈ settledLocks k e r ls
   unfolding settledLocks
   settled-wrote z q = rw (eq-eqb (e .state) COMMITTED z) (leave-new _ _ _ _ _ q)
 
-  pub settled-read : e .state ≡ COMMITTED → (tr : ℕ) → a .from ≡ suc tr → settledLock READ (a .from) (e .point) ∈ settledLocks k e r ls
+  pub settled-read : e .state ≡ COMMITTED → (tr : ℕ) → a .from ≡ suc tr
+      → settledLock READ (a .from) (e .point) ∈ settledLocks k e r ls
   unfolding settledLocks
-  settled-read z tr q = rw (eq-eqb (e .state) COMMITTED z) (leave-old _ _ _ _ _ (settledLock READ (a .from) (e .point)) (leave-new _ _ _ _ _ (read-in a tr q)))
+  settled-read z tr q =
+      rw (eq-eqb (e .state) COMMITTED z)
+      (leave-old _ _ _ _ _ (settledLock READ (a .from) (e .point)) (leave-new _ _ _ _ _ (read-in a tr q)))
 
   -- point by point: "a settled read lock tr + 1..t for each record read and a settled write lock on t for each written"
-  pub settled-reads : e .state ≡ COMMITTED → (tr p : ℕ) → a .from ≡ suc tr → tr < p → p ≤ e .point → LockOn (settledLocks k e r ls) SETTLED READ p
+  pub settled-reads : e .state ≡ COMMITTED → (tr p : ℕ) → a .from ≡ suc tr → tr < p → p ≤ e .point
+      → LockOn (settledLocks k e r ls) SETTLED READ p
   settled-reads z tr p q low high =
       record {
         lock = settledLock READ (a .from) (e .point);
@@ -107,7 +121,8 @@ module _ (k : ℕ) (e : Edit) (r : ℕ) (ls : List Lock) where
         upto = high;
       }
 
-  pub settled-writes : e .state ≡ COMMITTED → a .written ≡ true → LockOn (settledLocks k e r ls) SETTLED WRITE (e .point)
+  pub settled-writes : e .state ≡ COMMITTED → a .written ≡ true
+      → LockOn (settledLocks k e r ls) SETTLED WRITE (e .point)
   settled-writes z q =
       record {
         lock = settledLock WRITE (e .point) (e .point);
@@ -151,13 +166,16 @@ module _ (k : ℕ) (e : Edit) (r : ℕ) (ls : List Lock) where
   some-write w = mem-nonempty (keep-in isWrite (own-in k ls (w .member) (w .owned)) (write-in (w .lock) (w .mode)))
 
   some-read : OwnRead k ls → 1 ≤ length mineRead
-  some-read w = mem-nonempty (keep-in (λ l. not (isWrite l)) (own-in k ls (w .member) (w .owned)) (rw (unwrite-in (w .lock) (w .mode)) refl))
+  some-read w =
+      mem-nonempty
+      (keep-in (λ l. not (isWrite l)) (own-in k ls (w .member) (w .owned)) (rw (unwrite-in (w .lock) (w .mode)) refl))
 
   parts : length (keep isWrite mine) + length mineRead + length (dropOwner k ls) ≡ length ls
   unfolding dropOwner own
   parts = omega (arith, keep-split (isOwned k) ls, keep-split isWrite mine)
 
-  leave-length : (b : Bool) (mode low high : ℕ) (ms : List Lock) (n : ℕ) → (b ≡ true → 1 ≤ n) → length (leaveSettled b mode low high ms) ≤ n + length ms
+  leave-length : (b : Bool) (mode low high : ℕ) (ms : List Lock) (n : ℕ) → (b ≡ true → 1 ≤ n)
+      → length (leaveSettled b mode low high ms) ≤ n + length ms
   unfolding leaveSettled
   leave-length true mode low high ms n h = omega (arith, h refl)
   leave-length false mode low high ms n h = omega arith
@@ -168,7 +186,8 @@ module _ (k : ℕ) (e : Edit) (r : ℕ) (ls : List Lock) where
   unfolding settledLocks
   settled-few f g = go (eqb (e .state) COMMITTED) refl
     where
-      go : (b : Bool) → eqb (e .state) COMMITTED ≡ b → length (cond b (locksLeft e (accessOf e r) (dropOwner k ls)) (dropOwner k ls)) ≤ length ls
+      go : (b : Bool) → eqb (e .state) COMMITTED ≡ b
+          → length (cond b (locksLeft e (accessOf e r) (dropOwner k ls)) (dropOwner k ls)) ≤ length ls
       go false q = omega (arith, parts)
       go true q =
           let z = eqb-true (e .state) COMMITTED q in
@@ -177,6 +196,8 @@ module _ (k : ℕ) (e : Edit) (r : ℕ) (ls : List Lock) where
           omega (
             arith,
             parts,
-            leave-length (x .written) WRITE (e .point) (e .point) ms (length (keep isWrite mine)) (λ w. some-write (f z w)),
-            leave-length (hasRead x) READ (x .from) (e .point) (dropOwner k ls) (length mineRead) (λ w. let t = read-out x w in some-read (g z (t .0) (t .1))),
+            leave-length (x .written) WRITE (e .point) (e .point) ms (length (keep isWrite mine))
+                (λ w. some-write (f z w)),
+            leave-length (hasRead x) READ (x .from) (e .point) (dropOwner k ls) (length mineRead)
+                (λ w. let t = read-out x w in some-read (g z (t .0) (t .1))),
           )

@@ -1,5 +1,5 @@
--- The first version found in a falling list is the newest below the bound, and the version on a point is the one that stands there.
--- Rests on Lists.
+-- The first version found in a falling list is the newest below the bound, and the version on a point is the one that
+-- stands there. Rests on Lists.
 use Prim.Native.Nat.{ℕ, suc, _≤_, _<_}
 use native.Mathlib.Omega.{arith}
 use mathlib.Core.Path.{_≡_, refl, sym, ap, _∙_}
@@ -19,14 +19,18 @@ abbrev later : Version → Version → Bool
 later v w = ltb (w .point) (v .point)
 
 -- a test that holds of the versions below the bound
-module _ (t : Version → Bool) (bound : ℕ) (out : (v : Version) → t v ≡ true → v .point < bound) (back : (v : Version) → v .point < bound → t v ≡ true) where
+module _ (t : Version → Bool) (bound : ℕ) (out : (v : Version) → t v ≡ true → v .point < bound)
+    (back : (v : Version) → v .point < bound → t v ≡ true) where
   pub newest-found : (vs : List Version) → pairwise later vs ≡ true → NewestIs vs bound (find t first vs)
   newest-found [] falls = none refl (λ w m. absurd (List·Memᴰ·not-nil m))
-  newest-found (v ∷ vs) falls = go (test (t v)) (newest-found vs (and-right (all (later v) vs) (pairwise later vs) falls))
+  newest-found (v ∷ vs) falls =
+      go (test (t v)) (newest-found vs (and-right (all (later v) vs) (pairwise later vs) falls))
     where
       -- every later version is below v
       below : (w : Version) → w ∈ vs → w .point < v .point
-      below w m = ltb-true (w .point) (v .point) (all-out (later v) vs (and-left (all (later v) vs) (pairwise later vs) falls) w m)
+      below w m =
+          ltb-true (w .point) (v .point)
+          (all-out (later v) vs (and-left (all (later v) vs) (pairwise later vs) falls) w m)
 
       greatest : (w : Version) → (w ≡ v) ⊎ (w ∈ vs) → w .point ≤ v .point
       greatest w (inl e) = omega (arith, ap (λ (u : Version). u .point) e)
@@ -52,23 +56,27 @@ module _ (t : Version → Bool) (bound : ℕ) (out : (v : Version) → t v ≡ t
           atMost w b (inl n) = absurd (past q w n b)
           atMost w b (inr n) = g w n b
 
-      go : (t v ≡ true) ⊎ (t v ≡ false) → NewestIs vs bound (find t first vs) → NewestIs (v ∷ vs) bound (find t first (v ∷ vs))
+      go : (t v ≡ true) ⊎ (t v ≡ false) → NewestIs vs bound (find t first vs)
+          → NewestIs (v ∷ vs) bound (find t first (v ∷ vs))
       go (inl q) ih = rw q (one (List·Memᴰ·head refl) (out v q) (λ w m h. greatest w (List·Memᴰ·cases-cons m)))
       go (inr q) ih = rw q (rest q ih)
 
 pub newest-below-is : NewestBelowIs
 unfolding versionsFall newestBelow
 newest-below-is x m falls =
-    newest-found (λ v. ltb (v .point) m) m (λ v e. ltb-true (v .point) m e) (λ v h. lt-ltb (v .point) m h) (x .versions) falls
+    newest-found (λ v. ltb (v .point) m) m (λ v e. ltb-true (v .point) m e) (λ v h. lt-ltb (v .point) m h) (x .versions)
+    falls
 
 pub newest-at-is : NewestAtIs
 unfolding versionsFall newestAt
 newest-at-is x p falls =
-    newest-found (λ v. leb (v .point) p) (suc p) (λ v e. let h = leb-true (v .point) p e in omega arith) (λ v h. le-leb (v .point) p (omega arith))
+    newest-found (λ v. leb (v .point) p) (suc p) (λ v e. let h = leb-true (v .point) p e in omega arith)
+    (λ v h. le-leb (v .point) p (omega arith))
     (x .versions) falls
 
 -- versions of a falling list have points of their own
-pub falls-once : (x : Rec) → versionsFall x ≡ true → {v w : Version} → v ∈ x .versions → w ∈ x .versions → v .point ≡ w .point → v ≡ w
+pub falls-once : (x : Rec) → versionsFall x ≡ true → {v w : Version} → v ∈ x .versions → w ∈ x .versions
+    → v .point ≡ w .point → v ≡ w
 unfolding versionsFall
 falls-once x falls {v} {w} m n q = go (pairwise-out later (x .versions) falls m n)
   where
@@ -78,7 +86,8 @@ falls-once x falls {v} {w} m n q = go (pairwise-out later (x .versions) falls m 
     go (inr (inr e)) = absurd (omega (arith, ltb-true (v .point) (w .point) e))
 
 -- where a version stands on p, versionOn finds one that does, and in a falling list that one
-pub version-on-stands : (x : Rec) (p : ℕ) → VersionOn x p → (versionOn (x .versions) p ∈ x .versions) × (versionOn (x .versions) p .point ≡ p)
+pub version-on-stands : (x : Rec) (p : ℕ) → VersionOn x p
+    → (versionOn (x .versions) p ∈ x .versions) × (versionOn (x .versions) p .point ≡ p)
 unfolding versionOn
 version-on-stands x p b = go (find-out on first (x .versions))
   where
@@ -91,13 +100,15 @@ version-on-stands x p b = go (find-out on first (x .versions))
     go (inl w) = absurd (not-both (any-in on (b .member) (eq-eqb (b .version .point) p (b .stands))) (w .1))
     go (inr w) = (w .0, eqb-true (find on first (x .versions) .point) p (w .1))
 
-pub version-on-is : (x : Rec) (p : ℕ) → versionsFall x ≡ true → {v : Version} → v ∈ x .versions → v .point ≡ p → versionOn (x .versions) p ≡ v
+pub version-on-is : (x : Rec) (p : ℕ) → versionsFall x ≡ true → {v : Version} → v ∈ x .versions → v .point ≡ p
+    → versionOn (x .versions) p ≡ v
 version-on-is x p falls {v} m q =
     let w = version-on-stands x p (record { version = v; member = m; stands = q }) in
     falls-once x falls (w .0) m (w .1 ∙ sym q)
 
 -- what is the newest version has one point
-pub newest-one : {vs : List Version} {bound : ℕ} {v w : Version} → NewestIs vs bound v → NewestIs vs bound w → v .point ≡ w .point
+pub newest-one : {vs : List Version} {bound : ℕ} {v w : Version} → NewestIs vs bound v → NewestIs vs bound w
+    → v .point ≡ w .point
 newest-one (none e f) (none q g) = ap (λ (v : Version). v .point) e ∙ sym (ap (λ (v : Version). v .point) q)
 newest-one {w = w} (none e f) (one m l g) = absurd (omega (arith, f w m))
 newest-one {v = v} (one m l g) (none e f) = absurd (omega (arith, f v m))

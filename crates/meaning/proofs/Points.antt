@@ -1,5 +1,5 @@
--- The first blocked point is the least blocked point of a span, and Lock and Read take the run that document 01 names, with either flag;
--- what frozen and held mean point by point. Rests on Tests and Spans.
+-- The first blocked point is the least blocked point of a span, and Lock and Read take the run that document 01 names,
+-- with either flag; what frozen and held mean point by point. Rests on Tests and Spans.
 use Prim.Native.Nat.{ℕ, suc, _-_, _≤_, _<_}
 use native.Mathlib.Omega.{arith}
 use native.Mathlib.Nat.{le-refl}
@@ -14,20 +14,33 @@ use Rattle.meaning.specs.Limits.{SLOTS, READ, WRITE, SETTLED}
 use Rattle.meaning.specs.Store.{Version, Lock, Rec, Store, recAt}
 use Rattle.meaning.specs.Points.{isOwned, covers, conflicts, blockers, firstBlocked, firstOpen, frozen, holder}
 use Rattle.meaning.specs.Locking.{grantEnd, lockFrom, lockEnd, lockGranted, readGranted}
-use Rattle.meaning.specs.Pointwise.{BlockedBy, Blocked, Proper, LeastBlocked, NoneBlocked, FreeRun, PartTaken, LockTakes, LockDenied, ReadTakes, ReadDenied, VersionOn, SettledOn, Frozen, LowestHolder}
+use Rattle.meaning.specs.Pointwise.{BlockedBy, Blocked, Proper, LeastBlocked, NoneBlocked, FreeRun, PartTaken}
+use Rattle.meaning.specs.Pointwise.{LockTakes, LockDenied, ReadTakes, ReadDenied, VersionOn, SettledOn, Frozen}
+use Rattle.meaning.specs.Pointwise.{LowestHolder}
 use Rattle.meaning.specs.Laws.{FirstBlockedIsLeast, LockTakesRun, ReadTakesRun}
 use Rattle.meaning.specs.declared.Extent.{Extent}
 use Rattle.meaning.specs.declared.Extent.the-variants.{All, Part}
-use Rattle.meaning.proofs.Lists.{and-in, and-left, and-right, or-out, or-left, or-right, test, any-in, any-out, keep-in, keep-out, least-le, least-out}
-use Rattle.meaning.proofs.Tests.{Under, covers-out, covers-in, owned-out, owned-in, conflicts-out, conflicts-in, blockers-out, blockers-in, Covered}
-use Rattle.meaning.proofs.Spans.{firstCovered-top, firstCovered-low, firstCovered-is, firstCovered-least, firstFree-low, firstFree-is, firstFree-run}
+use Rattle.meaning.proofs.Lists.{and-in, and-left, and-right, or-out, or-left, or-right, test, any-in, any-out}
+use Rattle.meaning.proofs.Lists.{keep-in, keep-out, least-le, least-out}
+use Rattle.meaning.proofs.Tests.{Under, covers-out, covers-in, owned-out, owned-in, conflicts-out, conflicts-in}
+use Rattle.meaning.proofs.Tests.{blockers-out, blockers-in, Covered}
+use Rattle.meaning.proofs.Spans.{firstCovered-top, firstCovered-low, firstCovered-is, firstCovered-least}
+use Rattle.meaning.proofs.Spans.{firstFree-low, firstFree-is, firstFree-run}
 
 -- a point is blocked exactly if it is under one of the locks that block
 module _ (mode k : ℕ) (x : Rec) (p : ℕ) where
   pub blocked-by : {l : Lock} → l ∈ blockers mode k x → Under p l → BlockedBy mode k x p (l .owner)
   blocked-by {l} m u =
       let w = blockers-out mode k x m in
-      record { lock = l; member = w .0; owned = refl; other = w .1 .other; against = w .1 .against; from = u .from; upto = u .upto }
+      record {
+        lock = l;
+        member = w .0;
+        owned = refl;
+        other = w .1 .other;
+        against = w .1 .against;
+        from = u .from;
+        upto = u .upto;
+      }
 
   pub blocked-out : Covered (blockers mode k x) p → Blocked mode k x p
   blocked-out c = (c .lock .owner, blocked-by (c .member) (c .under))
@@ -38,14 +51,19 @@ module _ (mode k : ℕ) (x : Rec) (p : ℕ) where
 
   pub blocked-in : Blocked mode k x p → Covered (blockers mode k x) p
   blocked-in b =
-      record { lock = b .1 .lock; member = by-blocker (b .0) (b .1); under = record { from = b .1 .from; upto = b .1 .upto } }
+      record {
+        lock = b .1 .lock;
+        member = by-blocker (b .0) (b .1);
+        under = record { from = b .1 .from; upto = b .1 .upto };
+      }
 
 -- the first blocked point, where there is one and where there is none
 module _ (mode k : ℕ) (x : Rec) (low high : ℕ) where
   pub first-blocked-free : (q : ℕ) → low ≤ q → q < firstBlocked mode k x low high → Blocked mode k x q → ⊥
   first-blocked-free q h g b = firstCovered-least (blockers mode k x) low high q h g (blocked-in mode k x q b)
 
-  pub first-blocked-is : Proper x → firstBlocked mode k x low high ≤ high → Blocked mode k x (firstBlocked mode k x low high)
+  pub first-blocked-is : Proper x → firstBlocked mode k x low high ≤ high
+      → Blocked mode k x (firstBlocked mode k x low high)
   first-blocked-is proper h =
       blocked-out mode k x (firstBlocked mode k x low high)
       (firstCovered-is (blockers mode k x) low high (λ l m. proper l (blockers-out mode k x m .0)) h)
@@ -53,7 +71,8 @@ module _ (mode k : ℕ) (x : Rec) (low high : ℕ) where
   pub none-blocked : high < firstBlocked mode k x low high → NoneBlocked mode k x low high
   none-blocked h q f g = first-blocked-free q f (omega arith)
 
-  pub least-blocked : Proper x → low ≤ high → firstBlocked mode k x low high ≤ high → LeastBlocked mode k x low high (firstBlocked mode k x low high)
+  pub least-blocked : Proper x → low ≤ high → firstBlocked mode k x low high ≤ high
+      → LeastBlocked mode k x low high (firstBlocked mode k x low high)
   least-blocked proper s h =
       record {
         from = firstCovered-low (blockers mode k x) low high (omega arith);
@@ -63,7 +82,8 @@ module _ (mode k : ℕ) (x : Rec) (low high : ℕ) where
       }
 
   -- the run from a point that is not blocked
-  pub free-run : Proper x → low ≤ high → (Blocked mode k x low → ⊥) → FreeRun mode k x high low (firstBlocked mode k x low high - 1)
+  pub free-run : Proper x → low ≤ high → (Blocked mode k x low → ⊥)
+      → FreeRun mode k x high low (firstBlocked mode k x low high - 1)
   free-run proper s f =
       let a : low < firstBlocked mode k x low high = past (test (ltb low (firstBlocked mode k x low high))) in
       let t = firstCovered-top (blockers mode k x) low high in
@@ -89,7 +109,9 @@ module _ (mode k : ℕ) (x : Rec) (low high : ℕ) where
       next a (inl e) =
           let same : firstBlocked mode k x low high ≡ suc (firstBlocked mode k x low high - 1) = omega arith in
           inr (rw same at (first-blocked-is proper (leb-true (firstBlocked mode k x low high) high e)))
-      next a (inr e) = inl (omega (arith, leb-false (firstBlocked mode k x low high) high e, firstCovered-top (blockers mode k x) low high))
+      next a (inr e) =
+          inl (omega
+          (arith, leb-false (firstBlocked mode k x low high) high e, firstCovered-top (blockers mode k x) low high))
 
 pub first-blocked-is-least : FirstBlockedIsLeast
 first-blocked-is-least mode k x low high proper s = go (test (leb (firstBlocked mode k x low high) high))
@@ -104,7 +126,8 @@ first-blocked-is-least mode k x low high proper s = go (test (leb (firstBlocked 
 
 -- Lock
 module _ (k : ℕ) (x : Rec) (low high : ℕ) (proper : Proper x) (s : low ≤ high) where
-  part-taken : firstOpen WRITE k x low high ≤ high → PartTaken k x low high (lockFrom Part k x low high) (lockEnd Part k x low high)
+  part-taken : firstOpen WRITE k x low high ≤ high
+      → PartTaken k x low high (lockFrom Part k x low high) (lockEnd Part k x low high)
   part-taken h =
       record {
         starts = firstFree-low (blockers WRITE k x) low high (omega arith);
@@ -114,13 +137,16 @@ module _ (k : ℕ) (x : Rec) (low high : ℕ) (proper : Proper x) (s : low ≤ h
             (λ b. firstFree-is (blockers WRITE k x) low high h (blocked-in WRITE k x (firstOpen WRITE k x low high) b));
       }
 
-  lock-taken : (w : Extent) → lockGranted w k x low high ≡ true → LockTakes w k x low high (lockFrom w k x low high) (lockEnd w k x low high)
+  lock-taken : (w : Extent) → lockGranted w k x low high ≡ true
+      → LockTakes w k x low high (lockFrom w k x low high) (lockEnd w k x low high)
   lock-taken All e = (refl, refl, none-blocked WRITE k x low high (ltb-true high (firstBlocked WRITE k x low high) e))
   lock-taken Part e = part-taken (leb-true (firstOpen WRITE k x low high) high e)
 
   lock-denied : (w : Extent) → lockGranted w k x low high ≡ false → LockDenied w k x low high
-  lock-denied All e =
-      (firstBlocked WRITE k x low high, least-blocked WRITE k x low high proper s (ltb-false high (firstBlocked WRITE k x low high) e))
+  lock-denied All e = (
+    firstBlocked WRITE k x low high,
+    least-blocked WRITE k x low high proper s (ltb-false high (firstBlocked WRITE k x low high) e),
+  )
   lock-denied Part e =
       λ q f g.
       let h = leb-false (firstOpen WRITE k x low high) high e in
@@ -131,15 +157,18 @@ lock-takes-run w k x low high proper s = (lock-taken k x low high proper s w, lo
 
 -- Read
 module _ (k : ℕ) (x : Rec) (low high : ℕ) (proper : Proper x) (s : low ≤ high) where
-  read-taken : (w : Extent) → readGranted w k x low high ≡ true → ReadTakes w k x low high (grantEnd w READ k x low high)
+  read-taken : (w : Extent) → readGranted w k x low high ≡ true
+      → ReadTakes w k x low high (grantEnd w READ k x low high)
   read-taken All e = (refl, none-blocked READ k x low high (ltb-true high (firstBlocked READ k x low high) e))
   read-taken Part e =
       free-run READ k x low high proper s
       (first-blocked-free READ k x low high low (le-refl low) (ltb-true low (firstBlocked READ k x low high) e))
 
   read-denied : (w : Extent) → readGranted w k x low high ≡ false → ReadDenied w k x low high
-  read-denied All e =
-      (firstBlocked READ k x low high, least-blocked READ k x low high proper s (ltb-false high (firstBlocked READ k x low high) e))
+  read-denied All e = (
+    firstBlocked READ k x low high,
+    least-blocked READ k x low high proper s (ltb-false high (firstBlocked READ k x low high) e),
+  )
   read-denied Part e =
       let g = ltb-false low (firstBlocked READ k x low high) e in
       let b = least-blocked READ k x low high proper s (omega arith) in
@@ -189,9 +218,11 @@ module _ (p : ℕ) where
 
 pub frozen-is : (s : Store) (r mode p : ℕ) → (frozen s r mode p ≡ true) ↔ Frozen s r mode p
 unfolding frozen
-frozen-is s r mode p = (λ e. out (or-out (any (settles mode p) (recAt s r .locks)) (any (stands p) (recAt s r .versions)) e), back)
+frozen-is s r mode p =
+    (λ e. out (or-out (any (settles mode p) (recAt s r .locks)) (any (stands p) (recAt s r .versions)) e), back)
   where
-    out : (any (settles mode p) (recAt s r .locks) ≡ true) ⊎ (any (stands p) (recAt s r .versions) ≡ true) → Frozen s r mode p
+    out : (any (settles mode p) (recAt s r .locks) ≡ true) ⊎ (any (stands p) (recAt s r .versions) ≡ true)
+        → Frozen s r mode p
     out (inl e) = inl (settled-out mode p (recAt s r) e)
     out (inr e) = inr (version-out p (recAt s r) e)
 
@@ -207,7 +238,8 @@ module _ (mode k : ℕ) (x : Rec) (p : ℕ) where
   owner-in : (o : ℕ) → BlockedBy mode k x p o → o ∈ owners
   owner-in o w =
       let u : Under p (w .lock) = record { from = w .from; upto = w .upto } in
-      Memᴰ·cast (sym (w .owned)) (Memᴰ·map (λ l. l .owner) (keep-in (covers p) (by-blocker mode k x p o w) (covers-in p (w .lock) u)))
+      Memᴰ·cast (sym (w .owned))
+      (Memᴰ·map (λ l. l .owner) (keep-in (covers p) (by-blocker mode k x p o w) (covers-in p (w .lock) u)))
 
   owner-out : {o : ℕ} → o ∈ owners → BlockedBy mode k x p o
   owner-out m =
@@ -223,7 +255,8 @@ module _ (mode k : ℕ) (x : Rec) (p : ℕ) where
   unfolding holder
   holder-out = least-out SLOTS owners
 
-  pub holder-is-lowest : ((o : ℕ) → BlockedBy mode k x p o → o < SLOTS) → Blocked mode k x p → LowestHolder mode k x p (holder mode k x p)
+  pub holder-is-lowest : ((o : ℕ) → BlockedBy mode k x p o → o < SLOTS) → Blocked mode k x p
+      → LowestHolder mode k x p (holder mode k x p)
   holder-is-lowest slots b = record { holds = go holder-out; lowest = holder-le }
     where
       go : (holder mode k x p ≡ SLOTS) ⊎ (holder mode k x p ∈ owners) → BlockedBy mode k x p (holder mode k x p)

@@ -1,4 +1,4 @@
--- The session's replies, by computation.
+-- The session's replies, by computation. Rests on nothing.
 use mathlib.Core.Path.{_≡_, refl}
 use Rattle.meaning.specs.Session.{session, sessionReplies, SessionRight}
 use Rattle.meaning.specs.Calls.{opened}

@@ -1,5 +1,5 @@
--- Settling a slot in use keeps a store sound and needs no row: every point of a settled lock that is left was under a lock of the edit,
--- a write lock if it is one, so it meets no other owner. Rests on Changed, Kept and LocksLeft.
+-- Settling a slot in use keeps a store sound and needs no row: every point of a settled lock that is left was under a
+-- lock of the edit, a write lock if it is one, so it meets no other owner. Rests on Changed, Kept and LocksLeft.
 use Prim.Native.Nat.{ℕ, suc, _+_, _≤_, _<_}
 use native.Mathlib.Omega.{arith}
 use native.Mathlib.Decide.{ℕ-discrete}
@@ -11,7 +11,8 @@ use mathlib.Core.List.{List, List·Memᴰ·not-nil}
 use lib.ListN.{length}
 use Rattle.meaning.specs.Lists.{_∈_, mapFrom}
 use Rattle.meaning.specs.Limits.{READ, WRITE, SETTLED, FREE, COMMITTED}
-use Rattle.meaning.specs.Store.{Lock, Rec, Edit, Store, freshRec, editOf, setEdit, recOf, editAt, recAt, withEdit, withRecords, accessOf, versionsUsed, locksUsed, accessesUsed}
+use Rattle.meaning.specs.Store.{Lock, Rec, Edit, Store, freshRec, editOf, setEdit, recOf, editAt, recAt, withEdit}
+use Rattle.meaning.specs.Store.{withRecords, accessOf, versionsUsed, locksUsed, accessesUsed}
 use Rattle.meaning.specs.Ending.{freed, settledLocks, settledRec, settled}
 use Rattle.meaning.specs.Sound.{versionsFall, namesOnce}
 use Rattle.meaning.specs.Pointwise.{LockOn, HeldOn}
@@ -22,7 +23,8 @@ use Rattle.meaning.proofs.Stores.{InRange, used-out, used-range, edit-s
 use Rattle.meaning.proofs.Changed.{counts-map, rec-settled-any}
 use Rattle.meaning.proofs.Kept.{Keeps, edit-kept, access-written, access-read}
 use Rattle.meaning.proofs.SoundParts.{sound-out}
-use Rattle.meaning.proofs.LocksLeft.{settledLock, LeftBy, other, wrote, read, settled-out, settled-other, settled-wrote, settled-few}
+use Rattle.meaning.proofs.LocksLeft.{settledLock, LeftBy, other, wrote, read, settled-out, settled-other}
+use Rattle.meaning.proofs.LocksLeft.{settled-wrote, settled-few}
 
 module _ (s : Store) (k : ℕ) (good : SoundStore s) (used : editAt s k .state ≡ FREE → ⊥) where
   abbrev e : Edit
@@ -45,7 +47,8 @@ module _ (s : Store) (k : ℕ) (good : SoundStore s) (used : editAt s k .state �
 
   -- what the edit has on a record that it wrote, and on one that it read at tr
   own-write : (r : ℕ) → e .state ≡ COMMITTED → accessOf e r .written ≡ true → LockOn (recAt s r .locks) k WRITE t
-  own-write r z q = let w = access-written e r q in rw (w .1) at (good .edits k .common z .written (accessOf e r) (w .0) q)
+  own-write r z q =
+      let w = access-written e r q in rw (w .1) at (good .edits k .common z .written (accessOf e r) (w .0) q)
 
   own-start : (r tr : ℕ) → accessOf e r .from ≡ suc tr → ReadStarts k (suc tr) (recAt s r .locks)
   own-start r tr q = let w = access-read e r tr q in rw (w .1) at (good .edits k .locked (accessOf e r) tr (w .0) q)
@@ -53,10 +56,13 @@ module _ (s : Store) (k : ℕ) (good : SoundStore s) (used : editAt s k .state �
   own-above : (r tr : ℕ) → e .state ≡ COMMITTED → accessOf e r .from ≡ suc tr → tr < t
   own-above r tr z q = good .edits k .common z .above (accessOf e r) tr (access-read e r tr q .0) q
 
-  own-under : (r tr p : ℕ) → e .state ≡ COMMITTED → accessOf e r .from ≡ suc tr → tr < p → p ≤ t → HeldOn (recAt s r .locks) k p
-  own-under r tr p z q a b = let w = access-read e r tr q in rw (w .1) at (good .edits k .common z .under (accessOf e r) tr p (w .0) q a b)
+  own-under : (r tr p : ℕ) → e .state ≡ COMMITTED → accessOf e r .from ≡ suc tr → tr < p → p ≤ t
+      → HeldOn (recAt s r .locks) k p
+  own-under r tr p z q a b =
+      let w = access-read e r tr q in rw (w .1) at (good .edits k .common z .under (accessOf e r) tr p (w .0) q a b)
 
-  -- a lock of another owner stays; a newly settled one has an own lock, a write lock if it is one, on each of its points
+  -- a lock of another owner stays; a newly settled one has an own lock, a write lock if it is one, on each of its
+  -- points
   record Beneath (r : ℕ) (l : Lock) (p : ℕ) : Type 0 where
     lock : Lock
     member : lock ∈ recAt s r .locks
@@ -78,12 +84,24 @@ module _ (s : Store) (k : ℕ) (good : SoundStore s) (used : editAt s k .state �
       record {
         owner = refl;
         mode = inr refl;
-        span = record { above = omega (arith, good .recs r .span (w .lock) (w .member) .above, w .from); some = le-refl t; last = c .last };
+        span = record {
+          above = omega (arith, good .recs r .span (w .lock) (w .member) .above, w .from);
+          some = le-refl t;
+          last = c .last;
+        };
         beneath = λ p a b.
-            record { lock = w .lock; member = w .member; owned = w .owned; strong = λ y. w .moded; from = omega (arith, w .from); upto = omega (arith, w .upto) };
+            record {
+              lock = w .lock;
+              member = w .member;
+              owned = w .owned;
+              strong = λ y. w .moded;
+              from = omega (arith, w .from);
+              upto = omega (arith, w .upto);
+            };
       }
 
-  new-read : (r tr : ℕ) → e .state ≡ COMMITTED → accessOf e r .from ≡ suc tr → NewlySettled r (settledLock READ (accessOf e r .from) t)
+  new-read : (r tr : ℕ) → e .state ≡ COMMITTED → accessOf e r .from ≡ suc tr
+      → NewlySettled r (settledLock READ (accessOf e r .from) t)
   new-read r tr z q =
       let w = own-start r tr q in
       record {
@@ -97,7 +115,14 @@ module _ (s : Store) (k : ℕ) (good : SoundStore s) (used : editAt s k .state �
             };
         beneath = λ p a b.
             let h = own-under r tr p z q (omega (arith, q)) b in
-            record { lock = h .lock; member = h .member; owned = h .owned; strong = λ y. absurd (omega arith); from = h .from; upto = h .upto };
+            record {
+              lock = h .lock;
+              member = h .member;
+              owned = h .owned;
+              strong = λ y. absurd (omega arith);
+              from = h .from;
+              upto = h .upto;
+            };
       }
 
   left-is : (r : ℕ) (l : Lock) → l ∈ left r → ((l ∈ recAt s r .locks) × (l .owner ≡ k → ⊥)) ⊎ NewlySettled r l
@@ -109,7 +134,8 @@ module _ (s : Store) (k : ℕ) (good : SoundStore s) (used : editAt s k .state �
       go (read z tr q y) = inr (rw y (new-read r tr z q))
 
   -- what the other slots are after
-  owner-kept : (o : ℕ) → (o ≡ k → ⊥) → (o ≡ SETTLED) ⊎ (editOf (s .edits) o .state ≡ FREE → ⊥) → (o ≡ SETTLED) ⊎ (editOf es′ o .state ≡ FREE → ⊥)
+  owner-kept : (o : ℕ) → (o ≡ k → ⊥) → (o ≡ SETTLED) ⊎ (editOf (s .edits) o .state ≡ FREE → ⊥)
+      → (o ≡ SETTLED) ⊎ (editOf es′ o .state ≡ FREE → ⊥)
   owner-kept o d (inl z) = inl z
   owner-kept o d (inr h) = inr (λ z. h (sym (ap (λ (x : Edit). x .state) (edit-other (s .edits) k o (freed e) d)) ∙ z))
 
@@ -162,19 +188,23 @@ module _ (s : Store) (k : ℕ) (good : SoundStore s) (used : editAt s k .state �
     spans l (inl w) = good .recs r .span l (w .0)
     spans l (inr f) = f .span
 
-    owners : (l : Lock) → ((l ∈ x .locks) × (l .owner ≡ k → ⊥)) ⊎ NewlySettled r l → (l .owner ≡ SETTLED) ⊎ (editOf es′ (l .owner) .state ≡ FREE → ⊥)
+    owners : (l : Lock) → ((l ∈ x .locks) × (l .owner ≡ k → ⊥)) ⊎ NewlySettled r l
+        → (l .owner ≡ SETTLED) ⊎ (editOf es′ (l .owner) .state ≡ FREE → ⊥)
     owners l (inl w) = owner-kept (l .owner) (w .1) (good .recs r .owner l (w .0))
     owners l (inr f) = inl (f .owner)
 
-    aparts : (l m : Lock) → ((l ∈ x .locks) × (l .owner ≡ k → ⊥)) ⊎ NewlySettled r l → ((m ∈ x .locks) × (m .owner ≡ k → ⊥)) ⊎ NewlySettled r m
-        → l .mode ≡ WRITE → (l .owner ≡ m .owner → ⊥) → (p : ℕ) → l .low ≤ p → p ≤ l .high → m .low ≤ p → p ≤ m .high → ⊥
+    aparts : (l m : Lock) → ((l ∈ x .locks) × (l .owner ≡ k → ⊥)) ⊎ NewlySettled r l
+        → ((m ∈ x .locks) × (m .owner ≡ k → ⊥)) ⊎ NewlySettled r m
+        → l .mode ≡ WRITE → (l .owner ≡ m .owner → ⊥) → (p : ℕ) → l .low ≤ p → p ≤ l .high → m .low ≤ p → p ≤ m .high
+        → ⊥
     aparts l m (inl v) (inl w) q d p a b a′ b′ = good .recs r .apart l m (v .0) (w .0) q d p a b a′ b′
     aparts l m (inl v) (inr g) q d p a b a′ b′ =
         let h = g .beneath p a′ b′ in
         good .recs r .apart l (h .lock) (v .0) (h .member) q (λ z. v .1 (z ∙ h .owned)) p a b (h .from) (h .upto)
     aparts l m (inr f) (inl w) q d p a b a′ b′ =
         let h = f .beneath p a b in
-        good .recs r .apart (h .lock) m (h .member) (w .0) (h .strong q) (λ z. w .1 (sym z ∙ h .owned)) p (h .from) (h .upto) a′ b′
+        good .recs r .apart (h .lock) m (h .member) (w .0) (h .strong q) (λ z. w .1 (sym z ∙ h .owned)) p (h .from)
+        (h .upto) a′ b′
     aparts l m (inr f) (inr g) q d p a b a′ b′ = d (f .owner ∙ sym (g .owner))
 
     rec-left : SoundRec es′ r y
@@ -201,8 +231,10 @@ module _ (s : Store) (k : ℕ) (good : SoundStore s) (used : editAt s k .state �
     rows : length (y .locks) ≤ length (x .locks)
     rows =
         settled-few k e r (x .locks)
-        (λ z q. let w = own-write r z q in record { lock = w .lock; member = w .member; owned = w .owned; mode = w .moded })
-        (λ z tr q. let w = own-start r tr q in record { lock = w .lock; member = w .member; owned = w .owned; mode = w .mode })
+        (λ z q. let w = own-write r z q in
+        record { lock = w .lock; member = w .member; owned = w .owned; mode = w .moded })
+        (λ z tr q. let w = own-start r tr q in
+        record { lock = w .lock; member = w .member; owned = w .owned; mode = w .mode })
 
   present-kept : (r tr : ℕ) → Present (recAt s r) tr → Present (settledRec k e r (recAt s r)) tr
   present-kept r tr (inr z) = inr z
@@ -212,7 +244,9 @@ module _ (s : Store) (k : ℕ) (good : SoundStore s) (used : editAt s k .state �
   keeps j d h =
       record {
         count = omega (arith, length-mapFrom (settledRec k e) 0 (s .records));
-        lock = λ a i l o m. rw (rec-is (a .rec)) (settled-other k e (a .rec) (recAt s (a .rec) .locks) l m (λ z. h (sym o ∙ z)));
+        lock =
+            λ a i l o m. rw (rec-is (a .rec))
+            (settled-other k e (a .rec) (recAt s (a .rec) .locks) l m (λ z. h (sym o ∙ z)));
         version = λ a tr i z p. rw (rec-is (a .rec)) (present-kept (a .rec) tr p);
       }
 
@@ -236,25 +270,35 @@ module _ (s : Store) (k : ℕ) (good : SoundStore s) (used : editAt s k .state �
     where
       go : Dec (j ≡ k) → SoundEdit rs′ j (editOf es′ j)
       go (yes y) = rw (y, edit-same (s .edits) k (freed e) range) edit-freed
-      go (no d) = rw (edit-other (s .edits) k j (freed e) d) (edit-kept j (editAt s j) (s .records) rs′ (keeps j (editAt s j) d) (good .edits j))
+      go (no d) =
+          rw (edit-other (s .edits) k j (freed e) d)
+          (edit-kept j (editAt s j) (s .records) rs′ (keeps j (editAt s j) d) (good .edits j))
 
   locks-fewer : locksUsed (settled s k) ≤ locksUsed s
   unfolding settled withEdit withRecords locksUsed recOf
-  locks-fewer = total-mapFrom (λ x. length (x .locks)) (settledRec k e) 0 (s .records) freshRec (λ r h. let z : 0 + r ≡ r = omega arith in rw z (rows r))
+  locks-fewer =
+      total-mapFrom (λ x. length (x .locks)) (settledRec k e) 0 (s .records) freshRec
+      (λ r h. let z : 0 + r ≡ r = omega arith in rw z (rows r))
 
   pub settled-sound : SoundStore (settled s k)
   unfolding settled withEdit withRecords versionsUsed accessesUsed
   settled-sound =
       record {
         counts = counts-map s (settledRec k e) k (freed e) (good .counts);
-        versions-fit = omega (arith, good .versions-fit, total-mapFrom (λ x. length (x .versions)) (settledRec k e) 0 (s .records) freshRec (λ j h. le-refl _));
+        versions-fit =
+            omega (
+              arith,
+              good .versions-fit,
+              total-mapFrom (λ x. length (x .versions)) (settledRec k e) 0 (s .records) freshRec (λ j h. le-refl _),
+            );
         locks-fit = omega (arith, good .locks-fit, locks-fewer);
         accesses-fit = omega (arith, good .accesses-fit, accesses-set (s .edits) k (freed e) range);
         recs = λ r. rw (rec-is r) (rec-left r);
         edits = edit-any;
       }
 
-  pub settled-rows : ((r : ℕ) → length (recAt (settled s k) r .locks) ≤ length (recAt s r .locks)) × (locksUsed (settled s k) ≤ locksUsed s)
+  pub settled-rows : ((r : ℕ) → length (recAt (settled s k) r .locks) ≤ length (recAt s r .locks))
+      × (locksUsed (settled s k) ≤ locksUsed s)
   unfolding settled withEdit withRecords
   settled-rows = ((λ r. rw (rec-is r) (rows r)), locks-fewer)
 

@@ -10,7 +10,8 @@ use lib.Dec.{leb}
 use lib.ListN.{length, getD, replicate, length-replicate}
 use borrow.Author.Tests.{leb-true, le-leb}
 use Rattle.meaning.specs.Lists.{total, allFrom}
-use Rattle.meaning.specs.Store.{Counts, Rec, Edit, Store, freshRec, freshEdit, fresh, countsOf, editOf, recOf, versionsUsed, locksUsed, accessesUsed}
+use Rattle.meaning.specs.Store.{Counts, Rec, Edit, Store, freshRec, freshEdit, fresh, countsOf, editOf, recOf}
+use Rattle.meaning.specs.Store.{versionsUsed, locksUsed, accessesUsed}
 use Rattle.meaning.specs.Records.{goodCounts}
 use Rattle.meaning.specs.Sound.{rowsFit, soundRec, soundEdit, soundStore, versionsFall, namesOnce}
 use Rattle.meaning.specs.SoundFacts.{SoundRec, SoundEdit, SoundStore}
@@ -54,7 +55,8 @@ fresh-edit rs k =
 
 -- the tests of a store, in the order of soundStore; those of its rows
 abbrev pub rowTests : Store → List Bool
-rowTests s = leb (versionsUsed s) (s .versionRows) ∷ leb (locksUsed s) (s .lockRows) ∷ leb (accessesUsed s) (s .accessRows) ∷ []
+rowTests s =
+    leb (versionsUsed s) (s .versionRows) ∷ leb (locksUsed s) (s .lockRows) ∷ leb (accessesUsed s) (s .accessRows) ∷ []
 
 abbrev pub storeTests : Store → List Bool
 storeTests s =
@@ -86,7 +88,8 @@ module _ (s : Store) where
       recs : (r : ℕ) → Dec (r < length (s .records)) → SoundRec (s .edits) r (recOf (s .records) r)
       recs r (yes q) =
           let z : 0 + r ≡ r = omega arith in
-          rec-out (s .edits) r (recOf (s .records) r) (rw z at (allFrom-out (soundRec (s .edits)) 0 (s .records) freshRec (tests 2) r q))
+          rec-out (s .edits) r (recOf (s .records) r)
+          (rw z at (allFrom-out (soundRec (s .edits)) 0 (s .records) freshRec (tests 2) r q))
       recs r (no q) = rw (rec-past (s .records) r (omega arith)) (fresh-rec (s .edits) r)
 
       slot : (i : ℕ) → Dec (i < length (s .edits)) → SoundEdit (s .records) (suc i) (getD (s .edits) i freshEdit)
@@ -116,7 +119,9 @@ module _ (s : Store) where
       recs r = let z : 0 + r ≡ r = omega arith in rw z (rec-in (s .edits) r (recOf (s .records) r) (f .recs r))
 
       slots : (i : ℕ) → soundEdit (s .records) (1 + i) (getD (s .edits) i freshEdit) ≡ true
-      slots i = let z : 1 + i ≡ suc i = omega arith in rw z (edit-in (s .records) (suc i) (getD (s .edits) i freshEdit) (f .edits (suc i)))
+      slots i =
+          let z : 1 + i ≡ suc i = omega arith in
+          rw z (edit-in (s .records) (suc i) (getD (s .edits) i freshEdit) (f .edits (suc i)))
 
 -- the fresh store
 pub getD-replicate : {A : Type 0} (n i : ℕ) (x : A) → getD (replicate n x) i x ≡ x

@@ -11,7 +11,8 @@ use lib.Seq.{getD-set-same, getD-set-other}
 use borrow.Author.Tests.{not-true, eqb-false, ne-eqb}
 use Rattle.meaning.specs.Lists.{mapFrom, total}
 use Rattle.meaning.specs.Limits.{FREE}
-use Rattle.meaning.specs.Store.{Rec, Edit, Store, freshRec, freshEdit, editOf, setEdit, recOf, inUse, accessesUsed}
+use Rattle.meaning.specs.Store.{Rec, Edit, Store, freshRec, freshEdit, editOf, setEdit, recOf, inUse}
+use Rattle.meaning.specs.Store.{accessesUsed}
 use Rattle.meaning.proofs.Lists.{getD-past, getD-mapFrom, length-mapFrom, total-set}
 
 -- a slot that is not free is one of the store's

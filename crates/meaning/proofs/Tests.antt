@@ -1,5 +1,5 @@
--- What each Bool test on a lock, an access or a list of locks says as plain facts, and back: `-out` from the test, `-in` to it.
--- Rests on Lists.
+-- What each Bool test on a lock, an access or a list of locks says as plain facts, and back: `-out` from the test,
+-- `-in` to it. Rests on Lists.
 use Prim.Native.Nat.{ℕ, zero, suc, _≤_, _<_}
 use native.Mathlib.Omega.{arith}
 use mathlib.Core.Path.{_≡_, refl, ap}
@@ -7,12 +7,15 @@ use mathlib.Core.Logic.{_⊎_, inl, inr}
 use mathlib.Core.Bool.{true, false, not}
 use mathlib.Core.List.{List}
 use lib.Dec.{leb, eqb}
-use borrow.Author.Tests.{leb-true, le-leb, ltb-true, ltb-false, lt-ltb, le-ltb, eqb-true, eqb-false, eq-eqb, ne-eqb, not-true}
+use borrow.Author.Tests.{leb-true, le-leb, ltb-true, ltb-false, lt-ltb, le-ltb, eqb-true, eqb-false, eq-eqb, ne-eqb}
+use borrow.Author.Tests.{not-true}
 use Rattle.meaning.specs.Lists.{_∈_}
 use Rattle.meaning.specs.Limits.{WRITE}
 use Rattle.meaning.specs.Store.{Lock, Access, Rec, hasRead}
-use Rattle.meaning.specs.Points.{isWrite, isOwned, covers, meets, covered, own, writes, conflicts, blocks, blockers}
-use Rattle.meaning.proofs.Lists.{and-in, and-left, and-right, or-out, or-left, or-right, false-in, not-both, any-in, any-out, keep-in, keep-out}
+use Rattle.meaning.specs.Points.{isWrite, isOwned, covers, meets, covered, own, writes, conflicts, blocks}
+use Rattle.meaning.specs.Points.{blockers}
+use Rattle.meaning.proofs.Lists.{and-in, and-left, and-right, or-out, or-left, or-right, false-in, not-both}
+use Rattle.meaning.proofs.Lists.{any-in, any-out, keep-in, keep-out}
 
 -- the point p lies in the lock
 pub record Under (p : ℕ) (l : Lock) : Type 0 where

@@ -25,7 +25,8 @@ pub record Rest (v : ℕ) (l m : Lock) : Type 0 where
   pub settled : l .owner ≡ SETTLED → (v < m .low) × (v < l .high)
   pub unsettled : (l .owner ≡ SETTLED → ⊥) → m ≡ l
 
-rest-settled : (v : ℕ) (l : Lock) → l .owner ≡ SETTLED → v < l .high → Rest v l (record { low = max (l .low) (suc v); high = l .high; mode = l .mode; owner = l .owner })
+rest-settled : (v : ℕ) (l : Lock) → l .owner ≡ SETTLED → v < l .high
+    → Rest v l (record { low = max (l .low) (suc v); high = l .high; mode = l .mode; owner = l .owner })
 rest-settled v l z h =
     record {
       mode = refl;
@@ -52,7 +53,8 @@ rest-unsettled v l d =
 rest-of : (v : ℕ) (l : Lock) → (l .owner ≡ SETTLED → v < l .high) → Rest v l (trimmed v l)
 rest-of v l h = go (isOwned SETTLED l) refl
   where
-    go : (b : Bool) → isOwned SETTLED l ≡ b → Rest v l (cond b (record { low = max (l .low) (suc v); high = l .high; mode = l .mode; owner = l .owner }) l)
+    go : (b : Bool) → isOwned SETTLED l ≡ b
+        → Rest v l (cond b (record { low = max (l .low) (suc v); high = l .high; mode = l .mode; owner = l .owner }) l)
     go true q = rest-settled v l (owned-out SETTLED l q) (h (owned-out SETTLED l q))
     go false q = rest-unsettled v l (unowned-out SETTLED l q)
 
@@ -71,4 +73,5 @@ module _ (v : ℕ) (ls : List Lock) where
 
   pub trim-length : length (trimTo v ls) ≤ length ls
   unfolding trimTo
-  trim-length = omega (arith, length-map (keep (λ l. not (emptied v l)) ls) (trimmed v), length-keep (λ l. not (emptied v l)) ls)
+  trim-length =
+      omega (arith, length-map (keep (λ l. not (emptied v l)) ls) (trimmed v), length-keep (λ l. not (emptied v l)) ls)

@@ -1,4 +1,5 @@
--- What the code's tests on readings, seats and locks come to, one law for each way that a test returns. Rests on nothing.
+-- What the code's tests on readings, seats and locks come to, one law for each way that a test returns. Rests on
+-- nothing.
 use Prim.Native.Nat.{ℕ, _+_, _*_, _≤_, _<_}
 use native.Mathlib.Omega.{arith}
 use native.Mathlib.Decide.{decLe}
@@ -66,7 +67,8 @@ module _ (l m : Lock) where
   agree-own e = rw (eq-eqb (m .owner) (l .owner) e)
 
   -- two locks of different owners agree as their modes and spans say
-  agree-apart : (m .owner ≡ l .owner → ⊥) → (not (conflicts (l .mode) m) || not (meets (l .low) (l .high) m)) ≡ agree l m
+  agree-apart : (m .owner ≡ l .owner → ⊥)
+      → (not (conflicts (l .mode) m) || not (meets (l .low) (l .high) m)) ≡ agree l m
   unfolding agree conflicts
   agree-apart e = rw (ne-eqb (m .owner) (l .owner) e)
 
@@ -76,7 +78,8 @@ module _ (l m : Lock) where
   pub agree-above : (m .owner ≡ l .owner → ⊥) → conflicts (l .mode) m ≡ true → l .high < m .low → true ≡ agree l m
   agree-above e h q = (rw (h, lt-leb (m .low) (l .high) q)) ∙ agree-apart e
 
-  pub agree-below : (m .owner ≡ l .owner → ⊥) → conflicts (l .mode) m ≡ true → m .low ≤ l .high → ltb (m .high) (l .low) ≡ agree l m
+  pub agree-below : (m .owner ≡ l .owner → ⊥) → conflicts (l .mode) m ≡ true → m .low ≤ l .high
+      → ltb (m .high) (l .low) ≡ agree l m
   agree-below e h q = (rw (h, le-leb (m .low) (l .high) q) (go (decLe (l .low) (m .high)))) ∙ agree-apart e
     where
       go : Dec (l .low ≤ m .high) → ltb (m .high) (l .low) ≡ not (leb (l .low) (m .high))

@@ -1,5 +1,5 @@
--- What a verdict that passes says of each of its tests, and that a call which is refused leaves the store as it is. Rests on Lists and
--- Stores.
+-- What a verdict that passes says of each of its tests, and that a call which is refused leaves the store as it is.
+-- Rests on Lists and Stores.
 use Prim.Native.Nat.{ℕ, _<_}
 use native.Mathlib.Omega.{arith}
 use mathlib.Core.Path.{_≡_, refl}
@@ -11,7 +11,8 @@ use borrow.Author.Tests.{eqb-true, ltb-true}
 use Rattle.meaning.specs.Limits.{FREE, OPEN}
 use Rattle.meaning.specs.Store.{Store, slotOf, generationOf, editAt, recAt, inUse, locksUsed}
 use Rattle.meaning.specs.Points.{frozen, holder}
-use Rattle.meaning.specs.Outcomes.{Outcome, Verdict, pass, refuse, orElse, needs, unless, knows, isOpen, forOpen, judge, handleAt, hasRecord, lockRoom}
+use Rattle.meaning.specs.Outcomes.{Outcome, Verdict, pass, refuse, orElse, needs, unless, knows, isOpen, forOpen}
+use Rattle.meaning.specs.Outcomes.{judge, handleAt, hasRecord, lockRoom}
 use Rattle.meaning.proofs.Lists.{and-left, and-right}
 use Rattle.meaning.proofs.Stores.{InRange, used-out, used-range}
 
@@ -34,7 +35,8 @@ judge-refuses s r mode k p e = go (frozen s r mode p) e
     go false q = refuse-not-pass 8 (handleAt s (holder mode k (recAt s r) p) ∷ []) q
 
 -- what holds of the store, and of the store after a call that passes, holds after the call
-pub unless-keeps : (P : Store → Type 0) (s : Store) (v : Verdict) (o : Outcome) → P s → (v ≡ pass → P (o .store)) → P (unless s v o .store)
+pub unless-keeps : (P : Store → Type 0) (s : Store) (v : Verdict) (o : Outcome) → P s → (v ≡ pass → P (o .store))
+    → P (unless s v o .store)
 unless-keeps P s pass o h f = f refl
 unless-keeps P s (refuse n more) o h f = h
 
@@ -55,7 +57,8 @@ knows-out s h e =
       in-use = u;
       used = f;
       range = used-range (s .edits) (slotOf h) f;
-      generation = eqb-true (editAt s (slotOf h) .generation) (generationOf h) (and-right (inUse (s .edits) (slotOf h)) g e);
+      generation =
+          eqb-true (editAt s (slotOf h) .generation) (generationOf h) (and-right (inUse (s .edits) (slotOf h)) g e);
     }
 
 pub isOpen-out : (s : Store) (h : ℕ) → isOpen s h ≡ true → editAt s (slotOf h) .state ≡ OPEN

@@ -3,14 +3,20 @@
 use Prim.Native.Nat.{ℕ}
 use mathlib.Core.List.{List, [], _∷_}
 use mathlib.Core.Bool.{true}
-use Rattle.meaning.specs.Store.{Counts, Store, editOf, setEdit, recOf, withEdit, withRecords, inUse, accessOf, names, versionsUsed, locksUsed, accessesUsed, newestAt, newestBelow, versionOn}
+use Rattle.meaning.specs.Store.{Counts, Store, editOf, setEdit, recOf, withEdit, withRecords, inUse, accessOf}
+use Rattle.meaning.specs.Store.{names, versionsUsed, locksUsed, accessesUsed, newestAt, newestBelow, versionOn}
 use Rattle.meaning.specs.Replies.{Reply}
 use Rattle.meaning.specs.Outcomes.{Outcome, knows, isOpen, hasRecord, judge, accessRoom, lockRoom, versionRoom}
 use Rattle.meaning.specs.Edits.{beginning, writing, withAccess, begun, beginChecks, written, writeChecks}
-use Rattle.meaning.specs.Locking.{locking, reading, withLock, lockVerdict, lockChecks, lockWanted, readVerdict, readStore, readNew, readOpen, readChecks}
-use Rattle.meaning.specs.Ending.{committing, aborting, settling, settledLocks, settled, committed, aborted, noCommon, commitVerdict, commitOpen, commitChecks, abortChecks, settleChecks}
-use Rattle.meaning.specs.Records.{purging, viewing, formatting, purgedRec, purgeVerdict, purgeTo, purgeChecks, viewChecks, goodCounts}
-use Rattle.meaning.specs.Points.{covered, own, writes, firstCovered, firstFree, conflicts, blocks, blockers, frozen, holder, addLock, leaveSettled, dropOwner, trimTo, ownOn, allows, inCommon, earliest, latest}
+use Rattle.meaning.specs.Locking.{locking, reading, withLock, lockVerdict, lockChecks, lockWanted, readVerdict}
+use Rattle.meaning.specs.Locking.{readStore, readNew, readOpen, readChecks}
+use Rattle.meaning.specs.Ending.{committing, aborting, settling, settledLocks, settled, committed, aborted}
+use Rattle.meaning.specs.Ending.{noCommon, commitVerdict, commitOpen, commitChecks, abortChecks, settleChecks}
+use Rattle.meaning.specs.Records.{purging, viewing, formatting, purgedRec, purgeVerdict, purgeTo, purgeChecks}
+use Rattle.meaning.specs.Records.{viewChecks, goodCounts}
+use Rattle.meaning.specs.Points.{covered, own, writes, firstCovered, firstFree, conflicts, blocks, blockers}
+use Rattle.meaning.specs.Points.{frozen, holder, addLock, leaveSettled, dropOwner, trimTo, ownOn, allows}
+use Rattle.meaning.specs.Points.{inCommon, earliest, latest}
 use Rattle.meaning.specs.declared.Call.{Call}
 use Rattle.meaning.specs.declared.Call.the-variants as C
 
@@ -53,5 +59,11 @@ lines (l ∷ ls) s = step l s .reply ∷ lines ls (step l s .store)
 
 -- for proofs that compute: `unfolding opened` opens every definition that a run computes with
 unfoldable pub opened : Unit {0}
-unfolding lines step run after act editOf setEdit recOf withEdit withRecords inUse accessOf names versionsUsed locksUsed accessesUsed newestAt newestBelow versionOn covered own writes firstCovered firstFree conflicts blocks blockers frozen holder addLock leaveSettled dropOwner trimTo ownOn allows inCommon earliest latest knows isOpen hasRecord judge accessRoom lockRoom versionRoom withAccess begun beginChecks beginning written writeChecks writing withLock lockVerdict lockChecks lockWanted locking readVerdict readStore readNew readOpen readChecks reading settledLocks settled committed aborted noCommon commitVerdict commitOpen commitChecks committing abortChecks aborting settleChecks settling purgedRec purgeVerdict purgeTo purgeChecks purging viewChecks viewing goodCounts formatting
+unfolding lines step run after act editOf setEdit recOf withEdit withRecords inUse accessOf names versionsUsed locksUsed
+    accessesUsed newestAt newestBelow versionOn covered own writes firstCovered firstFree conflicts blocks blockers
+    frozen holder addLock leaveSettled dropOwner trimTo ownOn allows inCommon earliest latest knows isOpen hasRecord
+    judge accessRoom lockRoom versionRoom withAccess begun beginChecks beginning written writeChecks writing withLock
+    lockVerdict lockChecks lockWanted locking readVerdict readStore readNew readOpen readChecks reading settledLocks
+    settled committed aborted noCommon commitVerdict commitOpen commitChecks committing abortChecks aborting
+    settleChecks settling purgedRec purgeVerdict purgeTo purgeChecks purging viewChecks viewing goodCounts formatting
 opened = tt

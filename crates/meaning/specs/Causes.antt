@@ -7,8 +7,10 @@ use mathlib.Core.Logic.{_⊎_}
 use mathlib.Core.Bool.{true}
 use lib.ListN.{length}
 use Rattle.meaning.specs.Lists.{_∈_}
-use Rattle.meaning.specs.Limits.{LAST, READ, WRITE, SETTLED, FREE, OPEN, COMMITTED, ABORTED, MAX-RECORDS, MAX-EDITS, MAX-ROWS}
-use Rattle.meaning.specs.Store.{Version, Lock, Access, Counts, Store, slotOf, generationOf, editAt, recAt, accessesUsed}
+use Rattle.meaning.specs.Limits.{LAST, READ, WRITE, SETTLED, FREE, OPEN, COMMITTED, ABORTED, MAX-RECORDS}
+use Rattle.meaning.specs.Limits.{MAX-EDITS, MAX-ROWS}
+use Rattle.meaning.specs.Store.{Version, Lock, Access, Counts, Store, slotOf, generationOf, editAt, recAt}
+use Rattle.meaning.specs.Store.{accessesUsed}
 use Rattle.meaning.specs.Pointwise.{LeastBlocked, LockDenied, ReadDenied, InCommonSet, NewestIs}
 use Rattle.meaning.specs.declared.Extent.{Extent}
 use Rattle.meaning.specs.declared.Pick.the-variants.{Earliest, Latest, Named}
@@ -197,7 +199,8 @@ pub record ReadJudged (s : Store) (k r m : ℕ) (w : Extent) (p : ℕ) : Type 0 
 abbrev pub Judged : Call → Store → (ℕ → ℕ → ℕ → ℕ → Type 0) → Type 0
 Judged C.Begin s P = ⊥
 Judged (C.Write h r v) s P = ⊥
-Judged (C.Lock h r low high w) s P = (p : ℕ) × LockJudged s (slotOf (h .0)) r (low .0) (high .0) w p × P r WRITE (slotOf (h .0)) p
+Judged (C.Lock h r low high w) s P =
+    (p : ℕ) × LockJudged s (slotOf (h .0)) r (low .0) (high .0) w p × P r WRITE (slotOf (h .0)) p
 Judged (C.Read h r m w) s P = (p : ℕ) × ReadJudged s (slotOf (h .0)) r (m .0) w p × P r READ (slotOf (h .0)) p
 Judged (C.Commit h pick f) s P = ⊥
 Judged (C.Abort h f) s P = ⊥

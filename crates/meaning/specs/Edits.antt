@@ -5,7 +5,8 @@ use mathlib.Core.List.{List, [], _∷_, map}
 use lib.ListN.{length}
 use lib.Dec.{leb, eqb}
 use Rattle.meaning.specs.Limits.{FREE, OPEN}
-use Rattle.meaning.specs.Store.{Val, Access, Edit, Store, handle, slotOf, nextGeneration, editAt, withEdit, isOf, accessOf, names}
+use Rattle.meaning.specs.Store.{Val, Access, Edit, Store, handle, slotOf, nextGeneration, editAt, withEdit, isOf}
+use Rattle.meaning.specs.Store.{accessOf, names}
 use Rattle.meaning.specs.Replies.{ok, edit}
 use Rattle.meaning.specs.Outcomes.{Outcome, replies, Verdict, pass, needs, unless, forOpen, hasRecord, accessRoom}
 

@@ -5,10 +5,12 @@ use mathlib.Core.List.{List, [], _∷_}
 use lib.Dec.{ltb, eqb}
 use Rattle.meaning.specs.Lists.{mapFrom}
 use Rattle.meaning.specs.Limits.{LAST, READ, WRITE, FREE, COMMITTED, ABORTED}
-use Rattle.meaning.specs.Store.{Written, Version, Lock, Access, Rec, Edit, Store, slotOf, editAt, withEdit, withRecords, withLocks, accessOf, hasRead}
+use Rattle.meaning.specs.Store.{Written, Version, Lock, Access, Rec, Edit, Store, slotOf, editAt, withEdit}
+use Rattle.meaning.specs.Store.{withRecords, withLocks, accessOf, hasRead}
 use Rattle.meaning.specs.Points.{leaveSettled, dropOwner, inCommon, earliest, latest}
 use Rattle.meaning.specs.Replies.{ok, commit, nopoint}
-use Rattle.meaning.specs.Outcomes.{Outcome, replies, Verdict, pass, needs, unless, knows, isOpen, forOpen, isPoint, versionRoom}
+use Rattle.meaning.specs.Outcomes.{Outcome, replies, Verdict, pass, needs, unless, knows, isOpen, forOpen}
+use Rattle.meaning.specs.Outcomes.{isPoint, versionRoom}
 use Rattle.meaning.specs.declared.Pick.{Pick}
 use Rattle.meaning.specs.declared.Pick.the-variants.{Earliest, Latest, Named}
 use Rattle.meaning.specs.declared.Finish.{Finish}

@@ -1,6 +1,7 @@
 -- The laws of the meaning, as statements: each computed definition is what document 01 says point by point, every call
 -- keeps a sound store sound, and a call is refused only for the cause that the table names. The theorem of each is in
--- proofs/Laws, under the same name.
+-- proofs/Laws, under the same name. Rests on Lists, Limits, Store, Points, Replies, Locking, Ending, Records, Calls,
+-- Sound, SoundFacts, Pointwise, Causes and Order.
 use Prim.Native.Nat.{ℕ, suc, _+_, _*_, _≤_, _<_}
 use mathlib.Core.Path.{_≡_}
 use mathlib.Core.Logic.{_⊎_, _↔_}
@@ -9,7 +10,8 @@ use mathlib.Core.List.{List, [], _∷_}
 use lib.ListN.{length}
 use Rattle.meaning.specs.Lists.{_∈_}
 use Rattle.meaning.specs.Limits.{LAST, READINGS, SEATS, READ, WRITE}
-use Rattle.meaning.specs.Store.{Lock, Counts, Rec, Edit, Store, fresh, editAt, recAt, inUse, newestAt, newestBelow, locksUsed}
+use Rattle.meaning.specs.Store.{Lock, Counts, Rec, Edit, Store, fresh, editAt, recAt, inUse, newestAt}
+use Rattle.meaning.specs.Store.{newestBelow, locksUsed}
 use Rattle.meaning.specs.Points.{firstBlocked, inCommon, earliest, latest}
 use Rattle.meaning.specs.Replies.{Reply, refused, refusing}
 use Rattle.meaning.specs.Locking.{lockFrom, lockEnd, lockGranted, readGranted, grantEnd}
@@ -18,7 +20,9 @@ use Rattle.meaning.specs.Records.{goodCounts, formatting, pointing}
 use Rattle.meaning.specs.Calls.{act}
 use Rattle.meaning.specs.Sound.{soundStore, versionsFall}
 use Rattle.meaning.specs.SoundFacts.{SoundStore}
-use Rattle.meaning.specs.Pointwise.{Proper, LeastBlocked, NoneBlocked, LockTakes, LockDenied, ReadTakes, ReadDenied, InCommonSet, EmptyCommonSet, LeastCommon, GreatestCommon, NewestIs}
+use Rattle.meaning.specs.Pointwise.{Proper, LeastBlocked, NoneBlocked, LockTakes, LockDenied, ReadTakes}
+use Rattle.meaning.specs.Pointwise.{ReadDenied, InCommonSet, EmptyCommonSet, LeastCommon, GreatestCommon}
+use Rattle.meaning.specs.Pointwise.{NewestIs}
 use Rattle.meaning.specs.Causes.{BadCounts}
 use Rattle.meaning.specs.Order.{Item, order, First, NoneStands, Says, Grants, Refuses, concerns, HeldByLowest}
 use Rattle.meaning.specs.declared.Extent.{Extent}
@@ -72,7 +76,8 @@ NewestAtIs = (x : Rec) (p : ℕ) → versionsFall x ≡ true → NewestIs (x .ve
 -- (d) settling never needs a row: no lock list grows, nor do the lock rows in use
 abbrev pub SettlingNeedsNoRow : Type 0
 SettlingNeedsNoRow = (s : Store) (k : ℕ) → soundStore s ≡ true → inUse (s .edits) k ≡ true
-    → ((r : ℕ) → length (recAt (settled s k) r .locks) ≤ length (recAt s r .locks)) × (locksUsed (settled s k) ≤ locksUsed s)
+    → ((r : ℕ) → length (recAt (settled s k) r .locks) ≤ length (recAt s r .locks))
+    × (locksUsed (settled s k) ≤ locksUsed s)
 
 -- (e) "A store is sound when": the clauses, read point by point
 abbrev pub SoundIsFacts : Type 0
@@ -93,7 +98,8 @@ RefusalChangesNothing = (c : Call) (s : Store) → refused (act c s .reply) ≡ 
 -- (g) of a sound store the reply is what an item says exactly if that item is the first of the order that stands: for
 -- a refusal, `no n` exactly if cause n stands and none before it
 abbrev pub RefusedForCause : Type 0
-RefusedForCause = (c : Call) (s : Store) → soundStore s ≡ true → (i : Item) → Says i (act c s .reply) ↔ First c s i order
+RefusedForCause =
+    (c : Call) (s : Store) → soundStore s ≡ true → (i : Item) → Says i (act c s .reply) ↔ First c s i order
 
 -- (g) granted whenever no cause stands, and only then
 abbrev pub GrantedWithoutCause : Type 0
@@ -105,7 +111,8 @@ OnlyOwnNumbers = (c : Call) (s : Store) (n : ℕ) → Refuses n (act c s .reply)
 
 -- (g) "held by the lowest slot": 8 carries the handle of the lowest slot with a conflicting lock on the judged point
 abbrev pub HolderIsLowest : Type 0
-HolderIsLowest = (c : Call) (s : Store) (h : ℕ) → soundStore s ≡ true → act c s .reply ≡ refusing 8 (h ∷ []) → HeldByLowest c s h
+HolderIsLowest =
+    (c : Call) (s : Store) (h : ℕ) → soundStore s ≡ true → act c s .reply ≡ refusing 8 (h ∷ []) → HeldByLowest c s h
 
 -- (g) "Format gives 16 alone", and for its cause
 abbrev pub FormatRefusedForCause : Type 0

@@ -4,10 +4,12 @@ use mathlib.Core.Bool.{Bool, true, false, cond, _&&_}
 use mathlib.Core.List.{List, [], _∷_}
 use lib.Dec.{leb, ltb}
 use Rattle.meaning.specs.Limits.{LAST, READ, WRITE}
-use Rattle.meaning.specs.Store.{blank, Version, Lock, Access, Rec, Store, slotOf, editAt, recAt, withEdit, withRec, withLocks, accessOf, hasRead, newestBelow, versionOn}
+use Rattle.meaning.specs.Store.{blank, Version, Lock, Access, Rec, Store, slotOf, editAt, recAt, withEdit}
+use Rattle.meaning.specs.Store.{withRec, withLocks, accessOf, hasRead, newestBelow, versionOn}
 use Rattle.meaning.specs.Points.{firstBlocked, firstOpen, addLock}
 use Rattle.meaning.specs.Replies.{locked, read, own, again}
-use Rattle.meaning.specs.Outcomes.{Outcome, replies, Verdict, pass, orElse, needs, unless, forOpen, hasRecord, isPoint, judge, accessRoom, lockRoom}
+use Rattle.meaning.specs.Outcomes.{Outcome, replies, Verdict, pass, orElse, needs, unless, forOpen, hasRecord}
+use Rattle.meaning.specs.Outcomes.{isPoint, judge, accessRoom, lockRoom}
 use Rattle.meaning.specs.Edits.{withAccess}
 use Rattle.meaning.specs.declared.Extent.{Extent}
 use Rattle.meaning.specs.declared.Extent.the-variants.{All, Part}
@@ -39,7 +41,8 @@ readGranted Part k x low high = ltb low (firstBlocked READ k x low high)
 -- slot k gets a lock on low..high of record r: "one lock for each grant"
 unfoldable pub withLock : Store → ℕ → ℕ → ℕ → ℕ → ℕ → Store
 withLock s r mode k low high =
-    withRec s r (withLocks (recAt s r) (addLock (record { low = low; high = high; mode = mode; owner = k }) (recAt s r .locks)))
+    withRec s r
+    (withLocks (recAt s r) (addLock (record { low = low; high = high; mode = mode; owner = k }) (recAt s r .locks)))
 
 -- Lock: 9 or 8, 11
 unfoldable pub lockVerdict : Store → ℕ → ℕ → ℕ → ℕ → Extent → Verdict
@@ -80,7 +83,8 @@ readEnd s k r m w = grantEnd w READ k (recAt s r) (readFrom s r m) m
 unfoldable pub readVerdict : Store → ℕ → ℕ → ℕ → Extent → Verdict
 readVerdict s k r m w =
     needs (ltb (recAt s r .floor) m) 7
-    (orElse (readGranted w k (recAt s r) (readFrom s r m) m) (judge s r READ k (firstBlocked READ k (recAt s r) (readFrom s r m) m))
+    (orElse (readGranted w k (recAt s r) (readFrom s r m) m)
+    (judge s r READ k (firstBlocked READ k (recAt s r) (readFrom s r m) m))
     (needs (accessRoom s k r) 10 (needs (lockRoom s) 11 pass)))
 
 -- Layout, access: "point read + 1": what a new read remembers, from being tr + 1

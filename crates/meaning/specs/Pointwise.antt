@@ -124,7 +124,8 @@ pub record InCommonSet (rs : List Rec) (k : ℕ) (e : Edit) (p : ℕ) : Type 0 w
   pub last : p ≤ LAST
   pub written : (a : Access) → a ∈ e .accesses → a .written ≡ true → LockOn (recOf rs (a .rec) .locks) k WRITE p
   pub above : (a : Access) (tr : ℕ) → a ∈ e .accesses → a .from ≡ suc tr → tr < p
-  pub under : (a : Access) (tr q : ℕ) → a ∈ e .accesses → a .from ≡ suc tr → tr < q → q ≤ p → HeldOn (recOf rs (a .rec) .locks) k q
+  pub under : (a : Access) (tr q : ℕ) → a ∈ e .accesses → a .from ≡ suc tr → tr < q → q ≤ p
+      → HeldOn (recOf rs (a .rec) .locks) k q
 
 -- "An empty set"
 abbrev pub EmptyCommonSet : List Rec → ℕ → Edit → Type 0
@@ -143,4 +144,5 @@ pub record GreatestCommon (rs : List Rec) (k : ℕ) (e : Edit) (p : ℕ) : Type 
 -- "the newest below m": v is the newest version below the bound, or the never written state where there is none
 pub data NewestIs (vs : List Version) (bound : ℕ) (v : Version) : Type 0 where
   none : v ≡ first → ((w : Version) → w ∈ vs → bound ≤ w .point) → NewestIs vs bound v
-  one : v ∈ vs → v .point < bound → ((w : Version) → w ∈ vs → w .point < bound → w .point ≤ v .point) → NewestIs vs bound v
+  one : v ∈ vs → v .point < bound → ((w : Version) → w ∈ vs → w .point < bound → w .point ≤ v .point)
+      → NewestIs vs bound v

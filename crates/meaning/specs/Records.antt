@@ -28,7 +28,8 @@ purgeTo s r v =
     let y : Rec = purgedRec x v in
     cond (leb v (x .floor)) (replies s (purged 0 0))
     (unless s (purgeVerdict x v)
-    (replies (withRec s r y) (purged (length (x .versions) - length (y .versions)) (length (x .locks) - length (y .locks)))))
+    (replies (withRec s r y)
+    (purged (length (x .versions) - length (y .versions)) (length (x .locks) - length (y .locks)))))
 
 -- Purge: 5, 6
 unfoldable pub purgeChecks : Store → ℕ → ℕ → Verdict

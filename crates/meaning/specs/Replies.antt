@@ -7,7 +7,9 @@ use Rattle.meaning.specs.Store.{Val, Value}
 use Rattle.meaning.specs.declared.Point.{Point}
 use Rattle.meaning.specs.declared.Handle.{Handle}
 use Rattle.meaning.specs.declared.Refusal.{Refusal}
-use Rattle.meaning.specs.declared.Refusal.the-variants.{Unsound, NoEdit, EditEnded, EditOpen, NoRecord, BadPoint, BelowFloor, Held, Frozen, NoAccessRow, NoLockRow, NoVersionRow, NoSlot, NotCommon, LockedBelow, BadFormat}
+use Rattle.meaning.specs.declared.Refusal.the-variants.{Unsound, NoEdit, EditEnded, EditOpen, NoRecord, BadPoint}
+use Rattle.meaning.specs.declared.Refusal.the-variants.{BelowFloor, Held, Frozen, NoAccessRow, NoLockRow}
+use Rattle.meaning.specs.declared.Refusal.the-variants.{NoVersionRow, NoSlot, NotCommon, LockedBelow, BadFormat}
 use Rattle.meaning.specs.declared.PointReply.{PointReply}
 use Rattle.meaning.specs.declared.PointReply.the-variants as Pt
 use Rattle.meaning.specs.declared.FormatReply.{FormatReply}

@@ -8,7 +8,8 @@ use lib.ListN.{length}
 use lib.Dec.{leb, ltb, eqb}
 use Rattle.meaning.specs.Lists.{every, all, any, pairwise, allFrom}
 use Rattle.meaning.specs.Limits.{LAST, GENERATIONS, READ, WRITE, SETTLED, FREE, COMMITTED, ABORTED}
-use Rattle.meaning.specs.Store.{Version, Lock, Access, Rec, Edit, Store, countsOf, editOf, recOf, inUse, accessOf, hasRead, versionsUsed, locksUsed, accessesUsed}
+use Rattle.meaning.specs.Store.{Version, Lock, Access, Rec, Edit, Store, countsOf, editOf, recOf, inUse, accessOf}
+use Rattle.meaning.specs.Store.{hasRead, versionsUsed, locksUsed, accessesUsed}
 use Rattle.meaning.specs.Points.{isWrite, isOwned, covers, meets, inCommon}
 use Rattle.meaning.specs.Records.{goodCounts}
 
@@ -16,7 +17,8 @@ use Rattle.meaning.specs.Records.{goodCounts}
 unfoldable pub rowsFit : Store → Bool
 rowsFit s =
     every
-    (leb (versionsUsed s) (s .versionRows) ∷ leb (locksUsed s) (s .lockRows) ∷ leb (accessesUsed s) (s .accessRows) ∷ [])
+    (leb (versionsUsed s) (s .versionRows) ∷ leb (locksUsed s) (s .lockRows) ∷ leb (accessesUsed s) (s .accessRows)
+    ∷ [])
 
 -- "states ... are among those listed": 0 to 3
 unfoldable pub stateListed : Edit → Bool

@@ -8,7 +8,8 @@ use mathlib.Core.List.{List, []}
 use lib.ListN.{length}
 use Rattle.meaning.specs.Lists.{_∈_}
 use Rattle.meaning.specs.Limits.{LAST, GENERATIONS, READ, WRITE, SETTLED, FREE, COMMITTED, ABORTED}
-use Rattle.meaning.specs.Store.{Version, Lock, Access, Rec, Edit, Store, countsOf, editOf, recOf, editAt, recAt, accessOf, versionsUsed, locksUsed, accessesUsed}
+use Rattle.meaning.specs.Store.{Version, Lock, Access, Rec, Edit, Store, countsOf, editOf, recOf, editAt, recAt}
+use Rattle.meaning.specs.Store.{accessOf, versionsUsed, locksUsed, accessesUsed}
 use Rattle.meaning.specs.Records.{goodCounts}
 use Rattle.meaning.specs.Sound.{versionsFall, namesOnce}
 use Rattle.meaning.specs.Pointwise.{InCommonSet, VersionOn}
@@ -44,7 +45,8 @@ pub record SoundRec (es : List Edit) (r : ℕ) (x : Rec) : Type 0 where
   pub nonzero : (v : Version) → v ∈ x .versions → 0 < v .point
   pub span : (l : Lock) → l ∈ x .locks → Span (x .floor) l
   pub owner : (l : Lock) → l ∈ x .locks → (l .owner ≡ SETTLED) ⊎ (editOf es (l .owner) .state ≡ FREE → ⊥)
-  pub apart : (l m : Lock) → l ∈ x .locks → m ∈ x .locks → l .mode ≡ WRITE → (l .owner ≡ m .owner → ⊥) → (p : ℕ) → l .low ≤ p → p ≤ l .high → m .low ≤ p → p ≤ m .high → ⊥
+  pub apart : (l m : Lock) → l ∈ x .locks → m ∈ x .locks → l .mode ≡ WRITE → (l .owner ≡ m .owner → ⊥) → (p : ℕ)
+      → l .low ≤ p → p ≤ l .high → m .low ≤ p → p ≤ m .high → ⊥
   pub backed : (v : Version) → v ∈ x .versions → x .floor < v .point → Backed es r (v .point) (x .locks)
 
 -- "a present version, or 0 under floor 0": tr
@@ -67,7 +69,8 @@ pub record SoundEdit (rs : List Rec) (k : ℕ) (e : Edit) : Type 0 where
   pub existing : (a : Access) → a ∈ e .accesses → a .rec < length rs
   pub once : namesOnce e ≡ true
   pub present : (a : Access) (tr : ℕ) → a ∈ e .accesses → a .from ≡ suc tr → Present (recOf rs (a .rec)) tr
-  pub locked : (a : Access) (tr : ℕ) → a ∈ e .accesses → a .from ≡ suc tr → ReadStarts k (suc tr) (recOf rs (a .rec) .locks)
+  pub locked : (a : Access) (tr : ℕ) → a ∈ e .accesses → a .from ≡ suc tr
+      → ReadStarts k (suc tr) (recOf rs (a .rec) .locks)
   pub common : e .state ≡ COMMITTED → InCommonSet rs k e (e .point)
   pub idle : e .state ≡ FREE → e .accesses ≡ []
 

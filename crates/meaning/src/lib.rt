@@ -1,6 +1,6 @@
 // What callers of the store say and hear: points, handles, values, calls and replies, and the entries of the store's
 // tables. Each function is proved against the definitions in specs/, which say what the store means. Nothing here
-// knows a word's place.
+// knows a word's place. Rests on nothing.
 ghost use mathlib.Core.Path.{_≡_};
 ghost use Rattle.meaning.specs.Points.{covers, conflicts, blocks};
 ghost use Rattle.meaning.specs.Replies.{ofPoint, number};

@@ -12,7 +12,8 @@ use Rattle.printing.specs.Shown.{digitsOf, decimal, one, two}
 
 -- any number of steps above n gives the same digits
 enough-step : (n : ℕ) (ds es : List ℕ) (q : Bool) → ltb n 10 ≡ q → (10 ≤ n → ds ≡ es)
-    → cond (ltb n 10) ((48 + n) ∷ []) (ds ++ ((48 + n % 10) ∷ [])) ≡ cond (ltb n 10) ((48 + n) ∷ []) (es ++ ((48 + n % 10) ∷ []))
+    → cond (ltb n 10) ((48 + n) ∷ []) (ds ++ ((48 + n % 10) ∷ []))
+    ≡ cond (ltb n 10) ((48 + n) ∷ []) (es ++ ((48 + n % 10) ∷ []))
 enough-step n ds es true t e = rw t
 enough-step n ds es false t e = rw (e (ltb-false n 10 t))
 
@@ -21,7 +22,8 @@ unfolding digitsOf
 enough zero j n h g = let f : _≡_ {A = ℕ} 0 1 = omega arith in cc
 enough (suc k) zero n h g = let f : _≡_ {A = ℕ} 0 1 = omega arith in cc
 enough (suc k) (suc j) n h g =
-    enough-step n (digitsOf k (n / 10)) (digitsOf j (n / 10)) (ltb n 10) refl (λ l. enough k j (n / 10) (omega arith) (omega arith))
+    enough-step n (digitsOf k (n / 10)) (digitsOf j (n / 10)) (ltb n 10) refl
+    (λ l. enough k j (n / 10) (omega arith) (omega arith))
 
 pub decimal-small : (n : ℕ) → n < 10 → decimal n ≡ (48 + n) ∷ []
 unfolding decimal digitsOf

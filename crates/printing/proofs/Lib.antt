@@ -1,2 +1,3 @@
+-- Laws of printing: bytes put one after another, and the decimal digits of a number. Rests on specs/Shown.
 pub mod Writes
 pub mod Decimal

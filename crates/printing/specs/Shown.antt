@@ -1,6 +1,6 @@
--- The line that a reply prints, without its newline. "Replies: `ok`; `edit` handle; `locked` low high; `read` tr end value; `own` value;
--- `again` tr value; `commit` point; `nopoint`; `purged` versions locks; `at` point value; `no` number (8: then the handle). A never
--- written value prints `-`." Rests on Text and the types Line and Value.
+-- The line that a reply prints, without its newline. "Replies: `ok`; `edit` handle; `locked` low high; `read` tr end
+-- value; `own` value; `again` tr value; `commit` point; `nopoint`; `purged` versions locks; `at` point value; `no`
+-- number (8: then the handle). A never written value prints `-`." Rests on Text and the types Line and Value.
 use Prim.Native.Nat.{ℕ, zero, suc, _+_, _/_, _%_, _≤_}
 use mathlib.Core.Path.{_≡_}
 use mathlib.Core.Bool.{cond}
@@ -71,7 +71,8 @@ lineOf (R.point p) = L.Malformed
 lineOf (R.refusing n []) = L.No n
 lineOf (R.refusing n (h ∷ more)) = L.Held h
 
--- what a function that writes bytes from a position does: they follow what stood before it, and it answers where they end
+-- what a function that writes bytes from a position does: they follow what stood before it, and it answers where they
+-- end
 pub record Appended (before : List ℕ) (at : ℕ) (bs : List ℕ) (after : List ℕ) (end : ℕ) : Type 0 where
   pub wrote : take end after ≡ take at before ++ bs
   pub ends : end ≡ at + length bs

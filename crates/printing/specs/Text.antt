@@ -12,6 +12,10 @@ text (c ∷ s) = List._∷_ (code c) (text s)
 abbrev pub SPACE : ℕ
 SPACE = 32
 
+-- the bytes of the buffer for one line
+abbrev pub WIDTH : ℕ
+WIDTH = 80
+
 -- the largest number, 2^64 - 1
 abbrev pub LARGEST : ℕ
 LARGEST = 18446744073709551615

@@ -1,5 +1,6 @@
 // Lines of replies: the line of each reply, and a line written into a lent buffer. Nothing here knows a store.
-// This file has the type; `replies` has the line of each reply and `writing` prints one. Each function is proved against specs/.
+// This file has the type; `replies` has the line of each reply and `writing` prints one. Each function is proved
+// against specs/. Rests on the crate `meaning`.
 mod replies;
 mod writing;
 
@@ -16,6 +17,12 @@ pub use replies::line_of_settle;
 pub use replies::line_of_view;
 pub use replies::line_of_write;
 pub use writing::print;
+
+// The byte between fields.
+pub const SPACE: u8 = 32;
+
+// The buffer for one line. The longest, `read` with three numbers of 20 digits, has 67 bytes.
+pub const WIDTH: usize = 80;
 
 // What a line prints: a reply, or `?`.
 pub enum Line {

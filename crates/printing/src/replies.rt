@@ -1,6 +1,7 @@
-// The line of each reply, by meaning's number and values of its case.
+// The line of each reply, by meaning's number and values of its case. Rests on the crate `meaning`.
 ghost use mathlib.Core.Path.{_≡_};
-ghost use Rattle.meaning.specs.Replies.{ofRefusal, ofFormat, ofBegin, ofWrite, ofLock, ofRead, ofCommit, ofAbort, ofSettle, ofPurge, ofView};
+ghost use Rattle.meaning.specs.Replies.{ofRefusal, ofFormat, ofBegin, ofWrite, ofLock, ofRead, ofCommit, ofAbort};
+ghost use Rattle.meaning.specs.Replies.{ofSettle, ofPurge, ofView};
 ghost use Rattle.printing.specs.Shown.{lineOf};
 use crate::Line;
 use meaning::AbortReply;

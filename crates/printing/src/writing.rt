@@ -1,13 +1,15 @@
-// Lines written into a lent buffer. Each function answers where the bytes that it wrote end.
+// Lines written into a lent buffer. Each function answers where the bytes that it wrote end. Rests on the crate
+// `meaning`.
 ghost use mathlib.Core.Path.{_≡_};
 ghost use mathlib.Core.List.{[], _∷_};
 ghost use Prim.Native.Nat.{_+_, _≤_, _<_};
 ghost use lib.ListN.{length};
-ghost use Rattle.printing.specs.Shown.{Appended, Printed, decimal, valueText, one as one·of, two as two·of, oneValue, twoValue};
+ghost use Rattle.printing.specs.Shown.{Appended, Printed, decimal, valueText, one as one·of, two as two·of};
+ghost use Rattle.printing.specs.Shown.{oneValue, twoValue};
 use crate::Line;
+use crate::SPACE;
+use crate::WIDTH;
 use meaning::Value;
-
-const SPACE: u8 = 32;
 
 // Puts one byte at a position.
 fn put(out: &mut [u8], at: usize, b: u8) -> usize
@@ -94,7 +96,7 @@ fn put_two_value(out: &mut [u8], word: &[u8], n: u64, m: u64, v: Value) -> usize
 }
 
 // Writes a line, without its newline, at the start of a buffer, and answers its length.
-pub fn print(l: Line, out: &mut [u8; 80]) -> usize
+pub fn print(l: Line, out: &mut [u8; WIDTH]) -> usize
     ensures { λ r. ⌜ Printed l (now (out .exit)) r ⌝ }
 {
     match l {

@@ -1,0 +1,1 @@
+-- Proofs of the program's loops stand with their functions; it has no laws of its own. Rests on nothing.

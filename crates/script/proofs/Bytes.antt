@@ -11,12 +11,19 @@ use lib.Seq.{length-take-le, take-suc-set}
 use borrow.Author.Tests.{lt-ltb, le-ltb}
 use Rattle.script.specs.Run.{gathered}
 
-chosen : (line : List ℕ) (held b : ℕ) {t : Bool} → held ≤ length line → ltb held (length line) ≡ t → gathered (length line) (take held line) b ≡ cond t (take held line ++ b ∷ []) (take held line)
+chosen : (line : List ℕ) (held b : ℕ) {t : Bool} → held ≤ length line → ltb held (length line) ≡ t
+    → gathered (length line) (take held line) b ≡ cond t (take held line ++ b ∷ []) (take held line)
 unfolding gathered
-chosen line held b h e = ap (λ u. cond u (take held line ++ b ∷ []) (take held line)) (ap (λ k. ltb k (length line)) (length-take-le held line h) ∙ e)
+chosen line held b h e =
+    ap (λ u. cond u (take held line ++ b ∷ []) (take held line))
+    (ap (λ k. ltb k (length line)) (length-take-le held line h) ∙ e)
 
-pub full : (line : List ℕ) (held b : ℕ) → held ≤ length line → length line ≤ held → take held line ≡ gathered (length line) (take held line) b
+pub full : (line : List ℕ) (held b : ℕ) → held ≤ length line → length line ≤ held
+    → take held line ≡ gathered (length line) (take held line) b
 full line held b h g = sym (chosen line held b h (le-ltb _ _ g))
 
-pub added : (line : List ℕ) (held b : ℕ) → held < length line → take (held + 1) (set line held b) ≡ gathered (length line) (take held line) b
-added line held b h = ap (λ k. take k (set line held b)) (add-one held) ∙ take-suc-set line held b h ∙ sym (chosen line held b (omega (arith, h)) (lt-ltb _ _ h))
+pub added : (line : List ℕ) (held b : ℕ) → held < length line
+    → take (held + 1) (set line held b) ≡ gathered (length line) (take held line) b
+added line held b h =
+    ap (λ k. take k (set line held b)) (add-one held) ∙ take-suc-set line held b h
+    ∙ sym (chosen line held b (omega (arith, h)) (lt-ltb _ _ h))

@@ -1,5 +1,6 @@
--- What a line of a script prints and what the program has after it: "Before the first F that succeeds every other call prints `no 1`; a refused F
--- keeps the earlier store"; "It lays out at most 8,000 words (more: `no 16`)". Rests on the calls of meaning, the layout of tables, and lines.
+-- What a line of a script prints and what the program has after it: "Before the first F that succeeds every other call
+-- prints `no 1`; a refused F keeps the earlier store"; "It lays out at most 8,000 words (more: `no 16`)". Rests on the
+-- calls of meaning, the layout of tables, and lines.
 use Prim.Native.Nat.{ℕ, _≤_}
 use mathlib.Core.Path.{_≡_}
 use mathlib.Core.Bool.{Bool, true, false, cond, _&&_}

@@ -1,10 +1,9 @@
-// A line run on the store, by the public calls. The store is the part of the words that is in use; before the first Format that succeeds it
-// is empty, and no empty slice is a sound store.
+// A line run on the store, by the public calls. The store is the part of the words that is in use; before the first
+// Format that succeeds it is empty, and no empty slice is a sound store. Rests on the crates `meaning`, `tables`,
+// `format`, `store`, `printing`, `rendering` and `lines`.
 ghost use mathlib.Core.Path.{_≡_};
 ghost use Prim.Native.Nat.{_≤_};
 ghost use lib.ListN.{length, take};
-ghost use Rattle.store.specs.Answers.{ofAnswer};
-ghost use Rattle.printing.specs.Shown.{lineOf};
 ghost use Rattle.lines.specs.Calls.{parsed};
 ghost use Rattle.script.specs.Script.{Says, Answers, called, formatted, said, roomFor, wordsFor};
 use lines::Parsed;
@@ -13,17 +12,8 @@ use meaning::Call;
 use meaning::Counts;
 use meaning::FormatReply;
 use printing::Line;
-use printing::line_of_abort;
-use printing::line_of_begin;
-use printing::line_of_commit;
-use printing::line_of_lock;
-use printing::line_of_purge;
-use printing::line_of_read;
 use printing::line_of_refusal;
-use printing::line_of_settle;
-use printing::line_of_view;
-use printing::line_of_write;
-use store::Answer;
+use rendering::line_of_answer;
 use store::perform;
 
 // The line to print, and how many words are in use after it.
@@ -32,25 +22,8 @@ pub struct Answered {
     pub used: usize,
 }
 
-// The line of an answer.
-fn line_of(a: Answer) -> Line
-    ensures { λ l. ⌜ l ≡ lineOf (ofAnswer a) ⌝ }
-{
-    match a {
-        Answer::Begin(r) => line_of_begin(r),
-        Answer::Write(r) => line_of_write(r),
-        Answer::Lock(r) => line_of_lock(r),
-        Answer::Read(r) => line_of_read(r),
-        Answer::Commit(r) => line_of_commit(r),
-        Answer::Abort(r) => line_of_abort(r),
-        Answer::Settle(r) => line_of_settle(r),
-        Answer::Purge(r) => line_of_purge(r),
-        Answer::View(r) => line_of_view(r),
-    }
-}
-
-// How many words Format is lent: as many as the counts ask for, or none where they are out of range or ask for more than there is room. Lent
-// none, Format refuses with 16.
+// How many words Format is lent: as many as the counts ask for, or none where they are out of range or ask for more
+// than there is room. Lent none, Format refuses with 16.
 fn words_for(c: Counts, room: usize) -> usize
     ensures { λ r. ⌜ r ≡ wordsFor room c ⌝ }
 {
@@ -64,7 +37,10 @@ fn words_for(c: Counts, room: usize) -> usize
 // Format: the words in use stay the same if it is refused.
 fn run_format(words: &mut [u64], used: usize, c: Counts) -> Answered
     requires { ⌜ used ≤ length (now words) ⌝ }
-    ensures { λ r. ⌜ Answers (formatted c (roomFor (length (now (words .entry))) c)) (now (words .entry)) used (r .line) (now (words .exit)) (r .used) ⌝ }
+    ensures { λ r. ⌜
+        Answers (formatted c (roomFor (length (now (words .entry))) c)) (now (words .entry)) used (r .line)
+        (now (words .exit)) (r .used)
+        ⌝ }
 {
     let n = words_for(c, words.len());
     let reply = format::format(&mut words[..n], c);
@@ -85,13 +61,16 @@ fn run_call(words: &mut [u64], used: usize, call: Call) -> Line
     requires { ⌜ used ≤ length (now words) ⌝ }
     ensures { λ l. ⌜ Says (called call) (take used (now (words .entry))) l (take used (now (words .exit))) ⌝ }
 {
-    line_of(perform(&mut words[..used], call))
+    line_of_answer(perform(&mut words[..used], call))
 }
 
 // What a line prints, and how many words are in use after it.
 pub fn answer(words: &mut [u64], used: usize, line: &[u8]) -> Answered
     requires { ⌜ used ≤ length (now words) ⌝ }
-    ensures { λ r. ⌜ Answers (said (length (now (words .entry))) (parsed (now (line .entry)))) (now (words .entry)) used (r .line) (now (words .exit)) (r .used) ⌝ }
+    ensures { λ r. ⌜
+        Answers (said (length (now (words .entry))) (parsed (now (line .entry)))) (now (words .entry)) used (r .line)
+        (now (words .exit)) (r .used)
+        ⌝ }
 {
     match parse(line) {
         Parsed::Malformed => Answered {

@@ -1,4 +1,4 @@
-// The line that has begun, byte by byte.
+// The line that has begun, byte by byte. Rests on nothing.
 ghost use Prim.Native.Nat.{_≤_};
 ghost use mathlib.Core.Path.{_≡_};
 ghost use lib.ListN.{length, take};
@@ -7,7 +7,10 @@ ghost use Rattle.script.specs.Run.{gathered};
 // Puts one more byte after the held ones, if the buffer has room for it, and answers how many are held.
 pub fn gather(line: &mut [u8], held: usize, b: u8) -> usize
     requires { ⌜ held ≤ length (now line) ⌝ }
-    ensures { λ r. ⌜ (r ≤ length (now (line .exit))) × (take r (now (line .exit)) ≡ gathered (length (now (line .entry))) (take held (now (line .entry))) b) ⌝ }
+    ensures { λ r. ⌜
+        (r ≤ length (now (line .exit)))
+        × (take r (now (line .exit)) ≡ gathered (length (now (line .entry))) (take held (now (line .entry))) b)
+        ⌝ }
 {
     if line.len() <= held {
         return held;

@@ -1,7 +1,9 @@
-// The script program: standard input has one call a line, and each line is answered by one line on standard output. It runs the public calls
-// of the store. It reads and writes in blocks, and its memory does not grow with the input.
+// The script program: standard input has one call a line, and each line is answered by one line on standard output. It
+// runs the public calls of the store. It reads and writes in blocks, and its memory does not grow with the input. Rests
+// on the crates `io`, `libc`, `meaning`, `tables`, `format`, `store`, `printing` and `lines`.
 //
-// This file reads blocks; `gathering` makes lines of bytes, `answers` runs a line on the store, and `output` collects what is to be written.
+// This file reads blocks; `gathering` makes lines of bytes, `answers` runs a line on the store, and `output` collects
+// what is to be written.
 ghost use Prim.Native.Nat.{_≤_};
 ghost use lib.ListN.{length};
 ghost use Rattle.script.specs.Run.{Inside};
@@ -12,13 +14,20 @@ mod output;
 
 use answers::answer;
 use gathering::gather;
+use output::BUFFER;
+use output::NEWLINE;
 use output::finish;
 use output::flush;
 use output::put_line;
 
-const NEWLINE: u8 = 10;
+// "It lays out at most 8,000 words" (document 01).
+const WORDS: usize = 8000;
 
-// Between two bytes of input: the words of the store in use, the bytes of the line that has begun, and the bytes that wait to be written.
+// What is kept of a line: one byte more than a call can have, so that a line that is cut off is malformed too.
+const KEPT: usize = lines::LONGEST + 1;
+
+// Between two bytes of input: the words of the store in use, the bytes of the line that has begun, and the bytes that
+// wait to be written.
 struct Run {
     used: usize,
     held: usize,
@@ -32,7 +41,7 @@ struct Turn {
 }
 
 // Answers the line that has ended.
-fn end_line(words: &mut [u64], line: &[u8], out: &mut [u8; 65536], run: Run) -> Run
+fn end_line(words: &mut [u64], line: &[u8], out: &mut [u8; BUFFER], run: Run) -> Run
     requires { ⌜ Inside run (length (now words)) (length (now line)) ⌝ }
     ensures { λ r. ⌜ Inside r (length (now (words .exit))) (length (now (line .entry))) ⌝ }
 {
@@ -47,7 +56,7 @@ fn end_line(words: &mut [u64], line: &[u8], out: &mut [u8; 65536], run: Run) -> 
     }
 }
 
-fn take_byte(words: &mut [u64], line: &mut [u8], out: &mut [u8; 65536], run: Run, b: u8) -> Run
+fn take_byte(words: &mut [u64], line: &mut [u8], out: &mut [u8; BUFFER], run: Run, b: u8) -> Run
     requires { ⌜ Inside run (length (now words)) (length (now line)) ⌝ }
     ensures { λ r. ⌜ Inside r (length (now (words .exit))) (length (now (line .exit))) ⌝ }
 {
@@ -65,7 +74,7 @@ fn take_byte(words: &mut [u64], line: &mut [u8], out: &mut [u8; 65536], run: Run
 fn take_block(
     words: &mut [u64],
     line: &mut [u8],
-    out: &mut [u8; 65536],
+    out: &mut [u8; BUFFER],
     run: Run,
     block: &[u8],
 ) -> Run
@@ -81,9 +90,9 @@ fn take_block(
     r
 }
 
-// Reads once, answers the lines that end in what came, and writes the answers. A read that fails ends the input, and so does a write that
-// fails.
-fn take_input(words: &mut [u64], line: &mut [u8], out: &mut [u8; 65536], run: Run) -> Turn
+// Reads once, answers the lines that end in what came, and writes the answers. A read that fails ends the input, and so
+// does a write that fails.
+fn take_input(words: &mut [u64], line: &mut [u8], out: &mut [u8; BUFFER], run: Run) -> Turn
     requires { ⌜ Inside run (length (now words)) (length (now line)) ⌝ }
     ensures { λ r. ⌜ Inside (r .run) (length (now (words .exit))) (length (now (line .exit))) ⌝ }
 {
@@ -105,9 +114,9 @@ fn take_input(words: &mut [u64], line: &mut [u8], out: &mut [u8; 65536], run: Ru
     }
 }
 
-// Reads to the end of the input. A proved loop has to end, and nothing says that the input does: the turns are counted down from a number
-// that no run uses up.
-fn take_all(words: &mut [u64], line: &mut [u8], out: &mut [u8; 65536]) -> Run
+// Reads to the end of the input. A proved loop has to end, and nothing says that the input does: the turns are counted
+// down from a number that no run uses up.
+fn take_all(words: &mut [u64], line: &mut [u8], out: &mut [u8; BUFFER]) -> Run
     ensures { λ r. ⌜ Inside r (length (now (words .exit))) (length (now (line .exit))) ⌝ }
 {
     let mut run = Run {
@@ -127,10 +136,9 @@ fn take_all(words: &mut [u64], line: &mut [u8], out: &mut [u8; 65536]) -> Run
     run
 }
 
-// Of a line 201 bytes are kept: such a line is malformed, whatever follows.
 fn main() {
-    let mut words = [0u64; 8000];
-    let mut line = [0u8; 201];
+    let mut words = [0u64; WORDS];
+    let mut line = [0u8; KEPT];
     let mut out = io::large_buffer();
     let run = take_all(&mut words, &mut line, &mut out);
     // a last line without a newline is a line

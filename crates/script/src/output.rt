@@ -1,9 +1,18 @@
-// What is to be written, collected in a buffer of 65,536 bytes, so that one write takes many lines.
+// What is to be written, collected in a buffer, so that one write takes many lines. Rests on the crates `printing`,
+// `io` and `libc`.
 ghost use Prim.Native.Nat.{_+_, _≤_};
 ghost use lib.ListN.{length};
+ghost use Rattle.printing.specs.Text.{WIDTH};
+ghost use Rattle.script.specs.Run.{BUFFER};
 use printing::Line;
 
-const NEWLINE: u8 = 10;
+pub const NEWLINE: u8 = 10;
+
+// The length of `io::large_buffer`.
+pub const BUFFER: usize = 65536;
+
+// Up to here a line of any length, with its newline, still fits into the buffer.
+const LAST_START: usize = BUFFER - (printing::WIDTH + 1);
 
 // Writes the first bytes of the buffer, and answers whether all went out.
 pub fn flush(out: &[u8], ready: usize) -> bool
@@ -13,11 +22,11 @@ pub fn flush(out: &[u8], ready: usize) -> bool
 }
 
 // Copies the first n bytes of a text to a position, with a newline after them, and answers where that ends.
-fn copy_line(out: &mut [u8; 65536], at: usize, text: &[u8], n: usize) -> usize
-    requires { ⌜ at + 81 ≤ 65536 ⌝ }
+fn copy_line(out: &mut [u8; BUFFER], at: usize, text: &[u8], n: usize) -> usize
+    requires { ⌜ at + (WIDTH + 1) ≤ BUFFER ⌝ }
     requires { ⌜ n ≤ length (now text) ⌝ }
-    requires { ⌜ length (now text) ≤ 80 ⌝ }
-    ensures { λ r. ⌜ r ≤ 65536 ⌝ }
+    requires { ⌜ length (now text) ≤ WIDTH ⌝ }
+    ensures { λ r. ⌜ r ≤ BUFFER ⌝ }
 {
     let mut i = 0;
     while i < n {
@@ -29,12 +38,12 @@ fn copy_line(out: &mut [u8; 65536], at: usize, text: &[u8], n: usize) -> usize
 }
 
 // Collects a text after the bytes that wait; where there might be no room for it, these are written first.
-fn append(out: &mut [u8; 65536], ready: usize, text: &[u8; 80], n: usize) -> usize
-    requires { ⌜ ready ≤ 65536 ⌝ }
+fn append(out: &mut [u8; BUFFER], ready: usize, text: &[u8; printing::WIDTH], n: usize) -> usize
+    requires { ⌜ ready ≤ BUFFER ⌝ }
     requires { ⌜ n ≤ length (now text) ⌝ }
-    ensures { λ r. ⌜ r ≤ 65536 ⌝ }
+    ensures { λ r. ⌜ r ≤ BUFFER ⌝ }
 {
-    if ready <= 65455 {
+    if ready <= LAST_START {
         return copy_line(out, ready, text, n);
     }
     flush(out, ready);
@@ -42,18 +51,18 @@ fn append(out: &mut [u8; 65536], ready: usize, text: &[u8; 80], n: usize) -> usi
 }
 
 // Collects the line of a reply.
-pub fn put_line(out: &mut [u8; 65536], ready: usize, l: Line) -> usize
-    requires { ⌜ ready ≤ 65536 ⌝ }
-    ensures { λ r. ⌜ r ≤ 65536 ⌝ }
+pub fn put_line(out: &mut [u8; BUFFER], ready: usize, l: Line) -> usize
+    requires { ⌜ ready ≤ BUFFER ⌝ }
+    ensures { λ r. ⌜ r ≤ BUFFER ⌝ }
 {
-    let mut text = [0u8; 80];
+    let mut text = [0u8; printing::WIDTH];
     let n = printing::print(l, &mut text);
     append(out, ready, &text, n)
 }
 
 // Writes what waits at the end.
-pub fn finish(out: &[u8; 65536], ready: usize) -> bool
-    requires { ⌜ ready ≤ 65536 ⌝ }
+pub fn finish(out: &[u8; BUFFER], ready: usize) -> bool
+    requires { ⌜ ready ≤ BUFFER ⌝ }
 {
     flush(out, ready)
 }

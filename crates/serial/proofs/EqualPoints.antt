@@ -1,5 +1,5 @@
--- Two edits that commit at one point: a run built in full, and both orders are covered. Each reads record 0 up to 5 and writes a record of
--- its own, and both commit at 5. Rests on Serializability.
+-- Two edits that commit at one point: a run built in full, and both orders are covered. Each reads record 0 up to 5 and
+-- writes a record of its own, and both commit at 5. Rests on Serializability.
 use Prim.Native.Nat.{ℕ, _≤_, _<_}
 use mathlib.Core.Path.{_≡_, refl, sym, _∙_, subst}
 use mathlib.Core.Logic.{_⊎_, inl, inr}
@@ -8,8 +8,10 @@ use mathlib.Core.Option.{Option, some, none}
 use native.Mathlib.Omega.{arith}
 use lib.Dec.{eqb}
 use borrow.Author.Tests.{eqb-true}
-use Rattle.serial.specs.Serializable.{Seq, ε, _▸_, _∈_, from, Operation, wrote, read, commits, begun, call, other, History, callsOf, Commits, plainEnd}
-use Rattle.serial.specs.Serializable.{State, Sound, pending, Common, Changes, silent, pass, begin, write, read-first, commit, Run, start, next}
+use Rattle.serial.specs.Serializable.{Seq, ε, _▸_, _∈_, from, Operation, wrote, read, commits, begun, call, other}
+use Rattle.serial.specs.Serializable.{History, callsOf, Commits, plainEnd}
+use Rattle.serial.specs.Serializable.{State, Sound, pending, Common, Changes, silent, pass, begin, write}
+use Rattle.serial.specs.Serializable.{read-first, commit, Run, start, next}
 use Rattle.serial.specs.Serializable.{CommitOrder, Serial}
 use Rattle.serial.proofs.Memory.{not-both, read-wrote, commits-wrote, commits-read}
 use Rattle.serial.proofs.Names.{last-call, no-commit}
@@ -88,7 +90,8 @@ locks-taken =
     }
 
 -- versions are saved, locks and floors stay
-saving : (l : History ℕ) (old new : ℕ → ℕ → ℕ → Type 0) → Changes l (state old) (state (λ k p v. old k p v ⊎ new k p v)) new
+saving : (l : History ℕ) (old new : ℕ → ℕ → ℕ → Type 0)
+    → Changes l (state old) (state (λ k p v. old k p v ⊎ new k p v)) new
 saving l old new =
     record {
       rises = λ k. omega arith;
@@ -147,20 +150,23 @@ run-locked =
 
 run-before₁ : Run before₁ (state none-yet)
 run-before₁ =
-    next (next (next (next run-locked (read-first none-open refl refl)) (read-first none-open refl refl)) (write read-open))
+    next
+    (next (next (next run-locked (read-first none-open refl refl)) (read-first none-open refl refl)) (write read-open))
     (write read-open)
 
 run-before₂ : Run before₂ (state saved₁)
 run-before₂ =
     next run-before₁
-    (commit {h = 65} {t = 5} (still-open 1 10 (omega arith) (omega arith)) (omega arith) (common 1 10 (omega arith) (omega arith) none-yet)
+    (commit {h = 65} {t = 5} (still-open 1 10 (omega arith) (omega arith)) (omega arith)
+    (common 1 10 (omega arith) (omega arith) none-yet)
     (saving before₂ none-yet (λ k p v. (p ≡ 5) × (pending calls₁ k ≡ some v)))
     (state-sound saved₁))
 
 run : Run history (state saved₂)
 run =
     next run-before₂
-    (commit {h = 66} {t = 5} (still-open 2 20 (omega arith) (omega arith)) (omega arith) (common 2 20 (omega arith) (omega arith) saved₁)
+    (commit {h = 66} {t = 5} (still-open 2 20 (omega arith) (omega arith)) (omega arith)
+    (common 2 20 (omega arith) (omega arith) saved₁)
     (saving history saved₁ (λ k p v. (p ≡ 5) × (pending calls₂ k ≡ some v)))
     (state-sound saved₂))
 
@@ -172,16 +178,19 @@ committed e t c = two (last-call before₂ 66 (commits 5) e t (c .1))
     none-before i =
         no-commit locked 65 (read 0 (from 0) none) e t commits-read
         (no-commit (locked ▸ call 65 (read 0 (from 0) none)) 66 (read 0 (from 0) none) e t commits-read
-        (no-commit have-read 65 (wrote 1 10) e t commits-wrote (no-commit (have-read ▸ call 65 (wrote 1 10)) 66 (wrote 2 20) e t commits-wrote i)))
+        (no-commit have-read 65 (wrote 1 10) e t commits-wrote
+        (no-commit (have-read ▸ call 65 (wrote 1 10)) 66 (wrote 2 20) e t commits-wrote i)))
 
     at : _≡_ {A = Operation ℕ} (commits t) (commits 5) → t ≡ 5
     at q = cc
 
-    one : (commits t ∈ callsOf before₁ e) ⊎ ((e ≡ 1) × (_≡_ {A = Operation ℕ} (commits t) (commits 5))) → ((e ≡ 1) ⊎ (e ≡ 2)) × (t ≡ 5)
+    one : (commits t ∈ callsOf before₁ e) ⊎ ((e ≡ 1) × (_≡_ {A = Operation ℕ} (commits t) (commits 5)))
+        → ((e ≡ 1) ⊎ (e ≡ 2)) × (t ≡ 5)
     one (inl i) = absurd (none-before i)
     one (inr q) = (inl (q .0), at (q .1))
 
-    two : (commits t ∈ callsOf before₂ e) ⊎ ((e ≡ 2) × (_≡_ {A = Operation ℕ} (commits t) (commits 5))) → ((e ≡ 1) ⊎ (e ≡ 2)) × (t ≡ 5)
+    two : (commits t ∈ callsOf before₂ e) ⊎ ((e ≡ 2) × (_≡_ {A = Operation ℕ} (commits t) (commits 5)))
+        → ((e ≡ 1) ⊎ (e ≡ 2)) × (t ≡ 5)
     two (inl i) = one (last-call before₁ 65 (commits 5) e t i)
     two (inr q) = (inr (q .0), at (q .1))
 
@@ -228,5 +237,6 @@ equal-points = (
 )
 
 -- the values at the end, computed
-pub ends : (plainEnd history (ε ▸ 1 ▸ 2) 1 ≡ some 10) × (plainEnd history (ε ▸ 2 ▸ 1) 2 ≡ some 20) × (plainEnd history (ε ▸ 2 ▸ 1) 0 ≡ none)
+pub ends : (plainEnd history (ε ▸ 1 ▸ 2) 1 ≡ some 10) × (plainEnd history (ε ▸ 2 ▸ 1) 2 ≡ some 20)
+    × (plainEnd history (ε ▸ 2 ▸ 1) 0 ≡ none)
 ends = (refl, refl, refl)

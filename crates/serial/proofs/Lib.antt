@@ -1,5 +1,5 @@
--- The invariant of a run (Memory to Runs), the plain run of it and the theorems (PlainRun to Order), two examples, and stores that know
--- their edits by slot and handle (Slots to SlotRuns).
+-- The invariant of a run (Memory to Runs), the plain run of it and the theorems (PlainRun to Order), two examples, and
+-- stores that know their edits by slot and handle (Slots to SlotRuns).
 pub mod Memory
 pub mod Invariant
 pub mod Extend

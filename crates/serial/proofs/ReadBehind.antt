@@ -1,11 +1,12 @@
--- The claim shuts something out: a history in which an edit reads never written, another writes and commits at 5, and the first commits
--- at 6, is not accepted by the plain run, so no run has it. Rests on Names, Serializability.
+-- The claim shuts something out: a history in which an edit reads never written, another writes and commits at 5, and
+-- the first commits at 6, is not accepted by the plain run, so no run has it. Rests on Names, Serializability.
 use Prim.Native.Nat.{ℕ, _≤_}
 use mathlib.Core.Path.{_≡_, refl, sym, subst}
 use mathlib.Core.Logic.{_⊎_, inl, inr}
 use mathlib.Core.Option.{some, none}
 use native.Mathlib.Omega.{arith}
-use Rattle.serial.specs.Serializable.{ε, _▸_, _∈_, from, Operation, wrote, read, commits, begun, call, History, callsOf, Commits, PlainFits}
+use Rattle.serial.specs.Serializable.{ε, _▸_, _∈_, from, Operation, wrote, read, commits, begun, call, History}
+use Rattle.serial.specs.Serializable.{callsOf, Commits, PlainFits}
 use Rattle.serial.specs.Serializable.{State, Run, CommitOrder}
 use Rattle.serial.proofs.Memory.{not-both, commits-read, commits-wrote}
 use Rattle.serial.proofs.Names.{last-call, no-commit}
@@ -38,7 +39,9 @@ committed e t c = one (last-call (open₂ ▸ call 66 (commits 5)) 65 (commits 6
         (no-commit (ε ▸ begun 65 ▸ begun 66 ▸ call 65 (read 0 (from 0) none)) 66 (wrote 0 501) e t commits-wrote i))
     two (inr q) = inr (q .0, at (q .1))
 
-    one : (commits t ∈ callsOf (open₂ ▸ call 66 (commits 5)) e) ⊎ ((e ≡ 1) × (_≡_ {A = Operation ℕ} (commits t) (commits 6))) → Which e t
+    one : (commits t ∈ callsOf (open₂ ▸ call 66 (commits 5)) e)
+        ⊎ ((e ≡ 1) × (_≡_ {A = Operation ℕ} (commits t) (commits 6)))
+        → Which e t
     one (inl i) = two (last-call open₂ 66 (commits 5) e t i)
     one (inr q) = inl (q .0, at (q .1))
 

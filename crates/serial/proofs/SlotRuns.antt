@@ -1,5 +1,5 @@
--- The histories of a store that knows its edits by slot and handle are runs of the core: each of its steps is one or two steps there
--- (`slot-runs`). Rests on Names, Slots, Tracking.
+-- The histories of a store that knows its edits by slot and handle are runs of the core: each of its steps is one or
+-- two steps there (`slot-runs`). Rests on Names, Slots, Tracking.
 use Prim.Native.Nat.{ℕ, zero, suc, _≤_, _<_}
 use mathlib.Core.Path.{_≡_, refl, sym, _∙_, ap, subst}
 use mathlib.Core.Logic.{_⊎_, inl, inr, _↔_}
@@ -8,12 +8,17 @@ use mathlib.Core.Option.{Option, some, none}
 use native.Mathlib.Decide.{ℕ-discrete}
 use native.Mathlib.Omega.{arith}
 use borrow.Author.Tests.{ne-eqb}
-use Rattle.serial.specs.Serializable.{ε, _▸_, _∈_, count, from, own, again, Operation, wrote, read, commits, begun, call, History, editOf, callsOf, Commits}
+use Rattle.serial.specs.Serializable.{ε, _▸_, _∈_, count, from, own, again, Operation, wrote, read, commits}
+use Rattle.serial.specs.Serializable.{begun, call, History, editOf, callsOf, Commits}
 use Rattle.serial.specs.Serializable.{State, Kept, Locked, Sound, Stands, pending, Common, Changes, callsBy, Open}
-use Rattle.serial.specs.Serializable.{silent, pass, begin, write, read-first, read-own, read-again, commit, Run, start, next}
+use Rattle.serial.specs.Serializable.{silent, pass, begin, write, read-first, read-own, read-again, commit, Run}
+use Rattle.serial.specs.Serializable.{start, next}
 use Rattle.serial.proofs.Slots.{Slots, Used, StandsIn, SoundSlots, Moves, Grows, Nothing, OpenSlot}
-use Rattle.serial.proofs.Slots.{SlotStep, moves, passes, begins, writes, reads, reads-own, reads-again, commits-at, SlotRun, fresh, then}
-use Rattle.serial.proofs.Tracking.{Tracks, Coherent, unwritten, stays-refl, coherent-moves, coherent-call, coherent-begins, tracks-open, tracks-write, tracks-read, tracks-commit, tracks-same}
+use Rattle.serial.proofs.Slots.{SlotStep, moves, passes, begins, writes, reads, reads-own, reads-again}
+use Rattle.serial.proofs.Slots.{commits-at, SlotRun, fresh, then}
+use Rattle.serial.proofs.Tracking.{Tracks, Coherent, unwritten, stays-refl, coherent-moves, coherent-call}
+use Rattle.serial.proofs.Tracking.{coherent-begins, tracks-open, tracks-write, tracks-read, tracks-commit}
+use Rattle.serial.proofs.Tracking.{tracks-same}
 
 -- slot 0 is nobody
 abbrev pub orNobody : (ℕ → ℕ) → ℕ → ℕ
@@ -61,12 +66,14 @@ module _ {X : Type 0} where
 
       -- a lock of nobody, or of a used slot
       of-nobody : Coherent l M → (k p s : ℕ) → M .lock k p s → owner l M s ≡ 0 → s ≡ 0
-      of-nobody C k p s h q = elim (S .in-use k p s h) [ inl z ↦ z | inr u ↦ absurd (omega (arith, owner-used s u, C .named s u)) ]
+      of-nobody C k p s h q =
+          elim (S .in-use k p s h) [ inl z ↦ z | inr u ↦ absurd (omega (arith, owner-used s u, C .named s u)) ]
 
       -- a lock of a committed edit is that of nobody, or of a committed slot
       of-committed : Coherent l M → (k p s e t : ℕ) → M .lock k p s → owner l M s ≡ e → commits t ∈ callsOf l e
           → (s ≡ 0) ⊎ ((M .state s ≡ 2) × (t ≡ M .point s) × Tracks (callsOf l e) M s)
-      of-committed C k p s e t h q c = elim (S .in-use k p s h) [ inl z ↦ inl z | inr u ↦ inr (go u (ℕ-discrete (M .state s) 2)) ]
+      of-committed C k p s e t h q c =
+          elim (S .in-use k p s h) [ inl z ↦ inl z | inr u ↦ inr (go u (ℕ-discrete (M .state s) 2)) ]
         where
           tracks : Used M s → Tracks (callsOf l e) M s
           tracks u = subst (λ i. Tracks (callsOf l i) M s) (sym (owner-used s u) ∙ q) (C .slot s u)
@@ -76,27 +83,32 @@ module _ {X : Type 0} where
           go u (no n) = absurd (tracks u .uncommitted n t c)
 
   -- locks, floors and versions change, slots stay or are freed
-  module _ (l : History X) (M M′ : Slots X) (C : Coherent l M) (S : SoundSlots M) (S′ : SoundSlots M′) (E : Moves M M′) where
+  module _ (l : History X) (M M′ : Slots X) (C : Coherent l M) (S : SoundSlots M) (S′ : SoundSlots M′)
+      (E : Moves M M′) where
     owner-stays : (s : ℕ) → M .state s ≡ 2 → M′ .handle s ≡ M .handle s → owner l M′ s ≡ owner l M s
     owner-stays zero z q = refl
     owner-stays (suc s) z q = ap (editOf l) q
 
-    reads-kept : (e t k u p : ℕ) (x : Option X) → Commits l e t → read k (from u) x ∈ callsOf l e → u < p → p ≤ t → M′ .floor k < p
+    reads-kept : (e t k u p : ℕ) (x : Option X) → Commits l e t → read k (from u) x ∈ callsOf l e → u < p → p ≤ t
+        → M′ .floor k < p
         → Kept (Locked (byEdit l M)) e k p
         → Kept (Locked (byEdit l M′)) e k p
     reads-kept e t k u p x c r low high f (inl h) =
         let a = to-slot l M S k p 0 h in
-        inl (inl (0, E .settled k p f (subst (λ i. M .lock k p i) (of-nobody l M S C k p (a .0) (a .1) (a .2)) (a .1)), refl))
+        inl (inl
+        (0, E .settled k p f (subst (λ i. M .lock k p i) (of-nobody l M S C k p (a .0) (a .1) (a .2)) (a .1)), refl))
     reads-kept e t k u p x c r low high f (inr h) = go (to-slot l M S k p e h)
       where
         go : (s : ℕ) × M .lock k p s × (owner l M s ≡ e) → Kept (Locked (byEdit l M′)) e k p
         go (s, h, q) = which (of-committed l M S C k p s e t h q (c .1))
           where
-            mine : M .state s ≡ 2 → M′ .lock k p 0 ⊎ (M′ .lock k p s × (M′ .handle s ≡ M .handle s)) → Kept (Locked (byEdit l M′)) e k p
+            mine : M .state s ≡ 2 → M′ .lock k p 0 ⊎ (M′ .lock k p s × (M′ .handle s ≡ M .handle s))
+                → Kept (Locked (byEdit l M′)) e k p
             mine z (inl a) = inl (inl (0, a, refl))
             mine z (inr a) = inr (inl (s, a .0, owner-stays s z (a .1) ∙ q))
 
-            which : (s ≡ 0) ⊎ ((M .state s ≡ 2) × (t ≡ M .point s) × Tracks (callsOf l e) M s) → Kept (Locked (byEdit l M′)) e k p
+            which : (s ≡ 0) ⊎ ((M .state s ≡ 2) × (t ≡ M .point s) × Tracks (callsOf l e) M s)
+                → Kept (Locked (byEdit l M′)) e k p
             which (inl z) = inl (inl (0, E .settled k p f (subst (λ i. M .lock k p i) z h), refl))
             which (inr (z, at, T)) = mine z (E .reads s k u p z (T .read← k u x r) low (omega arith) f h)
 
@@ -104,7 +116,11 @@ module _ {X : Type 0} where
         → Kept (byEdit l M .writeLock) e k t
         → Kept (byEdit l M′ .writeLock) e k t
     writes-kept e t k v c w f (inl (s, h, q)) =
-        inl (0, E .settled-write k t f (subst (λ i. M .writeLock k t i) (of-nobody l M S C k t s (S .locks k t s h) q) h), refl)
+        inl (
+          0,
+          E .settled-write k t f (subst (λ i. M .writeLock k t i) (of-nobody l M S C k t s (S .locks k t s h) q) h),
+          refl,
+        )
     writes-kept e t k v c w f (inr (s, h, q)) = which (of-committed l M S C k t s e t (S .locks k t s h) q (c .1))
       where
         mine : M .state s ≡ 2 → t ≡ M .point s
@@ -113,9 +129,11 @@ module _ {X : Type 0} where
         mine z at (inl a) = inl (0, subst (λ i. M′ .writeLock k i 0) (sym at) a, refl)
         mine z at (inr a) = inr (s, subst (λ i. M′ .writeLock k i s) (sym at) (a .0), owner-stays s z (a .1) ∙ q)
 
-        which : (s ≡ 0) ⊎ ((M .state s ≡ 2) × (t ≡ M .point s) × Tracks (callsOf l e) M s) → Kept (byEdit l M′ .writeLock) e k t
+        which : (s ≡ 0) ⊎ ((M .state s ≡ 2) × (t ≡ M .point s) × Tracks (callsOf l e) M s)
+            → Kept (byEdit l M′ .writeLock) e k t
         which (inl z) = inl (0, E .settled-write k t f (subst (λ i. M .writeLock k t i) z h), refl)
-        which (inr (z, at, T)) = mine z at (E .writes s k v z (T .written k v .1 w) (omega arith) (subst (λ i. M .writeLock k i s) at h))
+        which (inr (z, at, T)) =
+            mine z at (E .writes s k v z (T .written k v .1 w) (omega arith) (subst (λ i. M .writeLock k i s) at h))
 
     moves-change : Changes l (byEdit l M) (byEdit l M′) Nothing
     moves-change =
@@ -147,7 +165,9 @@ module _ {X : Type 0} where
     grows-change saved is =
         record {
           rises = λ k. omega (arith, E .floor k);
-          reads = λ e t k u p x c r low high f h. elim h [ inl a ↦ inl (read-grows k p 0 a) | inr a ↦ inr (read-grows k p e a) ];
+          reads =
+              λ e t k u p x c r low high f h. elim h
+              [ inl a ↦ inl (read-grows k p 0 a) | inr a ↦ inr (read-grows k p e a) ];
           writes = λ e t k v c w f h. elim h [ inl a ↦ inl (write-grows k t 0 a) | inr a ↦ inr (write-grows k t e a) ];
           stay = λ k p v f s. E .stay k p v s;
           saves = λ k p v f n. E .saves k p v (is k p v .1 n);
@@ -166,20 +186,24 @@ module _ {X : Type 0} where
       next r (silent (grows-change l l′ M M′ S E same Nothing (λ k p v. (λ z. z, λ z. z))) (sound-edit l′ M′ S′))
 
   -- a call gives no handle
-  call-grows : (l : History X) (M M′ : Slots X) (h : ℕ) (c : Operation X) → SoundSlots M → SoundSlots M′ → Grows M M′ Nothing
+  call-grows : (l : History X) (M M′ : Slots X) (h : ℕ) (c : Operation X) → SoundSlots M → SoundSlots M′
+      → Grows M M′ Nothing
       → Run (l ▸ call h c) (byEdit l M)
       → Run (l ▸ call h c) (byEdit (l ▸ call h c) M′)
   call-grows l M M′ h c S S′ E = then-grows l (l ▸ call h c) M M′ S S′ E (λ q u. ap (editOf l) (E .stays q u .1))
 
-  same-handle : {M M′ : Slots X} {new : ℕ → ℕ → X → Type 0} {s h : ℕ} → Grows M M′ new → OpenSlot M s h → M′ .handle s ≡ h
+  same-handle : {M M′ : Slots X} {new : ℕ → ℕ → X → Type 0} {s h : ℕ} → Grows M M′ new → OpenSlot M s h
+      → M′ .handle s ≡ h
   same-handle {s = s} E O = E .stays s (O .used) .1 ∙ O .handle
 
   abbrev Both : History X → Slots X → Type 1
   Both l M = Run l (byEdit l M) × Coherent l M
 
-  slot-step : (l : History X) {l′ : History X} (M : Slots X) {M′ : Slots X} → SlotStep l M l′ M′ → SoundSlots M → SoundSlots M′
+  slot-step : (l : History X) {l′ : History X} (M : Slots X) {M′ : Slots X} → SlotStep l M l′ M′ → SoundSlots M
+      → SoundSlots M′
       → Both l M → Both l′ M′
-  slot-step l M (moves {M′ = M′} E) S S′ (r, C) = (next r (silent (moves-change l M M′ C S S′ E) (sound-edit l M′ S′)), coherent-moves C E)
+  slot-step l M (moves {M′ = M′} E) S S′ (r, C) =
+      (next r (silent (moves-change l M M′ C S S′ E) (sound-edit l M′ S′)), coherent-moves C E)
   slot-step l M passes S S′ (r, C) = (next r pass, record { named = C .named; slot = C .slot })
   slot-step l M (begins {M′ = M′} {s = s} {h = h} E) S S′ (r, C) =
       (then-grows l (l ▸ begun h) M M′ S S′ (E .grows) same (next r begin), coherent-begins C S′ E)
@@ -187,7 +211,8 @@ module _ {X : Type 0} where
       same : (q : ℕ) → Used M q → editOf (l ▸ begun h) (M′ .handle q) ≡ editOf l (M .handle q)
       same q u =
           ap (λ b. cond b (suc (count l)) (editOf l (M′ .handle q)))
-          (ne-eqb (M′ .handle q) h (λ z. apart (S′ .distinct q s (E .grows .stays q u .0) (omega (arith, E .open′)) (z ∙ sym (E .handle)))))
+          (ne-eqb (M′ .handle q) h
+          (λ z. apart (S′ .distinct q s (E .grows .stays q u .0) (omega (arith, E .open′)) (z ∙ sym (E .handle)))))
           ∙ ap (editOf l) (E .grows .stays q u .1)
         where
           apart : ¬ (q ≡ s)
@@ -200,8 +225,10 @@ module _ {X : Type 0} where
   slot-step l M (reads {M′ = M′} {s = s} {h = h} {k = k} {t = t} {x = x} E) S S′ (r, C) =
       let T = tracks-open C (E .slot) in (
         call-grows l M M′ h (read k (from t) x) S S′ (E .grows)
-            (next r (read-first (still-open C (E .slot)) (unwritten T k (E .unwritten)) (stands-edit l M k t x (E .stands)))),
-        coherent-call C S (E .slot) (same-handle (E .grows) (E .slot)) (E .others) (read k (from t) x) (tracks-read T E),
+            (next r
+            (read-first (still-open C (E .slot)) (unwritten T k (E .unwritten)) (stands-edit l M k t x (E .stands)))),
+        coherent-call C S (E .slot) (same-handle (E .grows) (E .slot)) (E .others) (read k (from t) x)
+            (tracks-read T E),
       )
   slot-step l M (reads-own {s = s} {h = h} {k = k} {v = v} E) S S′ (r, C) =
       let T = tracks-open C (E .slot) in (
@@ -212,16 +239,19 @@ module _ {X : Type 0} where
   slot-step l M (reads-again {s = s} {h = h} {k = k} {t = t} {x = x} E) S S′ (r, C) =
       let T = tracks-open C (E .slot) in
       let a = T .read→ k t (E .was) in (
-        next r (read-again t (a .0) (still-open C (E .slot)) (unwritten T k (E .unwritten)) (a .1) refl (stands-edit l M k t x (E .stands))),
+        next r (read-again t (a .0) (still-open C (E .slot)) (unwritten T k (E .unwritten)) (a .1) refl
+            (stands-edit l M k t x (E .stands))),
         coherent-call C S (E .slot) (E .slot .handle) (λ q n u. stays-refl M q u) (read k (again t) x)
             (tracks-same k (again t) x (λ u q. let z : _≡_ {A = ℕ} 0 1 = cc in omega arith) (E .slot .uncommitted) T),
       )
   slot-step l M (commits-at {M′ = M′} {s = s} {h = h} {t = t} E) S S′ (r, C) = (
     next r
         (commit (still-open C (E .slot)) named common
-        (grows-change l (l ▸ call h (commits t)) M M′ S (E .grows) (λ q u. ap (editOf l) (E .grows .stays q u .1)) _ saved)
+        (grows-change l (l ▸ call h (commits t)) M M′ S (E .grows) (λ q u. ap (editOf l) (E .grows .stays q u .1)) _
+        saved)
         (sound-edit (l ▸ call h (commits t)) M′ S′)),
-    coherent-call C S (E .slot) (same-handle (E .grows) (E .slot)) (E .others) (commits t) (tracks-commit (tracks-open C (E .slot)) E),
+    coherent-call C S (E .slot) (same-handle (E .grows) (E .slot)) (E .others) (commits t)
+        (tracks-commit (tracks-open C (E .slot)) E),
   )
     where
       T : Tracks (callsBy l h) M s

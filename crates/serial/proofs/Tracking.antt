@@ -9,11 +9,14 @@ use native.Mathlib.Decide.{ℕ-discrete}
 use native.Mathlib.Omega.{arith}
 use lib.Dec.{eqb}
 use borrow.Author.Tests.{eq-eqb, ne-eqb, eqb-true, eqb-false}
-use Rattle.serial.specs.Serializable.{Seq, ε, _▸_, _∈_, count, ReadReply, from, Operation, wrote, read, commits, begun, call, History, editOf, callsOf}
+use Rattle.serial.specs.Serializable.{Seq, ε, _▸_, _∈_, count, ReadReply, from, Operation, wrote, read, commits}
+use Rattle.serial.specs.Serializable.{begun, call, History, editOf, callsOf}
 use Rattle.serial.specs.Serializable.{pending, callsBy}
-use Rattle.serial.proofs.Memory.{known, not-both, some-same, read-wrote, read-commits, commits-wrote, commits-read}
+use Rattle.serial.proofs.Memory.{known, not-both, some-same, read-wrote, read-commits, commits-wrote}
+use Rattle.serial.proofs.Memory.{commits-read}
 use Rattle.serial.proofs.Names.{edit-one, calls-none}
-use Rattle.serial.proofs.Slots.{Slots, Used, SoundSlots, SlotStays, Moves, Begins, OpenSlot, Writes, FirstRead, CommitsAt}
+use Rattle.serial.proofs.Slots.{Slots, Used, SoundSlots, SlotStays, Moves, Begins, OpenSlot, Writes, FirstRead}
+use Rattle.serial.proofs.Slots.{CommitsAt}
 
 module _ {X : Type 0} where
   -- the slot has what the calls say
@@ -28,9 +31,11 @@ module _ {X : Type 0} where
     pub named : (s : ℕ) → Used M s → 0 < editOf l (M .handle s)
     pub slot : (s : ℕ) → Used M s → Tracks (callsBy l (M .handle s)) M s
 
-  pub unwritten : {cs : Seq (Operation X)} {M : Slots X} {s : ℕ} → Tracks cs M s → (k : ℕ) → ((v : X) → ¬ M .written s k v)
+  pub unwritten : {cs : Seq (Operation X)} {M : Slots X} {s : ℕ} → Tracks cs M s → (k : ℕ)
+      → ((v : X) → ¬ M .written s k v)
       → pending cs k ≡ none
-  unwritten {cs} T k n = elim (known (pending cs k)) [ inl q ↦ q | inr w ↦ absurd (n (w .0) (T .written k (w .0) .1 (w .1))) ]
+  unwritten {cs} T k n =
+      elim (known (pending cs k)) [ inl q ↦ q | inr w ↦ absurd (n (w .0) (T .written k (w .0) .1 (w .1))) ]
 
   tracks-stays : {cs : Seq (Operation X)} {M M′ : Slots X} {s : ℕ} → SlotStays M M′ s → Tracks cs M s → Tracks cs M′ s
   tracks-stays {cs} {M} {M′} {s} E T =
@@ -90,7 +95,8 @@ module _ {X : Type 0} where
           slot r u (yes q) =
               subst (λ i. Tracks (callsOf (l ▸ call h c) (editOf l (M′ .handle i))) M′ i) (sym q)
               (subst (λ i. Tracks (callsOf (l ▸ call h c) (editOf l i)) M′ s) (sym here)
-              (subst (λ b. Tracks (cond b (callsBy l h ▸ c) (callsBy l h)) M′ s) (sym (eq-eqb (editOf l h) (editOf l h) refl)) T))
+              (subst (λ b. Tracks (cond b (callsBy l h ▸ c) (callsBy l h)) M′ s)
+              (sym (eq-eqb (editOf l h) (editOf l h) refl)) T))
           slot r u (no n) =
               subst (λ b. Tracks (cond b (callsBy l (M′ .handle r) ▸ c) (callsBy l (M′ .handle r))) M′ r)
               (sym (ne-eqb (editOf l (M′ .handle r)) (editOf l h) (apart r n u))) (stays-slot r (others r n u))
@@ -139,7 +145,8 @@ module _ {X : Type 0} where
       slot : (r : ℕ) → Used M′ r → Dec (r ≡ s) → Tracks (callsOf l (editOf l′ (M′ .handle r))) M′ r
       slot r u (yes q) =
           subst (λ i. Tracks (callsOf l i) M′ r) (here r q)
-          (subst (λ cs. Tracks cs M′ r) (sym (calls-none l (suc (count l)) (omega arith))) (subst (λ i. Tracks ε M′ i) (sym q) blank))
+          (subst (λ cs. Tracks cs M′ r) (sym (calls-none l (suc (count l)) (omega arith)))
+          (subst (λ i. Tracks ε M′ i) (sym q) blank))
       slot r u (no n) = subst (λ i. Tracks (callsOf l i) M′ r) (old r n u) (stays-slot C r (E .others r n u))
 
   -- the tracks after each call of an open edit
@@ -154,7 +161,8 @@ module _ {X : Type 0} where
           uncommitted = λ n t i. elim i [ inl j ↦ T .uncommitted (E .slot .uncommitted) t j | inr q ↦ commits-wrote q ];
         }
       where
-        written : (j : ℕ) (w : X) (b : Bool) → eqb j k ≡ b → M′ .written s j w ↔ (cond b (some v) (pending cs j) ≡ some w)
+        written : (j : ℕ) (w : X) (b : Bool) → eqb j k ≡ b
+            → M′ .written s j w ↔ (cond b (some v) (pending cs j) ≡ some w)
         written j w true q =
             let z : j ≡ k = eqb-true j k q in (
               λ p. ap some (sym (E .here w .0 (subst (λ i. M′ .written s i w) z p))),
@@ -176,11 +184,13 @@ module _ {X : Type 0} where
           uncommitted = λ n p i. elim i [ inl j ↦ T .uncommitted (E .slot .uncommitted) p j | inr q ↦ commits-read q ];
         }
       where
-        to : (j u : ℕ) → M .readAt s j u ⊎ ((j ≡ k) × (u ≡ t)) → (y : Option X) × (read j (from u) y ∈ (cs ▸ read k (from t) x))
+        to : (j u : ℕ) → M .readAt s j u ⊎ ((j ≡ k) × (u ≡ t))
+            → (y : Option X) × (read j (from u) y ∈ (cs ▸ read k (from t) x))
         to j u (inl r) = let a = T .read→ j u r in (a .0, inl (a .1))
         to j u (inr q) = (x, inr (let a = q .0 in let b = q .1 in cc))
 
-        back : (j u : ℕ) (y : Option X) → read j (from u) y ∈ (cs ▸ read k (from t) x) → M .readAt s j u ⊎ ((j ≡ k) × (u ≡ t))
+        back : (j u : ℕ) (y : Option X) → read j (from u) y ∈ (cs ▸ read k (from t) x)
+            → M .readAt s j u ⊎ ((j ≡ k) × (u ≡ t))
         back j u y (inl r) = inl (T .read← j u y r)
         back j u y (inr q) = inr (cc, cc)
 

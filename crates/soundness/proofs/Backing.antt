@@ -1,4 +1,5 @@
--- Versions and the write locks that back them, as the code tests them. Rests on Steps and on Decoded of the crate `tables`.
+-- Versions and the write locks that back them, as the code tests them. Rests on Steps and on Decoded of the crate
+-- `tables`.
 use Prim.Native.Nat.{ℕ, zero, suc, _≤_, _<_}
 use mathlib.Core.Path.{_≡_, refl, sym, ap, _∙_}
 use mathlib.Core.Bool.{Bool, true, false}
@@ -40,7 +41,8 @@ module _ (c : Counts) (w : List ℕ) (k r t : ℕ) {s : ℕ} (es : s ≡ k) (row
   module _ {state : ℕ} (et : state ≡ slotAt c w s .state) where
     pub wrote-open : (state ≡ COMMITTED → ⊥) → false ≡ wroteAt (editsOf c w) k r t
     unfolding wroteAt
-    wrote-open h = and-no _ (ap (λ x. eqb (x .state) COMMITTED) slot ∙ ne-eqb (slotAt c w s .state) COMMITTED (λ z. h (et ∙ z)))
+    wrote-open h =
+        and-no _ (ap (λ x. eqb (x .state) COMMITTED) slot ∙ ne-eqb (slotAt c w s .state) COMMITTED (λ z. h (et ∙ z)))
 
     module _ {point : ℕ} (h : state ≡ COMMITTED) (ep : point ≡ slotAt c w s .point) where
       pub wrote-elsewhere : (point ≡ t → ⊥) → false ≡ wroteAt (editsOf c w) k r t
@@ -53,7 +55,8 @@ module _ (c : Counts) (w : List ℕ) (k r t : ℕ) {s : ℕ} (es : s ≡ k) (row
       unfolding wroteAt
       wrote-here o ea =
           and-on (ap (λ x. eqb (x .state) COMMITTED) slot ∙ eq-eqb (slotAt c w s .state) COMMITTED (sym et ∙ h))
-          (and-on (ap (λ x. eqb (x .point) t) slot ∙ eq-eqb (slotAt c w s .point) t (sym ep ∙ o)) (ea ∙ ap (λ x. accessOf x r .written) (sym slot)))
+          (and-on (ap (λ x. eqb (x .point) t) slot ∙ eq-eqb (slotAt c w s .point) t (sym ep ∙ o))
+          (ea ∙ ap (λ x. accessOf x r .written) (sym slot)))
 
 -- l is the lock as it was read
 module _ (es : List Edit) (r p : ℕ) {l m : Lock} (e : l ≡ m) where
@@ -68,11 +71,14 @@ module _ (es : List Edit) (r p : ℕ) {l m : Lock} (e : l ≡ m) where
 
     pub backs-settled : b ≡ true → l .owner ≡ SETTLED → true ≡ backs es r p m
     unfolding backs
-    backs-settled z o = rw (sym e) (and-on (eq-eqb (l .mode) WRITE h) (and-on (sym eb ∙ z) (or-yes _ (eq-eqb (l .owner) SETTLED o))))
+    backs-settled z o =
+        rw (sym e) (and-on (eq-eqb (l .mode) WRITE h) (and-on (sym eb ∙ z) (or-yes _ (eq-eqb (l .owner) SETTLED o))))
 
-    pub backs-owned : {q : Bool} → b ≡ true → (l .owner ≡ SETTLED → ⊥) → q ≡ wroteAt es (l .owner) r p → q ≡ backs es r p m
+    pub backs-owned : {q : Bool} → b ≡ true → (l .owner ≡ SETTLED → ⊥) → q ≡ wroteAt es (l .owner) r p
+        → q ≡ backs es r p m
     unfolding backs
-    backs-owned z o d = rw (sym e) (and-on (eq-eqb (l .mode) WRITE h) (and-on (sym eb ∙ z) (or-on (ne-eqb (l .owner) SETTLED o) d)))
+    backs-owned z o d =
+        rw (sym e) (and-on (eq-eqb (l .mode) WRITE h) (and-on (sym eb ∙ z) (or-on (ne-eqb (l .owner) SETTLED o) d)))
 
 module _ (es : List Edit) (r : ℕ) (x : Rec) {v u : Version} {floor : ℕ} (ev : v ≡ u) (ef : floor ≡ x .floor) where
   pub backed-old : v .point ≤ floor → true ≡ isBacked es r x u

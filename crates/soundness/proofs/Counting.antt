@@ -1,4 +1,5 @@
--- A loop over the numbers below n that leaves at the first one that fails, and two tests of single words. Rests on Bounded of `chains`.
+-- A loop over the numbers below n that leaves at the first one that fails, and two tests of single words. Rests on
+-- Bounded of `chains`.
 use Prim.Native.Nat.{ℕ, _+_, _≤_, _<_}
 use mathlib.Core.Path.{_≡_, refl, sym, ap, _∙_}
 use mathlib.Core.Bool.{Bool, true, false, false≢true}

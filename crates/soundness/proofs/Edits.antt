@@ -1,5 +1,6 @@
--- The clauses of a slot, in the order in which the check tests them, are those of `soundEdit`: with no stamp k at first, a record is named at
--- most once exactly if it never bears the stamp k when it is met. Rests on Lists of the crate `meaning`.
+-- The clauses of a slot, in the order in which the check tests them, are those of `soundEdit`: with no stamp k at
+-- first, a record is named at most once exactly if it never bears the stamp k when it is met. Rests on Lists of the
+-- crate `meaning`.
 use Prim.Native.Nat.{ℕ, _-_, _≤_, _<_}
 use mathlib.Core.Path.{_≡_, refl, sym, ap, _∙_}
 use mathlib.Core.Logic.{_⊎_, inl, inr}
@@ -12,7 +13,8 @@ use lib.Dec.{ltb, eqb}
 use borrow.Author.Tests.{ltb-true, lt-ltb, eqb-false, ne-eqb, not-true}
 use Rattle.meaning.specs.Lists.{_∈_, all, any, pairwise}
 use Rattle.meaning.specs.Store.{Rec, Edit, recOf, hasRead}
-use Rattle.meaning.specs.Sound.{stateListed, generationListed, pointListed, namesExisting, namesOnce, isPresent, readsPresent, startsRead, readsLocked, pointCommon, freeIdle, soundEdit}
+use Rattle.meaning.specs.Sound.{stateListed, generationListed, pointListed, namesExisting, namesOnce, isPresent}
+use Rattle.meaning.specs.Sound.{readsPresent, startsRead, readsLocked, pointCommon, freeIdle, soundEdit}
 use Rattle.meaning.specs.declared.Access.{Access}
 use Rattle.meaning.proofs.Lists.{and-in, and-left, and-right, implies-out, implies-in, all-in, all-out, every-at}
 use Rattle.soundness.specs.Clauses.{readSound, accessesSound, slotListed, Stamps}
@@ -33,12 +35,15 @@ module _ (rs : List Rec) (k : ℕ) where
     reads : (a : Access) → a ∈ xs → readSound rs k a ≡ true
 
   -- once a is stamped, another access is unstamped exactly if it was and names another record
-  new-out : (m : List ℕ) (a b : Access) → a .rec < length m → (getD (set m (a .rec) k) (b .rec) 0 ≡ k → ⊥) → (a .rec ≡ b .rec → ⊥) × (getD m (b .rec) 0 ≡ k → ⊥)
+  new-out : (m : List ℕ) (a b : Access) → a .rec < length m → (getD (set m (a .rec) k) (b .rec) 0 ≡ k → ⊥)
+      → (a .rec ≡ b .rec → ⊥) × (getD m (b .rec) 0 ≡ k → ⊥)
   new-out m a b l f =
-      let d : a .rec ≡ b .rec → ⊥ = λ e. f (ap (λ i. getD (set m (a .rec) k) i 0) (sym e) ∙ getD-set-same m (a .rec) k 0 l) in
+      let d : a .rec ≡ b .rec → ⊥ =
+      λ e. f (ap (λ i. getD (set m (a .rec) k) i 0) (sym e) ∙ getD-set-same m (a .rec) k 0 l) in
       (d, λ z. f (getD-set-other m (a .rec) (b .rec) k 0 (λ e. d (sym e)) ∙ z))
 
-  new-in : (m : List ℕ) (a b : Access) → (a .rec ≡ b .rec → ⊥) → (getD m (b .rec) 0 ≡ k → ⊥) → getD (set m (a .rec) k) (b .rec) 0 ≡ k → ⊥
+  new-in : (m : List ℕ) (a b : Access) → (a .rec ≡ b .rec → ⊥) → (getD m (b .rec) 0 ≡ k → ⊥)
+      → getD (set m (a .rec) k) (b .rec) 0 ≡ k → ⊥
   new-in m a b d f z = f (sym (getD-set-other m (a .rec) (b .rec) k 0 (λ e. d (sym e))) ∙ z)
 
   named-out : (m : List ℕ) (xs : List Access) → length rs ≤ length m → accessesSound rs k m xs ≡ true → Named m xs
@@ -55,11 +60,13 @@ module _ (rs : List Rec) (k : ℕ) where
       let f = and-right (not (eqb (getD m (a .rec) 0) k)) _ g in
       go
       (ltb-true (a .rec) (length rs) (and-left (ltb (a .rec) (length rs)) _ h))
-      (eqb-false (getD m (a .rec) 0) k (not-true (eqb (getD m (a .rec) 0) k) (and-left (not (eqb (getD m (a .rec) 0) k)) _ g)))
+      (eqb-false (getD m (a .rec) 0) k
+      (not-true (eqb (getD m (a .rec) 0) k) (and-left (not (eqb (getD m (a .rec) 0) k)) _ g)))
       (and-left (readSound rs k a) _ f)
       (named-out (set m (a .rec) k) xs (omega (arith, length-set m (a .rec) k)) (and-right (readSound rs k a) _ f))
     where
-      go : a .rec < length rs → (getD m (a .rec) 0 ≡ k → ⊥) → readSound rs k a ≡ true → Named (set m (a .rec) k) xs → Named m (a ∷ xs)
+      go : a .rec < length rs → (getD m (a .rec) 0 ≡ k → ⊥) → readSound rs k a ≡ true → Named (set m (a .rec) k) xs
+          → Named m (a ∷ xs)
       go e u s n =
           record {
             exists = λ b i. exists b (List·Memᴰ·cases-cons i);
@@ -94,7 +101,11 @@ module _ (rs : List Rec) (k : ℕ) where
       (record {
         exists = λ b i. n .exists b (List·Memᴰ·tail i);
         once = and-right (all (apart a) xs) (pairwise apart xs) (n .once);
-        new = λ b i. new-in m a b (eqb-false (a .rec) (b .rec) (not-true (eqb (a .rec) (b .rec)) (all-out (apart a) xs (and-left (all (apart a) xs) (pairwise apart xs) (n .once)) b i))) (n .new b (List·Memᴰ·tail i));
+        new =
+            λ b i. new-in m a b (eqb-false (a .rec) (b .rec)
+            (not-true (eqb (a .rec) (b .rec))
+            (all-out (apart a) xs (and-left (all (apart a) xs) (pairwise apart xs) (n .once)) b i)))
+            (n .new b (List·Memᴰ·tail i));
         reads = λ b i. n .reads b (List·Memᴰ·tail i);
       }))))
 
@@ -115,9 +126,12 @@ module _ (rs : List Rec) (k : ℕ) (a : Access) where
 
   read-in : (not (hasRead a) || present) ≡ true → (not (hasRead a) || locked) ≡ true → readSound rs k a ≡ true
   unfolding readSound
-  read-in p l = implies-in (hasRead a) (locked && present) (λ q. and-in (implies-out (hasRead a) locked l q) (implies-out (hasRead a) present p q))
+  read-in p l =
+      implies-in (hasRead a) (locked && present)
+      (λ q. and-in (implies-out (hasRead a) locked l q) (implies-out (hasRead a) present p q))
 
-module _ (rs : List Rec) (k : ℕ) (m : List ℕ) (e : Edit) (low : 1 ≤ k) (few : length rs ≤ 1024) (s : Stamps (k - 1) m) where
+module _ (rs : List Rec) (k : ℕ) (m : List ℕ) (e : Edit) (low : 1 ≤ k) (few : length rs ≤ 1024)
+    (s : Stamps (k - 1) m) where
   abbrev pub editParts : Bool
   editParts = slotListed e && (accessesSound rs k m (e .accesses) && pointCommon rs k e)
 
@@ -136,27 +150,37 @@ module _ (rs : List Rec) (k : ℕ) (m : List ℕ) (e : Edit) (low : 1 ≤ k) (fe
       let pt = and-right (generationListed e) _ gen in
       let acc = and-left (accessesSound rs k m (e .accesses)) (pointCommon rs k e) rest in
       let n = named-out rs k m (e .accesses) (omega (arith, s .size, few)) acc in
-      and-in (and-left (stateListed e) _ listed) (and-in (and-left (generationListed e) _ gen) (and-in (and-left (pointListed e) (freeIdle e) pt)
+      and-in (and-left (stateListed e) _ listed)
+      (and-in (and-left (generationListed e) _ gen) (and-in (and-left (pointListed e) (freeIdle e) pt)
       (and-in (accesses-exist acc) (and-in (n .once)
-      (and-in (all-in (λ a. not (hasRead a) || isPresent (recOf rs (a .rec)) (a .from)) (e .accesses) (λ a i. read-out rs k a (n .reads a i) .0))
-      (and-in (all-in (λ a. not (hasRead a) || any (startsRead k (a .from)) (recOf rs (a .rec) .locks)) (e .accesses) (λ a i. read-out rs k a (n .reads a i) .1))
-      (and-in (and-right (accessesSound rs k m (e .accesses)) (pointCommon rs k e) rest) (and-in (and-right (pointListed e) (freeIdle e) pt) refl))))))))
+      (and-in (all-in (λ a. not (hasRead a) || isPresent (recOf rs (a .rec)) (a .from)) (e .accesses)
+      (λ a i. read-out rs k a (n .reads a i) .0))
+      (and-in (all-in (λ a. not (hasRead a) || any (startsRead k (a .from)) (recOf rs (a .rec) .locks)) (e .accesses)
+      (λ a i. read-out rs k a (n .reads a i) .1))
+      (and-in (and-right (accessesSound rs k m (e .accesses)) (pointCommon rs k e) rest)
+      (and-in (and-right (pointListed e) (freeIdle e) pt) refl))))))))
 
   back : soundEdit rs k e ≡ true → editParts ≡ true
   unfolding soundEdit slotListed namesExisting namesOnce readsPresent readsLocked
   back h =
       let at =
       every-at
-      (stateListed e ∷ generationListed e ∷ pointListed e ∷ namesExisting rs e ∷ namesOnce e ∷ readsPresent rs e ∷ readsLocked rs k e ∷ pointCommon rs k e ∷ freeIdle e ∷ [])
+      (stateListed e ∷ generationListed e ∷ pointListed e ∷ namesExisting rs e ∷ namesOnce e ∷ readsPresent rs e
+      ∷ readsLocked rs k e ∷ pointCommon rs k e ∷ freeIdle e ∷ [])
       h in
       and-in (and-in (at 0) (and-in (at 1) (and-in (at 2) (at 8))))
       (and-in
       (named-in rs k m (e .accesses)
       (record {
-        exists = λ a i. ltb-true (a .rec) (length rs) (all-out (λ a. ltb (a .rec) (length rs)) (e .accesses) (at 3) a i);
+        exists =
+            λ a i. ltb-true (a .rec) (length rs) (all-out (λ a. ltb (a .rec) (length rs)) (e .accesses) (at 3) a i);
         once = at 4;
         new = λ a i z. omega (arith, s .upto (a .rec));
-        reads = λ a i. read-in rs k a (all-out (λ a. not (hasRead a) || isPresent (recOf rs (a .rec)) (a .from)) (e .accesses) (at 5) a i) (all-out (λ a. not (hasRead a) || any (startsRead k (a .from)) (recOf rs (a .rec) .locks)) (e .accesses) (at 6) a i);
+        reads =
+            λ a i. read-in rs k a
+            (all-out (λ a. not (hasRead a) || isPresent (recOf rs (a .rec)) (a .from)) (e .accesses) (at 5) a i)
+            (all-out (λ a. not (hasRead a) || any (startsRead k (a .from)) (recOf rs (a .rec) .locks)) (e .accesses)
+            (at 6) a i);
       }))
       (at 7))
 

@@ -46,7 +46,8 @@ module _ (c : Counts) (w : List ℕ) (k : ℕ) (a : Access) (l : a .rec < c .rec
   unread z = or-yes _ (ap not (le-ltb 0 (a .from) (omega arith)))
 
   -- r is the record as a row number, j the slot as a word
-  module _ {r j : ℕ} {b : Bool} (h : a .from ≡ 0 → ⊥) (er : r ≡ a .rec) (ej : j ≡ k) (eb : b ≡ any (startsRead j (a .from)) (recordAt c w r .locks)) where
+  module _ {r j : ℕ} {b : Bool} (h : a .from ≡ 0 → ⊥) (er : r ≡ a .rec) (ej : j ≡ k)
+      (eb : b ≡ any (startsRead j (a .from)) (recordAt c w r .locks)) where
     same : any (startsRead k (a .from)) (recOf (recordsOf c w) (a .rec) .locks) ≡ b
     same = rw (rec-of c w (a .rec) l, sym er, sym ej) (sym eb)
 
@@ -54,7 +55,8 @@ module _ (c : Counts) (w : List ℕ) (k : ℕ) (a : Access) (l : a .rec < c .rec
     unfolding readSound
     read-unlocked z = or-on (ap not (lt-ltb 0 (a .from) (omega arith))) (and-no _ (same ∙ z))
 
-    pub read-locked : {q : Bool} → b ≡ true → q ≡ isPresent (recordAt c w r) (a .from) → q ≡ readSound (recordsOf c w) k a
+    pub read-locked : {q : Bool} → b ≡ true → q ≡ isPresent (recordAt c w r) (a .from)
+        → q ≡ readSound (recordsOf c w) k a
     unfolding readSound
     read-locked z p =
         or-on (ap not (lt-ltb 0 (a .from) (omega arith)))

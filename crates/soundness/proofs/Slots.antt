@@ -1,4 +1,5 @@
--- All records and all slots, as loops over their numbers; a free slot without accesses. Rests on Builds of the crate `tables`.
+-- All records and all slots, as loops over their numbers; a free slot without accesses. Rests on Builds of the crate
+-- `tables`.
 use Prim.Native.Nat.{ℕ, zero, suc, _+_, _-_, _≤_}
 use mathlib.Core.Path.{_≡_, refl, sym, ap, _∙_}
 use mathlib.Core.Bool.{Bool, true, false, not}
@@ -28,14 +29,16 @@ module _ (c : Counts) (w : List ℕ) where
   pub records-all : allTo (c .records) (λ j. soundRec (editsOf c w) j (recordAt c w j)) ≡ recordsSound c w
   unfolding recordsSound recordsOf
   records-all =
-      all-ext (λ j. soundRec (editsOf c w) j (recordAt c w j)) (λ j. soundRec (editsOf c w) (0 + j) (recordAt c w j)) (c .records)
+      all-ext (λ j. soundRec (editsOf c w) j (recordAt c w j)) (λ j. soundRec (editsOf c w) (0 + j) (recordAt c w j))
+      (c .records)
       (λ j l. let e : j ≡ 0 + j = omega arith in ap (λ i. soundRec (editsOf c w) i (recordAt c w j)) e)
       ∙ sym (allFrom-build (c .records) 0 (recordAt c w) (soundRec (editsOf c w)))
 
   pub slots-all : allTo (c .edits) (λ j. soundEdit (recordsOf c w) (suc j) (slotAt c w (suc j))) ≡ slotsSound c w
   unfolding slotsSound editsOf
   slots-all =
-      all-ext (λ j. soundEdit (recordsOf c w) (suc j) (slotAt c w (suc j))) (λ j. soundEdit (recordsOf c w) (1 + j) (slotAt c w (suc j))) (c .edits)
+      all-ext (λ j. soundEdit (recordsOf c w) (suc j) (slotAt c w (suc j)))
+      (λ j. soundEdit (recordsOf c w) (1 + j) (slotAt c w (suc j))) (c .edits)
       (λ j l. let e : suc j ≡ 1 + j = omega arith in ap (λ i. soundEdit (recordsOf c w) i (slotAt c w (suc j))) e)
       ∙ sym (allFrom-build (c .edits) 1 (λ i. slotAt c w (suc i)) (soundEdit (recordsOf c w)))
 
@@ -54,11 +57,13 @@ module _ (c : Counts) (w : List ℕ) (k : ℕ) where
   unfolding freeIdle
   idle-used e h = or-yes _ (ap not (ne-eqb (slotAt c w k .state) FREE (λ z. h (e ∙ z))))
 
-  pub idle-free : {s head : ℕ} {q : Bool} → 1 ≤ c .accesses → s ≡ slotAt c w k .state → s ≡ FREE → head ≡ headOf (accessHeads c) w k → q ≡ more (c .accesses) (c .accesses) head → not q ≡ freeIdle (slotAt c w k)
+  pub idle-free : {s head : ℕ} {q : Bool} → 1 ≤ c .accesses → s ≡ slotAt c w k .state → s ≡ FREE
+      → head ≡ headOf (accessHeads c) w k → q ≡ more (c .accesses) (c .accesses) head → not q ≡ freeIdle (slotAt c w k)
   unfolding freeIdle
   idle-free {s} {head} l e h p d =
       or-on (ap not (eq-eqb (slotAt c w k .state) FREE (sym e ∙ h)))
-      (ap not d ∙ none-met _ (link (accessTable c) w) (c .accesses) (c .accesses) head ∙ accesses-start c w k (λ rs. eqb (length rs) 0) p .same)
+      (ap not d ∙ none-met _ (link (accessTable c) w) (c .accesses) (c .accesses) head
+      ∙ accesses-start c w k (λ rs. eqb (length rs) 0) p .same)
 
 -- stamps: those of the slots before the next one, and none
 pub stamps-before : {k : ℕ} {m : List ℕ} → Stamps k m → Stamps (k + 1 - 1) m

@@ -35,7 +35,8 @@ module _ (rs : List Rec) (k : ℕ) (m : List ℕ) {a u : Access} (rest : List Ac
     unfolding accessesSound
     cons-twice h =
         rw (sym e)
-        (sym (and-on (lt-ltb (a .rec) (length rs) l) (and-no _ (ap not (ap (λ x. eqb (getD m x 0) k) (sym er) ∙ eq-eqb (getD m r 0) k h)))))
+        (sym (and-on (lt-ltb (a .rec) (length rs) l)
+        (and-no _ (ap not (ap (λ x. eqb (getD m x 0) k) (sym er) ∙ eq-eqb (getD m r 0) k h)))))
 
     module _ {b : Bool} (h : getD m r 0 ≡ k → ⊥) (eb : b ≡ readSound rs k a) where
       unstamped : not (eqb (getD m (a .rec) 0) k) ≡ true
@@ -49,14 +50,16 @@ module _ (rs : List Rec) (k : ℕ) (m : List ℕ) {a u : Access} (rest : List Ac
       unfolding accessesSound
       cons-good z =
           rw (sym e)
-          (sym (and-on (lt-ltb (a .rec) (length rs) l) (and-on unstamped (and-on (sym eb ∙ z) (ap (λ x. accessesSound rs k (set m x k) rest) er)))))
+          (sym (and-on (lt-ltb (a .rec) (length rs) l)
+          (and-on unstamped (and-on (sym eb ∙ z) (ap (λ x. accessesSound rs k (set m x k) rest) er)))))
 
 nil-good : (rs : List Rec) (k : ℕ) (m : List ℕ) → accessesSound rs k m [] ≡ true
 unfolding accessesSound
 nil-good rs k m = refl
 
 -- the turns and the exits; n is the number of records
-module _ (rs : List Rec) (k : ℕ) (m : List ℕ) (g : ℕ → Access) {nx : ℕ → ℕ} {n : ℕ} {answer : Bool} {h f : ℕ} (i : Walk nx n (λ rows. accessesSound rs k m (map g rows)) answer h f) {q : Bool} (d : q ≡ more n f h) where
+module _ (rs : List Rec) (k : ℕ) (m : List ℕ) (g : ℕ → Access) {nx : ℕ → ℕ} {n : ℕ} {answer : Bool} {h f : ℕ}
+    (i : Walk nx n (λ rows. accessesSound rs k m (map g rows)) answer h f) {q : Bool} (d : q ≡ more n f h) where
   pub stamp-done : q ≡ false → true ≡ answer
   stamp-done e = walk-end i d e (nil-good rs k m)
 
@@ -72,5 +75,8 @@ module _ (rs : List Rec) (k : ℕ) (m : List ℕ) (g : ℕ → Access) {nx : ℕ
         pub stamp-bad : b ≡ false → false ≡ answer
         stamp-bad z = walk-out i d e (cons-bad rs k m (map g (rows nx n (f - 1) (nx h))) ea l er o eb z)
 
-        pub stamp-on : {h′ : ℕ} → b ≡ true → h′ ≡ nx h → Walk nx n (λ rows. accessesSound rs k (set m r k) (map g rows)) answer h′ (f - 1)
-        stamp-on z p = walk-again i d (λ rows. accessesSound rs k (set m r k) (map g rows)) e (cons-good rs k m (map g (rows nx n (f - 1) (nx h))) ea l er o eb z) p
+        pub stamp-on : {h′ : ℕ} → b ≡ true → h′ ≡ nx h
+            → Walk nx n (λ rows. accessesSound rs k (set m r k) (map g rows)) answer h′ (f - 1)
+        stamp-on z p =
+            walk-again i d (λ rows. accessesSound rs k (set m r k) (map g rows)) e
+            (cons-good rs k m (map g (rows nx n (f - 1) (nx h))) ea l er o eb z) p

@@ -1,4 +1,5 @@
--- One test after the other, as code with early exits makes them: what a conjunction or a disjunction is once its first test is known.
+-- One test after the other, as code with early exits makes them: what a conjunction or a disjunction is once its first
+-- test is known. Rests on nothing.
 use mathlib.Core.Path.{_≡_, refl, sym, _∙_}
 use mathlib.Core.Bool.{Bool, true, false, _&&_, _||_}
 

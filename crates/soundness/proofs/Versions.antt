@@ -1,4 +1,5 @@
--- The clauses on a record's versions are what the loop over them tests: a strict fall to the floor. Rests on Lists of the crate `meaning`.
+-- The clauses on a record's versions are what the loop over them tests: a strict fall to the floor. Rests on Lists of
+-- the crate `meaning`.
 use Prim.Native.Nat.{ℕ, suc, _≤_, _<_}
 use mathlib.Core.Path.{_≡_, refl}
 use mathlib.Core.Logic.{_⊎_, inl, inr}
@@ -26,8 +27,11 @@ record Falls (floor top : ℕ) (vs : List Version) : Type 0 where
 step-out : (floor top p : ℕ) → fallsBelow floor top p ≡ true → (p < top) × (floor ≤ p) × (0 < p)
 unfolding fallsBelow
 step-out floor top p e =
-    let d = and-right (ltb p top) (leb floor p && ltb 0 p) e in
-    (ltb-true p top (and-left (ltb p top) (leb floor p && ltb 0 p) e), leb-true floor p (and-left (leb floor p) (ltb 0 p) d), ltb-true 0 p (and-right (leb floor p) (ltb 0 p) d))
+    let d = and-right (ltb p top) (leb floor p && ltb 0 p) e in (
+      ltb-true p top (and-left (ltb p top) (leb floor p && ltb 0 p) e),
+      leb-true floor p (and-left (leb floor p) (ltb 0 p) d),
+      ltb-true 0 p (and-right (leb floor p) (ltb 0 p) d),
+    )
 
 step-in : (floor top p : ℕ) → p < top → floor ≤ p → 0 < p → fallsBelow floor top p ≡ true
 unfolding fallsBelow
@@ -44,12 +48,16 @@ falls-out floor top [] h =
       end = go (or-out (eqb floor 0) (eqb top floor) h);
     }
   where
-    go : (eqb floor 0 ≡ true) ⊎ (eqb top floor ≡ true) → (floor ≡ 0) ⊎ ((endsAt floor [] ≡ true) ⊎ ((_≡_ {A = List Version} [] []) × (top ≡ floor)))
+    go : (eqb floor 0 ≡ true) ⊎ (eqb top floor ≡ true)
+        → (floor ≡ 0) ⊎ ((endsAt floor [] ≡ true) ⊎ ((_≡_ {A = List Version} [] []) × (top ≡ floor)))
     go (inl e) = inl (eqb-true floor 0 e)
     go (inr e) = inr (inr (refl, eqb-true top floor e))
-falls-out floor top (u ∷ us) h = go (step-out floor top (u .point) (and-left (fallsBelow floor top (u .point)) _ h)) (falls-out floor (u .point) us (and-right (fallsBelow floor top (u .point)) _ h))
+falls-out floor top (u ∷ us) h =
+    go (step-out floor top (u .point) (and-left (fallsBelow floor top (u .point)) _ h))
+    (falls-out floor (u .point) us (and-right (fallsBelow floor top (u .point)) _ h))
   where
-    last : (vs : List Version) → (endsAt floor vs ≡ true) ⊎ ((vs ≡ []) × (u .point ≡ floor)) → endsAt floor (u ∷ vs) ≡ true
+    last : (vs : List Version) → (endsAt floor vs ≡ true) ⊎ ((vs ≡ []) × (u .point ≡ floor))
+        → endsAt floor (u ∷ vs) ≡ true
     last [] (inl e) = absurd (false≢true e)
     last [] (inr e) = eq-eqb (u .point) floor (e .1)
     last (v ∷ vs) (inl e) = e
@@ -64,7 +72,9 @@ falls-out floor top (u ∷ us) h = go (step-out floor top (u .point) (and-left (
           below = λ v m. below v (List·Memᴰ·cases-cons m);
           low = λ v m. low v (List·Memᴰ·cases-cons m);
           nonzero = λ v m. nonzero v (List·Memᴰ·cases-cons m);
-          falls = and-in (all-in (λ v. ltb (v .point) (u .point)) us (λ v m. lt-ltb (v .point) (u .point) (f .below v m))) (f .falls);
+          falls =
+              and-in (all-in (λ v. ltb (v .point) (u .point)) us (λ v m. lt-ltb (v .point) (u .point) (f .below v m)))
+              (f .falls);
           end = end (f .end);
         }
       where
@@ -80,30 +90,37 @@ falls-out floor top (u ∷ us) h = go (step-out floor top (u .point) (and-left (
         nonzero v (inl q) = rw q (s .2)
         nonzero v (inr m) = f .nonzero v m
 
-        end : (floor ≡ 0) ⊎ ((endsAt floor us ≡ true) ⊎ ((us ≡ []) × (u .point ≡ floor))) → (floor ≡ 0) ⊎ ((endsAt floor (u ∷ us) ≡ true) ⊎ ((u ∷ us ≡ []) × (top ≡ floor)))
+        end : (floor ≡ 0) ⊎ ((endsAt floor us ≡ true) ⊎ ((us ≡ []) × (u .point ≡ floor)))
+            → (floor ≡ 0) ⊎ ((endsAt floor (u ∷ us) ≡ true) ⊎ ((u ∷ us ≡ []) × (top ≡ floor)))
         end (inl e) = inl e
         end (inr e) = inr (inl (last us e))
 
 -- the same from the clauses
-falls-in : (floor top : ℕ) (vs : List Version) → ((v : Version) → v ∈ vs → v .point < top) → ((v : Version) → v ∈ vs → floor ≤ v .point) → ((v : Version) → v ∈ vs → 0 < v .point)
-    → pairwise (λ v u. ltb (u .point) (v .point)) vs ≡ true → (floor ≡ 0) ⊎ ((endsAt floor vs ≡ true) ⊎ ((vs ≡ []) × (top ≡ floor))) → fallsTo floor top vs ≡ true
+falls-in : (floor top : ℕ) (vs : List Version) → ((v : Version) → v ∈ vs → v .point < top)
+    → ((v : Version) → v ∈ vs → floor ≤ v .point) → ((v : Version) → v ∈ vs → 0 < v .point)
+    → pairwise (λ v u. ltb (u .point) (v .point)) vs ≡ true
+    → (floor ≡ 0) ⊎ ((endsAt floor vs ≡ true) ⊎ ((vs ≡ []) × (top ≡ floor))) → fallsTo floor top vs ≡ true
 unfolding fallsTo
 falls-in floor top [] below low nonzero falls end = go end
   where
-    go : (floor ≡ 0) ⊎ ((endsAt floor [] ≡ true) ⊎ ((_≡_ {A = List Version} [] []) × (top ≡ floor))) → endsOn floor top ≡ true
+    go : (floor ≡ 0) ⊎ ((endsAt floor [] ≡ true) ⊎ ((_≡_ {A = List Version} [] []) × (top ≡ floor)))
+        → endsOn floor top ≡ true
     go (inl e) = or-left (eqb top floor) (eq-eqb floor 0 e)
     go (inr (inl e)) = absurd (false≢true e)
     go (inr (inr e)) = or-right (eqb floor 0) (eq-eqb top floor (e .1))
 falls-in floor top (u ∷ us) below low nonzero falls end =
-    and-in (step-in floor top (u .point) (below u (List·Memᴰ·head refl)) (low u (List·Memᴰ·head refl)) (nonzero u (List·Memᴰ·head refl)))
+    and-in (step-in floor top (u .point) (below u (List·Memᴰ·head refl)) (low u (List·Memᴰ·head refl))
+    (nonzero u (List·Memᴰ·head refl)))
     (falls-in floor (u .point) us
-    (λ v m. ltb-true (v .point) (u .point) (all-out (λ v. ltb (v .point) (u .point)) us (and-left (all (λ v. ltb (v .point) (u .point)) us) _ falls) v m))
+    (λ v m. ltb-true (v .point) (u .point)
+    (all-out (λ v. ltb (v .point) (u .point)) us (and-left (all (λ v. ltb (v .point) (u .point)) us) _ falls) v m))
     (λ v m. low v (List·Memᴰ·tail m))
     (λ v m. nonzero v (List·Memᴰ·tail m))
     (and-right (all (λ v. ltb (v .point) (u .point)) us) _ falls)
     (rest us end))
   where
-    rest : (vs : List Version) → (floor ≡ 0) ⊎ ((endsAt floor (u ∷ vs) ≡ true) ⊎ ((u ∷ vs ≡ []) × (top ≡ floor))) → (floor ≡ 0) ⊎ ((endsAt floor vs ≡ true) ⊎ ((vs ≡ []) × (u .point ≡ floor)))
+    rest : (vs : List Version) → (floor ≡ 0) ⊎ ((endsAt floor (u ∷ vs) ≡ true) ⊎ ((u ∷ vs ≡ []) × (top ≡ floor)))
+        → (floor ≡ 0) ⊎ ((endsAt floor vs ≡ true) ⊎ ((vs ≡ []) × (u .point ≡ floor)))
     rest vs (inl e) = inl e
     rest [] (inr (inl e)) = inr (inr (refl, eqb-true (u .point) floor e))
     rest (v ∷ vs) (inr (inl e)) = inr (inl e)
@@ -126,18 +143,23 @@ versions-out x h =
     let top = leb-true (x .floor) LAST (and-left (leb (x .floor) LAST) _ h) in
     record {
       fall = f .falls;
-      lie = all-in (λ v. leb (x .floor) (v .point) && leb (v .point) LAST) (x .versions) (λ v m. and-in (le-leb (x .floor) (v .point) (f .low v m)) (le-leb (v .point) LAST (omega (arith, f .below v m))));
+      lie =
+          all-in (λ v. leb (x .floor) (v .point) && leb (v .point) LAST) (x .versions)
+          (λ v m. and-in (le-leb (x .floor) (v .point) (f .low v m))
+          (le-leb (v .point) LAST (omega (arith, f .below v m))));
       end = end (f .end) top;
       nonzero = all-in (λ v. ltb 0 (v .point)) (x .versions) (λ v m. lt-ltb 0 (v .point) (f .nonzero v m));
     }
   where
-    end : (x .floor ≡ 0) ⊎ ((endsAt (x .floor) (x .versions) ≡ true) ⊎ ((x .versions ≡ []) × (suc LAST ≡ x .floor))) → x .floor ≤ LAST → (eqb (x .floor) 0 || endsAt (x .floor) (x .versions)) ≡ true
+    end : (x .floor ≡ 0) ⊎ ((endsAt (x .floor) (x .versions) ≡ true) ⊎ ((x .versions ≡ []) × (suc LAST ≡ x .floor)))
+        → x .floor ≤ LAST → (eqb (x .floor) 0 || endsAt (x .floor) (x .versions)) ≡ true
     end (inl e) l = or-left (endsAt (x .floor) (x .versions)) (eq-eqb (x .floor) 0 e)
     end (inr (inl e)) l = or-right (eqb (x .floor) 0) e
     end (inr (inr e)) l = absurd (omega (arith, e .1))
 
 -- the floor of such a record is a point
-floor-last : (floor : ℕ) (vs : List Version) → ((v : Version) → v ∈ vs → v .point ≤ LAST) → endsAt floor vs ≡ true → floor ≤ LAST
+floor-last : (floor : ℕ) (vs : List Version) → ((v : Version) → v ∈ vs → v .point ≤ LAST) → endsAt floor vs ≡ true
+    → floor ≤ LAST
 floor-last floor [] high e = absurd (false≢true e)
 floor-last floor (v ∷ []) high e = omega (arith, eqb-true (v .point) floor e, high v (List·Memᴰ·head refl))
 floor-last floor (v ∷ u ∷ us) high e = floor-last floor (u ∷ us) (λ y m. high y (List·Memᴰ·tail m)) e
@@ -164,6 +186,7 @@ versions-in x s =
     floor (inl e) = omega (arith, eqb-true (x .floor) 0 e)
     floor (inr e) = floor-last (x .floor) (x .versions) high e
 
-    end : (eqb (x .floor) 0 ≡ true) ⊎ (endsAt (x .floor) (x .versions) ≡ true) → (x .floor ≡ 0) ⊎ ((endsAt (x .floor) (x .versions) ≡ true) ⊎ ((x .versions ≡ []) × (suc LAST ≡ x .floor)))
+    end : (eqb (x .floor) 0 ≡ true) ⊎ (endsAt (x .floor) (x .versions) ≡ true)
+        → (x .floor ≡ 0) ⊎ ((endsAt (x .floor) (x .versions) ≡ true) ⊎ ((x .versions ≡ []) × (suc LAST ≡ x .floor)))
     end (inl e) = inl (eqb-true (x .floor) 0 e)
     end (inr e) = inr (inl e)

@@ -1,5 +1,5 @@
--- The whole check: on well-formed words the counts are in range and the rows in use fit, so records and slots are all that is left.
--- Rests on Bridge of the crate `tables` and on Chains of `chains`.
+-- The whole check: on well-formed words the counts are in range and the rows in use fit, so records and slots are all
+-- that is left. Rests on Bridge of the crate `tables` and on Chains of `chains`.
 use Prim.Native.Nat.{ℕ, suc, _≤_}
 use mathlib.Core.Path.{_≡_, refl, sym, ap, _∙_}
 use mathlib.Core.Bool.{Bool, true, false, _&&_}
@@ -22,9 +22,12 @@ use Rattle.meaning.specs.Sound.{rowsFit, soundRec, soundEdit, soundStore}
 use Rattle.meaning.specs.declared.Counts.{Counts}
 use Rattle.meaning.proofs.Lists.{and-in, and-left, and-right, every-at, test}
 use Rattle.tables.specs.Layout as Layout
-use Rattle.tables.specs.Layout.{HEADER, sizeOf, headerOk, Fits, versionTable, lockTable, accessTable, versionHeads, lockHeads, accessHeads}
-use Rattle.tables.specs.Decode.{recordAt, slotAt, recordsOf, editsOf, decodeAt, versionRows, lockRows, accessRows, versionsOf, locksOf, accessesOf}
-use Rattle.tables.specs.Words.{versionsParted, locksParted, accessesParted, locksNamed, marksListed, Well, lent, decode, formedAt, formed, soundWords}
+use Rattle.tables.specs.Layout.{HEADER, sizeOf, headerOk, Fits, versionTable, lockTable, accessTable, versionHeads}
+use Rattle.tables.specs.Layout.{lockHeads, accessHeads}
+use Rattle.tables.specs.Decode.{recordAt, slotAt, recordsOf, editsOf, decodeAt, versionRows, lockRows, accessRows}
+use Rattle.tables.specs.Decode.{versionsOf, locksOf, accessesOf}
+use Rattle.tables.specs.Words.{versionsParted, locksParted, accessesParted, locksNamed, marksListed, Well, lent, decode}
+use Rattle.tables.specs.Words.{formedAt, formed, soundWords}
 use Rattle.tables.proofs.Builds.{total-build, sum-head}
 use Rattle.tables.proofs.Bridge.{well-at}
 use Rattle.tables.proofs.Decoded.{records-length, edits-length}
@@ -37,7 +40,8 @@ length-map g [] = refl
 length-map g (r ∷ rs) = ap suc (length-map g rs)
 
 -- the owners' chains of a partitioned table have at most as many rows as the table
-owned-fit : (t : Table) (h : Heads) (w : List ℕ) → partition t h w ≡ true → sumTo (h .owners) (λ k. length (rowsOf t h w (suc k))) ≤ t .count
+owned-fit : (t : Table) (h : Heads) (w : List ℕ) → partition t h w ≡ true
+    → sumTo (h .owners) (λ k. length (rowsOf t h w (suc k))) ≤ t .count
 owned-fit t h w d = omega (arith, lengths (rep-of t h w d), sum-head (h .owners) (λ k. length (rowsOf t h w k)))
 
 module _ (c : Counts) (w : List ℕ) (W : Well c w) where
@@ -51,7 +55,8 @@ module _ (c : Counts) (w : List ℕ) (W : Well c w) where
       omega (
         arith,
         total-build (c .records) (recordAt c w) (λ x. length (x .versions)),
-        sum-ext (λ i. length (recordAt c w i .versions)) (λ i. length (versionRows c w i)) (c .records) (λ i l. length-map _ (versionRows c w i)),
+        sum-ext (λ i. length (recordAt c w i .versions)) (λ i. length (versionRows c w i)) (c .records)
+            (λ i l. length-map _ (versionRows c w i)),
         owned-fit (versionTable c) (versionHeads c) w (W .versions-parted),
       )
 
@@ -61,7 +66,8 @@ module _ (c : Counts) (w : List ℕ) (W : Well c w) where
       omega (
         arith,
         total-build (c .records) (recordAt c w) (λ x. length (x .locks)),
-        sum-ext (λ i. length (recordAt c w i .locks)) (λ i. length (lockRows c w i)) (c .records) (λ i l. length-map _ (lockRows c w i)),
+        sum-ext (λ i. length (recordAt c w i .locks)) (λ i. length (lockRows c w i)) (c .records)
+            (λ i l. length-map _ (lockRows c w i)),
         owned-fit (lockTable c) (lockHeads c) w (W .locks-parted),
       )
 
@@ -71,7 +77,8 @@ module _ (c : Counts) (w : List ℕ) (W : Well c w) where
       omega (
         arith,
         total-build (c .edits) (λ i. slotAt c w (suc i)) (λ x. length (x .accesses)),
-        sum-ext (λ i. length (slotAt c w (suc i) .accesses)) (λ i. length (accessRows c w (suc i))) (c .edits) (λ i l. length-map _ (accessRows c w (suc i))),
+        sum-ext (λ i. length (slotAt c w (suc i) .accesses)) (λ i. length (accessRows c w (suc i))) (c .edits)
+            (λ i l. length-map _ (accessRows c w (suc i))),
         owned-fit (accessTable c) (accessHeads c) w (W .accesses-parted),
       )
 
@@ -79,14 +86,16 @@ module _ (c : Counts) (w : List ℕ) (W : Well c w) where
   unfolding rowsFit decodeAt
   rows-fit =
       and-in (le-leb (versionsUsed (decodeAt c w)) (c .versions) versions-fit)
-      (and-in (le-leb (locksUsed (decodeAt c w)) (c .locks) locks-fit) (and-in (le-leb (accessesUsed (decodeAt c w)) (c .accesses) accesses-fit) refl))
+      (and-in (le-leb (locksUsed (decodeAt c w)) (c .locks) locks-fit)
+      (and-in (le-leb (accessesUsed (decodeAt c w)) (c .accesses) accesses-fit) refl))
 
   store-checked : (slotsSound c w && recordsSound c w) ≡ soundStore (decodeAt c w)
   unfolding soundStore slotsSound recordsSound decodeAt
   store-checked =
       both (slotsSound c w && recordsSound c w) (soundStore (decodeAt c w))
       (λ h. and-in (ap goodCounts counts-same ∙ ranged-good c (W .fits .ranged)) (and-in rows-fit
-      (and-in (and-right (slotsSound c w) (recordsSound c w) h) (and-in (and-left (slotsSound c w) (recordsSound c w) h) refl))))
+      (and-in (and-right (slotsSound c w) (recordsSound c w) h)
+      (and-in (and-left (slotsSound c w) (recordsSound c w) h) refl))))
       (λ h. let at = every-at
       (goodCounts (countsOf (decodeAt c w))
       ∷ rowsFit (decodeAt c w)
@@ -128,4 +137,6 @@ header-long w e z = omega (arith, header-fits w (sym e ∙ z) .size, size-least 
 
 pub locks-first : (c : Counts) (w : List ℕ) {b : Bool} → b ≡ formedAt c w → b ≡ true → locksParted c w ≡ true
 unfolding formedAt
-locks-first c w e z = every-at (versionsParted c w ∷ locksParted c w ∷ accessesParted c w ∷ locksNamed c w ∷ marksListed c w ∷ []) (sym e ∙ z) 1
+locks-first c w e z =
+    every-at (versionsParted c w ∷ locksParted c w ∷ accessesParted c w ∷ locksNamed c w ∷ marksListed c w ∷ [])
+    (sym e ∙ z) 1

@@ -1,5 +1,6 @@
--- The clauses of soundness as the check tests them: those of one lock, of a version after another, of one access and of a slot's words.
--- The laws that these are the clauses of document 01 are in proofs/. Rests on specs/Sound of the crate `meaning`.
+-- The clauses of soundness as the check tests them: those of one lock, of a version after another, of one access and of
+-- a slot's words. The laws that these are the clauses of document 01 are in proofs/. Rests on specs/Sound of the crate
+-- `meaning`.
 use Prim.Native.Nat.{ℕ, suc, _≤_}
 use mathlib.Core.Path.{_≡_}
 use mathlib.Core.Bool.{Bool, true, not, _&&_, _||_}
@@ -13,7 +14,8 @@ use Rattle.meaning.specs.declared.Version.{Version}
 use Rattle.meaning.specs.declared.Lock.{Lock}
 use Rattle.meaning.specs.declared.Access.{Access}
 use Rattle.meaning.specs.Points.{isOwned}
-use Rattle.meaning.specs.Sound.{backs, isPresent, startsRead, stateListed, generationListed, pointListed, freeIdle, soundRec, soundEdit}
+use Rattle.meaning.specs.Sound.{backs, isPresent, startsRead, stateListed, generationListed, pointListed, freeIdle}
+use Rattle.meaning.specs.Sound.{soundRec, soundEdit}
 use Rattle.meaning.specs.declared.Counts.{Counts}
 use Rattle.tables.specs.Decode.{recordsOf, editsOf}
 
@@ -56,7 +58,8 @@ standsBefore from v = eqb (suc (v .point)) from
 -- a record read: its read lock, then the version
 unfoldable pub readSound : List Rec → ℕ → Access → Bool
 readSound rs k a =
-    not (hasRead a) || any (startsRead k (a .from)) (recOf rs (a .rec) .locks) && isPresent (recOf rs (a .rec)) (a .from)
+    not (hasRead a) || any (startsRead k (a .from)) (recOf rs (a .rec) .locks)
+    && isPresent (recOf rs (a .rec)) (a .from)
 
 -- the accesses of slot k from here on: each names a record that exists and has no stamp k yet, and its read is in order
 unfoldable pub accessesSound : List Rec → ℕ → List ℕ → List Access → Bool

@@ -1,4 +1,5 @@
--- Marks of lock rows, by which the check knows in one step whether a lock's owner wrote the record. Rests on Decode of the crate `tables`.
+-- Marks of lock rows, by which the check knows in one step whether a lock's owner wrote the record. Rests on Decode of
+-- the crate `tables`.
 use Prim.Native.Nat.{ℕ, zero, suc, _≤_}
 use mathlib.Core.Path.{_≡_}
 use mathlib.Core.Bool.{cond, _&&_}
@@ -36,4 +37,5 @@ markSlots c w m (suc k) = markAccesses c w (suc k) (markSlots c w m k) (slotAt c
 -- a lock row of record r bears 1 exactly if its owner wrote the record
 pub record Writers (c : Counts) (w : List ℕ) (r : ℕ) (m : List ℕ) : Type 0 where
   pub size : length m ≡ 4096
-  pub wrote : (i : ℕ) → 1 ≤ occ i (lockRows c w r) → IsRow (c .edits) (lockAt c w i .owner) → eqb (getD m i 0) 1 ≡ accessOf (slotAt c w (lockAt c w i .owner)) r .written
+  pub wrote : (i : ℕ) → 1 ≤ occ i (lockRows c w r) → IsRow (c .edits) (lockAt c w i .owner)
+      → eqb (getD m i 0) 1 ≡ accessOf (slotAt c w (lockAt c w i .owner)) r .written

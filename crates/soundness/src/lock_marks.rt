@@ -1,5 +1,6 @@
-// Marks of lock rows, so that one step tells whether a lock's owner wrote the record: for each record that an edit has written, the rows
-// of its own locks on that record become 1. specs/Marks has the same marks on lists.
+// Marks of lock rows, so that one step tells whether a lock's owner wrote the record: for each record that an edit has
+// written, the rows of its own locks on that record become 1. specs/Marks has the same marks on lists. Rests on the
+// crates `meaning`, `chains` and `tables`.
 ghost use mathlib.Core.Path.{_≡_};
 ghost use Prim.Native.Nat.{_<_};
 ghost use lib.ListN.{length};
@@ -20,7 +21,9 @@ fn own_mark(w: &[u64], c: Counts, k: u64, i: usize, old: u8) -> u8
 
 fn mark_own(w: &[u64], c: Counts, k: u64, r: usize, marks: &mut [u8; 4096])
     requires { ⌜ Fits c (now w) × (r < c .records) × (length (now marks) ≡ 4096) ⌝ }
-    ensures { λ _. ⌜ now (marks .exit) ≡ markOwn c (now (w .entry)) k (now (marks .entry)) (lockRows c (now (w .entry)) r) ⌝ }
+    ensures { λ _. ⌜
+        now (marks .exit) ≡ markOwn c (now (w .entry)) k (now (marks .entry)) (lockRows c (now (w .entry)) r)
+        ⌝ }
 {
     let n = c.locks;
     let mut cur = tables::first_lock(w, c, r);
@@ -48,7 +51,10 @@ fn mark_access(w: &[u64], c: Counts, k: usize, a: Access, marks: &mut [u8; 4096]
 
 fn mark_slot(w: &[u64], c: Counts, k: usize, marks: &mut [u8; 4096])
     requires { ⌜ Fits c (now w) × IsRow (c .edits) k × (length (now marks) ≡ 4096) ⌝ }
-    ensures { λ _. ⌜ now (marks .exit) ≡ markAccesses c (now (w .entry)) k (now (marks .entry)) (slotAt c (now (w .entry)) k .accesses) ⌝ }
+    ensures { λ _. ⌜
+        now (marks .exit)
+        ≡ markAccesses c (now (w .entry)) k (now (marks .entry)) (slotAt c (now (w .entry)) k .accesses)
+        ⌝ }
 {
     let n = c.accesses;
     let mut cur = tables::first_access(w, c, k);

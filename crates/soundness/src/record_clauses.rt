@@ -1,5 +1,7 @@
-// The clauses of a record: its locks each and in pairs, its versions, and what backs each version; `records_sound` is all of them for all
-// records. It asks that the slots are sound, for then the marks of `lock_marks` say of each lock whether its owner wrote the record.
+// The clauses of a record: its locks each and in pairs, its versions, and what backs each version; `records_sound` is
+// all of them for all records. It asks that the slots are sound, for then the marks of `lock_marks` say of each lock
+// whether its owner wrote the record. Rests on the crates `meaning`, `chains`, `tables` and `lookups` and on the module
+// `lock_marks`.
 ghost use mathlib.Core.Path.{_≡_};
 ghost use mathlib.Core.Bool.{true};
 ghost use mathlib.Core.List.{map};
@@ -14,7 +16,8 @@ ghost use Rattle.meaning.specs.Sound.{agree, wroteAt, backs, soundRec};
 ghost use Rattle.tables.specs.Layout.{Fits, lockTable};
 ghost use Rattle.tables.specs.Decode.{lockAt, versionAt, recordAt, slotAt, editsOf, lockRows};
 ghost use Rattle.tables.specs.Words.{locksParted};
-ghost use Rattle.soundness.specs.Clauses.{modeListed, spanLies, ownerUsed, lockSound, fallsBelow, endsOn, fallsTo, versionsSound, isBacked, recordsSound, slotsSound};
+ghost use Rattle.soundness.specs.Clauses.{modeListed, spanLies, ownerUsed, lockSound, fallsBelow, endsOn};
+ghost use Rattle.soundness.specs.Clauses.{fallsTo, versionsSound, isBacked, recordsSound, slotsSound};
 ghost use Rattle.soundness.specs.Marks.{Writers};
 use crate::lock_marks::mark_slots;
 use meaning::COMMITTED;
@@ -74,7 +77,10 @@ fn lock_sound(w: &[u64], c: Counts, floor: u64, i: usize) -> bool
 
 fn locks_sound(w: &[u64], c: Counts, r: usize) -> bool
     requires { ⌜ Fits c (now w) × (r < c .records) ⌝ }
-    ensures { λ q. ⌜ q ≡ all (lockSound (editsOf c (now (w .entry))) (recordAt c (now (w .entry)) r .floor)) (recordAt c (now (w .entry)) r .locks) ⌝ }
+    ensures { λ q. ⌜
+        q ≡ all (lockSound (editsOf c (now (w .entry))) (recordAt c (now (w .entry)) r .floor))
+        (recordAt c (now (w .entry)) r .locks)
+        ⌝ }
 {
     let n = c.locks;
     let floor = tables::floor_of(w, c, r);
@@ -90,7 +96,8 @@ fn locks_sound(w: &[u64], c: Counts, r: usize) -> bool
     true
 }
 
-// Its versions: they fall strictly from LAST at most, none below the floor, none at 0, the last at the floor if that is above 0.
+// Its versions: they fall strictly from LAST at most, none below the floor, none at 0, the last at the floor if that is
+// above 0.
 
 fn falls_below(floor: u64, top: u64, p: u64) -> bool
     ensures { λ q. ⌜ q ≡ fallsBelow floor top p ⌝ }
@@ -155,7 +162,10 @@ fn rows_agree(w: &[u64], c: Counts, l: Lock, i: usize) -> bool
 
 fn agrees_after(w: &[u64], c: Counts, l: Lock, head: usize, fuel: usize) -> bool
     requires { ⌜ Fits c (now w) ⌝ }
-    ensures { λ q. ⌜ q ≡ all (agree l) (map (lockAt c (now (w .entry))) (rows (link (lockTable c) (now (w .entry))) (c .locks) fuel head)) ⌝ }
+    ensures { λ q. ⌜
+        q ≡ all (agree l)
+        (map (lockAt c (now (w .entry))) (rows (link (lockTable c) (now (w .entry))) (c .locks) fuel head))
+        ⌝ }
 {
     let n = c.locks;
     let mut cur = head;
@@ -189,7 +199,8 @@ fn locks_agree(w: &[u64], c: Counts, r: usize) -> bool
     true
 }
 
-// Each version above the floor has a write lock on its point, settled or of an edit that wrote the record and committed at that point.
+// Each version above the floor has a write lock on its point, settled or of an edit that wrote the record and committed
+// at that point.
 
 fn wrote_at(w: &[u64], c: Counts, k: u64, r: usize, t: u64, wrote: bool) -> bool
     requires { ⌜ Fits c (now w) × (IsRow (c .edits) k → wrote ≡ accessOf (slotAt c (now w) k) r .written) ⌝ }
@@ -212,7 +223,9 @@ fn wrote_at(w: &[u64], c: Counts, k: u64, r: usize, t: u64, wrote: bool) -> bool
 }
 
 fn row_backs(w: &[u64], c: Counts, r: usize, p: u64, i: usize, marks: &[u8; 4096]) -> bool
-    requires { ⌜ Fits c (now w) × IsRow (c .locks) i × Writers c (now w) r (now marks) × (1 ≤ occ i (lockRows c (now w) r)) ⌝ }
+    requires { ⌜
+        Fits c (now w) × IsRow (c .locks) i × Writers c (now w) r (now marks) × (1 ≤ occ i (lockRows c (now w) r))
+        ⌝ }
     ensures { λ q. ⌜ q ≡ backs (editsOf c (now (w .entry))) r p (lockAt c (now (w .entry)) i) ⌝ }
 {
     let l = tables::lock_at(w, c, i);
@@ -247,7 +260,9 @@ fn any_backs(w: &[u64], c: Counts, r: usize, p: u64, marks: &[u8; 4096]) -> bool
 
 fn row_backed(w: &[u64], c: Counts, r: usize, i: usize, marks: &[u8; 4096]) -> bool
     requires { ⌜ Fits c (now w) × (r < c .records) × IsRow (c .versions) i × Writers c (now w) r (now marks) ⌝ }
-    ensures { λ q. ⌜ q ≡ isBacked (editsOf c (now (w .entry))) r (recordAt c (now (w .entry)) r) (versionAt c (now (w .entry)) i) ⌝ }
+    ensures { λ q. ⌜
+        q ≡ isBacked (editsOf c (now (w .entry))) r (recordAt c (now (w .entry)) r) (versionAt c (now (w .entry)) i)
+        ⌝ }
 {
     let v = tables::version_at(w, c, i);
     if v.point <= tables::floor_of(w, c, r) {
@@ -258,7 +273,10 @@ fn row_backed(w: &[u64], c: Counts, r: usize, i: usize, marks: &[u8; 4096]) -> b
 
 fn versions_backed(w: &[u64], c: Counts, r: usize, marks: &[u8; 4096]) -> bool
     requires { ⌜ Fits c (now w) × (r < c .records) × Writers c (now w) r (now marks) ⌝ }
-    ensures { λ q. ⌜ q ≡ all (isBacked (editsOf c (now (w .entry))) r (recordAt c (now (w .entry)) r)) (recordAt c (now (w .entry)) r .versions) ⌝ }
+    ensures { λ q. ⌜
+        q ≡ all (isBacked (editsOf c (now (w .entry))) r (recordAt c (now (w .entry)) r))
+        (recordAt c (now (w .entry)) r .versions)
+        ⌝ }
 {
     let n = c.versions;
     let mut cur = tables::first_version(w, c, r);

@@ -1,5 +1,5 @@
-// The clauses of a slot: its words, the records that its accesses name, its reads, and its point; `slots_sound` is all of them for all slots.
-// Rests on `lookups` for the common set.
+// The clauses of a slot: its words, the records that its accesses name, its reads, and its point; `slots_sound` is all
+// of them for all slots. Rests on `lookups` for the common set.
 ghost use mathlib.Core.Path.{_≡_};
 ghost use mathlib.Core.Bool.{true, _||_};
 ghost use Prim.Native.Nat.{_-_, _<_};
@@ -18,7 +18,8 @@ use meaning::Counts;
 use meaning::FREE;
 use meaning::GENERATIONS;
 
-// A record read: the edit has a read lock that starts just after the point read, and that point is a present version, or 0 under floor 0.
+// A record read: the edit has a read lock that starts just after the point read, and that point is a present version,
+// or 0 under floor 0.
 
 fn row_starts(w: &[u64], c: Counts, k: u64, from: u64, i: usize) -> bool
     requires { ⌜ Fits c (now w) × IsRow (c .locks) i ⌝ }
@@ -100,12 +101,16 @@ fn read_sound(w: &[u64], c: Counts, k: usize, a: Access) -> bool
     is_present(w, c, r, a.from)
 }
 
-// The accesses of slot k: each names an existing record, at most once, and its read is in order. A record that slot k has named bears the stamp k;
-// slots rise, so an older stamp is lower.
+// The accesses of slot k: each names an existing record, at most once, and its read is in order. A record that slot k
+// has named bears the stamp k; slots rise, so an older stamp is lower.
 
 fn accesses_sound(w: &[u64], c: Counts, k: usize, stamps: &mut [u8; 1024]) -> bool
     requires { ⌜ Fits c (now w) × IsRow (c .edits) k × Stamps k (now stamps) ⌝ }
-    ensures { λ q. ⌜ (q ≡ accessesSound (recordsOf c (now (w .entry))) k (now (stamps .entry)) (slotAt c (now (w .entry)) k .accesses)) × Stamps k (now (stamps .exit)) ⌝ }
+    ensures { λ q. ⌜
+        (q
+        ≡ accessesSound (recordsOf c (now (w .entry))) k (now (stamps .entry)) (slotAt c (now (w .entry)) k .accesses))
+        × Stamps k (now (stamps .exit))
+        ⌝ }
 {
     let n = c.accesses;
     let mark = k as u8;
@@ -171,7 +176,9 @@ fn slot_listed(w: &[u64], c: Counts, k: usize) -> bool
 
 // A committed edit's point is in its common set.
 fn point_common(w: &[u64], c: Counts, k: usize) -> bool
-    requires { ⌜ Fits c (now w) × IsRow (c .edits) k × (namesExisting (recordsOf c (now w)) (slotAt c (now w) k) ≡ true) ⌝ }
+    requires { ⌜
+        Fits c (now w) × IsRow (c .edits) k × (namesExisting (recordsOf c (now w)) (slotAt c (now w) k) ≡ true)
+        ⌝ }
     ensures { λ q. ⌜ q ≡ pointCommon (recordsOf c (now (w .entry))) k (slotAt c (now (w .entry)) k) ⌝ }
 {
     if tables::state_of(w, c, k) != COMMITTED {
@@ -184,7 +191,9 @@ fn point_common(w: &[u64], c: Counts, k: usize) -> bool
 
 fn slot_sound(w: &[u64], c: Counts, k: usize, stamps: &mut [u8; 1024]) -> bool
     requires { ⌜ Fits c (now w) × IsRow (c .edits) k × Stamps (k - 1) (now stamps) ⌝ }
-    ensures { λ q. ⌜ (q ≡ soundEdit (recordsOf c (now (w .entry))) k (slotAt c (now (w .entry)) k)) × Stamps k (now (stamps .exit)) ⌝ }
+    ensures { λ q. ⌜
+        (q ≡ soundEdit (recordsOf c (now (w .entry))) k (slotAt c (now (w .entry)) k)) × Stamps k (now (stamps .exit))
+        ⌝ }
 {
     if !slot_listed(w, c, k) {
         return false;

@@ -1,12 +1,14 @@
-// The clauses on the words: every row is on exactly one chain, lock rows name the record of their chain, written marks are 0 or 1.
-// `formed_at` is all of them; it equals `formedAt` of tables/specs/Words.
+// The clauses on the words: every row is on exactly one chain, lock rows name the record of their chain, written marks
+// are 0 or 1. `formed_at` is all of them; it equals `formedAt` of tables/specs/Words. Rests on the crates `meaning`,
+// `chains` and `tables`.
 ghost use mathlib.Core.Path.{_≡_};
 ghost use Prim.Native.Nat.{_<_};
 ghost use Rattle.chains.specs.Lists.{allOf};
 ghost use Rattle.chains.specs.Walk.{IsRow};
 ghost use Rattle.tables.specs.Layout.{Fits};
 ghost use Rattle.tables.specs.Decode.{lockRows, accessRows};
-ghost use Rattle.tables.specs.Words.{versionsParted, locksParted, accessesParted, namesRecord, marked, locksNamed, marksListed, formedAt};
+ghost use Rattle.tables.specs.Words.{versionsParted, locksParted, accessesParted, namesRecord, marked, locksNamed};
+ghost use Rattle.tables.specs.Words.{marksListed, formedAt};
 use meaning::Counts;
 
 // The chains.

@@ -1,4 +1,5 @@
--- From a call on sound words to the public call: what it acts it does, and unsound words are refused with 1. Rests on the contract records.
+-- From a call on sound words to the public call: what it acts it does, and unsound words are refused with 1. Rests on
+-- the contract records.
 use Prim.Native.Nat.{ℕ}
 use mathlib.Core.Path.{_≡_, refl, sym, _∙_}
 use mathlib.Core.Bool.{Bool, true, false, _&&_, false≢true}
@@ -14,7 +15,8 @@ use Rattle.store.specs.Answers.{Does, Shows}
 never : {b : Bool} {A : Type 0} → b ≡ true → b ≡ false → A
 never p q = absurd (false≢true (sym q ∙ p))
 
-pub does-sound : {call : Store → Outcome} {w w′ : List ℕ} {r : Reply} → soundWords (lent w) ≡ true → Acts call (lent w) (lent w′) r → Does call w w′ r
+pub does-sound : {call : Store → Outcome} {w w′ : List ℕ} {r : Reply} → soundWords (lent w) ≡ true
+    → Acts call (lent w) (lent w′) r → Does call w w′ r
 does-sound s a =
     record {
       unsound = λ u. never s u;
@@ -34,7 +36,8 @@ does-unsound s =
       unchanged = λ h. refl;
     }
 
-pub shows-sound : {call : Store → Outcome} {w : List ℕ} {r : Reply} → soundWords (lent w) ≡ true → r ≡ call (decode (lent w)) .reply → Shows call w r
+pub shows-sound : {call : Store → Outcome} {w : List ℕ} {r : Reply} → soundWords (lent w) ≡ true
+    → r ≡ call (decode (lent w)) .reply → Shows call w r
 shows-sound s e = record { unsound = λ u. never s u; reply = λ h. e }
 
 pub shows-unsound : {call : Store → Outcome} {w : List ℕ} → soundWords (lent w) ≡ false → Shows call w (refusing 1 [])

@@ -12,7 +12,8 @@ use Rattle.meaning.specs.declared.Call.{Call}
 use Rattle.store.specs.Answers.{Does, Shows}
 
 -- the same outcome of every store
-pub does-same : {f g : Store → Outcome} {w w′ : List ℕ} {r : Reply} → ((s : Store) → f s ≡ g s) → Does g w w′ r → Does f w w′ r
+pub does-same : {f g : Store → Outcome} {w w′ : List ℕ} {r : Reply} → ((s : Store) → f s ≡ g s) → Does g w w′ r
+    → Does f w w′ r
 does-same e d =
     record {
       unsound = d .unsound;

@@ -1,5 +1,5 @@
--- The answers of `perform`, and what the public calls promise of the words they are lent: the contract record of `meaning` over the words of
--- `tables`. Rests on both.
+-- The answers of `perform`, and what the public calls promise of the words they are lent: the contract record of
+-- `meaning` over the words of `tables`. Rests on both.
 use Prim.Native.Nat.{ℕ}
 use mathlib.Core.List.{List}
 use Rattle.meaning.specs.Store.{Store}

@@ -1,6 +1,9 @@
-// The public calls of the store, on lent words. Each checks the words first (refusal 1) and then does what its definition says; none has a
-// `requires`. The contract of each settles its reply and what the words mean afterwards, for every slice and argument.
-ghost use Rattle.meaning.specs.Replies.{ofPoint, ofFormat, ofBegin, ofWrite, ofLock, ofRead, ofCommit, ofAbort, ofSettle, ofPurge, ofView};
+// The public calls of the store, on lent words. Each checks the words first (refusal 1) and then does what its
+// definition says; none has a `requires`. The contract of each settles its reply and what the words mean afterwards,
+// for every slice and argument. Rests on the crates `meaning`, `chains`, `tables`, `lookups`, `soundness`, `format`,
+// `calls` and `endings`.
+ghost use Rattle.meaning.specs.Replies.{ofPoint, ofFormat, ofBegin, ofWrite, ofLock, ofRead, ofCommit, ofAbort};
+ghost use Rattle.meaning.specs.Replies.{ofSettle, ofPurge, ofView};
 ghost use Rattle.meaning.specs.Edits.{beginning, writing};
 ghost use Rattle.meaning.specs.Locking.{locking, reading};
 ghost use Rattle.meaning.specs.Ending.{committing, aborting, settling};
@@ -86,7 +89,9 @@ pub fn lock(
     high: Point,
     extent: Extent,
 ) -> LockReply
-    ensures { λ r. ⌜ Does (locking (h .0) rec (low .0) (high .0) extent) (now (words .entry)) (now (words .exit)) (ofLock r) ⌝ }
+    ensures { λ r. ⌜
+        Does (locking (h .0) rec (low .0) (high .0) extent) (now (words .entry)) (now (words .exit)) (ofLock r)
+        ⌝ }
 {
     if soundness::check(words) {
         calls::lock(words, h, rec, low, high, extent)

@@ -1,4 +1,5 @@
--- Lists built from a function of the index, and tests and sums over them. Rests on specs.Decode and the tests and sums of `chains`.
+-- Lists built from a function of the index, and tests and sums over them. Rests on specs.Decode and the tests and sums
+-- of `chains`.
 use Prim.Native.Nat.{ℕ, zero, suc, _+_, _≤_, _<_}
 use mathlib.Core.Path.{_≡_, refl, sym, ap, _∙_}
 use mathlib.Core.Bool.{Bool, true, false, _&&_}
@@ -24,15 +25,23 @@ module _ {A : Type 0} where
   pub build-ext : (n : ℕ) (f g : ℕ → A) → ((i : ℕ) → i < n → f i ≡ g i) → build n f ≡ build n g
   unfolding build
   build-ext zero f g h = refl
-  build-ext (suc n) f g h = rw (h 0 (omega arith), build-ext n (λ i. f (suc i)) (λ i. g (suc i)) (λ i l. h (suc i) (omega arith)))
+  build-ext (suc n) f g h =
+      rw (h 0 (omega arith), build-ext n (λ i. f (suc i)) (λ i. g (suc i)) (λ i l. h (suc i) (omega arith)))
 
   -- a change at one index
-  pub build-set : (n : ℕ) (f g : ℕ → A) (r : ℕ) → r < n → ((i : ℕ) → i < n → (i ≡ r → ⊥) → g i ≡ f i) → build n g ≡ set (build n f) r (g r)
+  pub build-set : (n : ℕ) (f g : ℕ → A) (r : ℕ) → r < n → ((i : ℕ) → i < n → (i ≡ r → ⊥) → g i ≡ f i)
+      → build n g ≡ set (build n f) r (g r)
   unfolding build
   build-set zero f g r l h = absurd (omega arith)
-  build-set (suc n) f g zero l h = ap (λ y. g 0 ∷ y) (build-ext n (λ i. g (suc i)) (λ i. f (suc i)) (λ i q. h (suc i) (omega arith) (λ e. omega arith)))
+  build-set (suc n) f g zero l h =
+      ap (λ y. g 0 ∷ y)
+      (build-ext n (λ i. g (suc i)) (λ i. f (suc i)) (λ i q. h (suc i) (omega arith) (λ e. omega arith)))
   build-set (suc n) f g (suc r) l h =
-      rw (h 0 (omega arith) (λ e. omega arith), build-set n (λ i. f (suc i)) (λ i. g (suc i)) r (omega arith) (λ i q k. h (suc i) (omega arith) (λ e. k (omega arith))))
+      rw (
+        h 0 (omega arith) (λ e. omega arith),
+        build-set n (λ i. f (suc i)) (λ i. g (suc i)) r (omega arith)
+            (λ i q k. h (suc i) (omega arith) (λ e. k (omega arith))),
+      )
 
 -- sums
 pub sum-head : (m : ℕ) (k : ℕ → ℕ) → sumTo (suc m) k ≡ k 0 + sumTo m (λ i. k (suc i))
@@ -67,13 +76,15 @@ all-zero : (f : ℕ → Bool) → allTo 0 f ≡ true
 unfolding allTo
 all-zero f = refl
 
-shifted : {A : Type 0} (m k : ℕ) (p : ℕ → A → Bool) (f : ℕ → A) → allTo m (λ i. p (suc k + i) (f i)) ≡ allTo m (λ i. p (k + suc i) (f i))
+shifted : {A : Type 0} (m k : ℕ) (p : ℕ → A → Bool) (f : ℕ → A)
+    → allTo m (λ i. p (suc k + i) (f i)) ≡ allTo m (λ i. p (k + suc i) (f i))
 unfolding allTo
 shifted zero k p f = refl
 shifted (suc m) k p f = rw (shifted m k p f) (let e : suc k + m ≡ k + suc m = omega arith in rw e)
 
 -- a test of every element with its index is a test of every index
-pub allFrom-build : {A : Type 0} (n k : ℕ) (f : ℕ → A) (p : ℕ → A → Bool) → allFrom k p (build n f) ≡ allTo n (λ i. p (k + i) (f i))
+pub allFrom-build : {A : Type 0} (n k : ℕ) (f : ℕ → A) (p : ℕ → A → Bool)
+    → allFrom k p (build n f) ≡ allTo n (λ i. p (k + i) (f i))
 unfolding build
 allFrom-build zero k f p = sym (all-zero (λ i. p (k + i) (f i)))
 allFrom-build (suc n) k f p =
@@ -92,6 +103,7 @@ unfolding allOf
 all-map p f [] = refl
 all-map p f (r ∷ rs) = go (p (f r)) refl (all-map p f rs)
   where
-    go : (b : Bool) → p (f r) ≡ b → all p (map f rs) ≡ allOf (λ i. p (f i)) rs → all p (map f (r ∷ rs)) ≡ allOf (λ i. p (f i)) (r ∷ rs)
+    go : (b : Bool) → p (f r) ≡ b → all p (map f rs) ≡ allOf (λ i. p (f i)) rs
+        → all p (map f (r ∷ rs)) ≡ allOf (λ i. p (f i)) (r ∷ rs)
     go true e ih = rw (e, allOf) ih
     go false e ih = rw (e, allOf) refl

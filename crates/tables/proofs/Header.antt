@@ -1,5 +1,5 @@
--- The header: what the computed test of counts and length says as plain facts, and back, and the test as the code goes through it.
--- Rests on specs.Layout.
+-- The header: what the computed test of counts and length says as plain facts, and back, and the test as the code goes
+-- through it. Rests on specs.Layout.
 use Prim.Native.Nat.{ℕ, _≤_, _<_}
 use mathlib.Core.Path.{_≡_, refl, sym, ap, _∙_}
 use mathlib.Core.Bool.{Bool, true, false, _&&_, and-false}
@@ -74,13 +74,16 @@ size-least c = omega arith
 
 pub header-short : (w : List ℕ) → length w < HEADER → headerOk w ≡ false
 unfolding headerOk
-header-short w h = rw (ne-eqb (length w) (sizeOf (countsOf w)) (λ e. omega (arith, size-least (countsOf w)))) (and-false (goodCounts (countsOf w)))
+header-short w h =
+    rw (ne-eqb (length w) (sizeOf (countsOf w)) (λ e. omega (arith, size-least (countsOf w))))
+    (and-false (goodCounts (countsOf w)))
 
 pub header-bad : (w : List ℕ) (c : Counts) → c ≡ countsOf w → goodCounts c ≡ false → headerOk w ≡ false
 unfolding headerOk
 header-bad w c e g = rw (ap goodCounts (sym e) ∙ g)
 
-pub header-size : (w : List ℕ) (c : Counts) → c ≡ countsOf w → goodCounts c ≡ true → headerOk w ≡ eqb (length w) (sizeOf c)
+pub header-size : (w : List ℕ) (c : Counts) → c ≡ countsOf w → goodCounts c ≡ true
+    → headerOk w ≡ eqb (length w) (sizeOf c)
 unfolding headerOk
 header-size w c e g = rw (sym e, g)
 
@@ -88,7 +91,11 @@ pub header-fits : (w : List ℕ) → headerOk w ≡ true → Fits (countsOf w) w
 unfolding headerOk
 header-fits w e =
     let b = both-true (goodCounts (countsOf w)) _ e in
-    record { counts = refl; ranged = good-ranged (countsOf w) (b .0); size = eqb-true (length w) (sizeOf (countsOf w)) (b .1) }
+    record {
+      counts = refl;
+      ranged = good-ranged (countsOf w) (b .0);
+      size = eqb-true (length w) (sizeOf (countsOf w)) (b .1);
+    }
 
 pub fits-header : (c : Counts) (w : List ℕ) → Fits c w → headerOk w ≡ true
 unfolding headerOk

@@ -1,5 +1,5 @@
--- Where the words lie: each table is laid, the parts lie one after the other, and a chain's head word is a word of the header or of its
--- owner's row. Only here are the products of counts and widths seen. Rests on specs.Layout.
+-- Where the words lie: each table is laid, the parts lie one after the other, and a chain's head word is a word of the
+-- header or of its owner's row. Only here are the products of counts and widths seen. Rests on specs.Layout.
 use Prim.Native.Nat.{ℕ, zero, suc, _+_, _*_, _-_, _≤_, _<_}
 use mathlib.Core.Path.{_≡_, _∙_}
 use mathlib.Core.List.{List}
@@ -11,13 +11,22 @@ use Rattle.chains.specs.declared.Heads.{Heads}
 use Rattle.chains.specs.Walk.{IsRow}
 use Rattle.chains.specs.Table.{Laid, Lies, place, headCell}
 use Rattle.meaning.specs.declared.Counts.{Counts}
-use Rattle.tables.specs.Layout.{slotBase, versionBase, lockBase, accessBase, sizeOf, recordTable, slotTable, versionTable, lockTable, accessTable, versionHeads, lockHeads, accessHeads, Ranged, Fits, countsOf, HEADER, H-RECORDS, H-EDITS, H-VERSIONS, H-LOCKS, H-ACCESSES, R-VERSION, R-LOCK, S-ACCESS}
+use Rattle.tables.specs.Layout.{slotBase, versionBase, lockBase, accessBase, sizeOf, recordTable, slotTable}
+use Rattle.tables.specs.Layout.{versionTable, lockTable, accessTable, versionHeads, lockHeads, accessHeads}
+use Rattle.tables.specs.Layout.{Ranged, Fits, countsOf, HEADER, H-RECORDS, H-EDITS, H-VERSIONS, H-LOCKS}
+use Rattle.tables.specs.Layout.{H-ACCESSES, R-VERSION, R-LOCK, S-ACCESS}
 
 module _ {c : Counts} {w : List ℕ} (f : Fits c w) where
   pub versions-laid : Laid (versionTable c) (versionHeads c) w
   unfolding versionTable versionHeads versionBase sizeOf
   versions-laid =
-      record { inside = omega (arith, f .size); within = omega arith; free-first = omega arith; heads-before = omega arith; step-pos = omega arith }
+      record {
+        inside = omega (arith, f .size);
+        within = omega arith;
+        free-first = omega arith;
+        heads-before = omega arith;
+        step-pos = omega arith;
+      }
 
   pub locks-laid : Laid (lockTable c) (lockHeads c) w
   unfolding lockTable lockHeads lockBase sizeOf
@@ -51,28 +60,35 @@ module _ {c : Counts} {w : List ℕ} (f : Fits c w) where
 
 -- A word of a part is at or after its base and before the next part's
 module _ (c : Counts) (i o : ℕ) where
-  pub record-word : IsRow (c .records) i → o < recordTable c .stride → (HEADER ≤ place (recordTable c) i o) × (place (recordTable c) i o < slotBase c)
+  pub record-word : IsRow (c .records) i → o < recordTable c .stride
+      → (HEADER ≤ place (recordTable c) i o) × (place (recordTable c) i o < slotBase c)
   unfolding place recordTable slotBase
   record-word e l = (omega arith, omega (arith, e .low, e .high))
 
-  pub slot-word : IsRow (c .edits) i → o < slotTable c .stride → (slotBase c ≤ place (slotTable c) i o) × (place (slotTable c) i o < versionBase c)
+  pub slot-word : IsRow (c .edits) i → o < slotTable c .stride
+      → (slotBase c ≤ place (slotTable c) i o) × (place (slotTable c) i o < versionBase c)
   unfolding place slotTable slotBase versionBase
   slot-word e l = (omega arith, omega (arith, e .low, e .high))
 
-  pub version-word : IsRow (versionTable c .count) i → o < versionTable c .stride → (versionBase c ≤ place (versionTable c) i o) × (place (versionTable c) i o < lockBase c)
+  pub version-word : IsRow (versionTable c .count) i → o < versionTable c .stride
+      → (versionBase c ≤ place (versionTable c) i o) × (place (versionTable c) i o < lockBase c)
   unfolding place versionTable versionBase lockBase
   version-word e l = (omega arith, omega (arith, e .low, e .high))
 
-  pub lock-word : IsRow (lockTable c .count) i → o < lockTable c .stride → (lockBase c ≤ place (lockTable c) i o) × (place (lockTable c) i o < accessBase c)
+  pub lock-word : IsRow (lockTable c .count) i → o < lockTable c .stride
+      → (lockBase c ≤ place (lockTable c) i o) × (place (lockTable c) i o < accessBase c)
   unfolding place lockTable lockBase accessBase
   lock-word e l = (omega arith, omega (arith, e .low, e .high))
 
-  pub access-word : IsRow (accessTable c .count) i → o < accessTable c .stride → (accessBase c ≤ place (accessTable c) i o) × (place (accessTable c) i o < sizeOf c)
+  pub access-word : IsRow (accessTable c .count) i → o < accessTable c .stride
+      → (accessBase c ≤ place (accessTable c) i o) × (place (accessTable c) i o < sizeOf c)
   unfolding place accessTable accessBase sizeOf
   access-word e l = (omega arith, omega (arith, e .low, e .high))
 
 -- the bases rise
-pub bases : (c : Counts) → (HEADER ≤ slotBase c) × (slotBase c ≤ versionBase c) × (versionBase c ≤ lockBase c) × (lockBase c ≤ accessBase c) × (accessBase c ≤ sizeOf c)
+pub bases : (c : Counts)
+    → (HEADER ≤ slotBase c) × (slotBase c ≤ versionBase c) × (versionBase c ≤ lockBase c) × (lockBase c ≤ accessBase c)
+    × (accessBase c ≤ sizeOf c)
 unfolding slotBase versionBase lockBase accessBase sizeOf
 bases c = (omega arith, omega arith, omega arith, omega arith, omega arith)
 
@@ -93,10 +109,19 @@ module _ (c : Counts) (k : ℕ) where
 -- Words that have the counts of others
 pub counts-same : (w w′ : List ℕ) → ((p : ℕ) → p ≤ H-ACCESSES → getD w′ p 0 ≡ getD w p 0) → countsOf w′ ≡ countsOf w
 unfolding countsOf
-counts-same w w′ e = rw (e H-RECORDS (omega arith), e H-EDITS (omega arith), e H-VERSIONS (omega arith), e H-LOCKS (omega arith), e H-ACCESSES (omega arith))
+counts-same w w′ e =
+    rw (
+      e H-RECORDS (omega arith),
+      e H-EDITS (omega arith),
+      e H-VERSIONS (omega arith),
+      e H-LOCKS (omega arith),
+      e H-ACCESSES (omega arith),
+    )
 
-pub fits-same : {c : Counts} {w w′ : List ℕ} → Fits c w → length w′ ≡ length w → ((p : ℕ) → p ≤ H-ACCESSES → getD w′ p 0 ≡ getD w p 0) → Fits c w′
-fits-same {c} {w} {w′} f l e = record { counts = counts-same w w′ e ∙ f .counts; ranged = f .ranged; size = l ∙ f .size }
+pub fits-same : {c : Counts} {w w′ : List ℕ} → Fits c w → length w′ ≡ length w
+    → ((p : ℕ) → p ≤ H-ACCESSES → getD w′ p 0 ≡ getD w p 0) → Fits c w′
+fits-same {c} {w} {w′} f l e =
+    record { counts = counts-same w w′ e ∙ f .counts; ranged = f .ranged; size = l ∙ f .size }
 
 -- so a store beyond the header keeps them
 pub fits-set : {c : Counts} {w : List ℕ} (p v : ℕ) → HEADER ≤ p → Fits c w → Fits c (set w p v)

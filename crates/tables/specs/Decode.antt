@@ -1,4 +1,5 @@
--- What the words mean: the abstract store of the crate `meaning`. Rests on Layout and the chains of `chains`; total on all words.
+-- What the words mean: the abstract store of the crate `meaning`. Rests on Layout and the chains of `chains`; total on
+-- all words.
 use Prim.Native.Nat.{ℕ, zero, suc, _/_, _%_}
 use mathlib.Core.List.{List, [], _∷_, map}
 use lib.Dec.{eqb}

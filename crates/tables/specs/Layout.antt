@@ -1,5 +1,5 @@
--- The layout of document 01. Every width and offset has its name here and nowhere else; src/lib.rt has the same names. Rests on Table and
--- Heads of the crate `chains`.
+-- The layout of document 01. Every width and offset has its name here and nowhere else; src/lib.rt has the same names.
+-- Rests on Table and Heads of the crate `chains`.
 use Prim.Native.Nat.{ℕ, _+_, _*_, _≤_}
 use mathlib.Core.Path.{_≡_}
 use mathlib.Core.Bool.{Bool, _&&_}
@@ -12,7 +12,8 @@ use Rattle.meaning.specs.Limits.{MAX-RECORDS, MAX-EDITS, MAX-ROWS}
 use Rattle.meaning.specs.Records.{goodCounts}
 use Rattle.meaning.specs.declared.Counts.{Counts}
 
--- "8 header words; then 3 for each record, 4 for each edit slot, 4 for each version row, 5 for each lock row, 5 for each access row"
+-- "8 header words; then 3 for each record, 4 for each edit slot, 4 for each version row, 5 for each lock row, 5 for
+-- each access row"
 abbrev pub HEADER : ℕ
 HEADER = 8
 

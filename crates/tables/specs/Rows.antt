@@ -1,4 +1,5 @@
--- The words that a row is filled with, all but its link; and the number of rows that a length stands for. Rests on Layout.
+-- The words that a row is filled with, all but its link; and the number of rows that a length stands for. Rests on
+-- Layout.
 use Prim.Native.Nat.{ℕ, suc, _+_, _*_}
 use mathlib.Core.Bool.{Bool, true, false, cond}
 use mathlib.Core.List.{List}
@@ -24,7 +25,8 @@ module _ (c : Counts) (w : List ℕ) (i : ℕ) where
   unfoldable pub versionStored : ℕ → ℕ → List ℕ
   versionStored point value =
       set
-      (set (set w (place (Layout.versionTable c) i Layout.V-POINT) point) (place (Layout.versionTable c) i Layout.V-VALUE) value)
+      (set (set w (place (Layout.versionTable c) i Layout.V-POINT) point)
+      (place (Layout.versionTable c) i Layout.V-VALUE) value)
       (place (Layout.versionTable c) i Layout.V-SPARE)
       0
 
@@ -33,7 +35,8 @@ module _ (c : Counts) (w : List ℕ) (i : ℕ) where
   lockStored r l =
       set
       (set
-      (set (set w (place (Layout.lockTable c) i Layout.L-LOW) (l .low)) (place (Layout.lockTable c) i Layout.L-HIGH) (l .high))
+      (set (set w (place (Layout.lockTable c) i Layout.L-LOW) (l .low)) (place (Layout.lockTable c) i Layout.L-HIGH)
+      (l .high))
       (place (Layout.lockTable c) i Layout.L-MODE)
       (lockTag l))
       (place (Layout.lockTable c) i Layout.L-RECORD)
@@ -43,7 +46,8 @@ module _ (c : Counts) (w : List ℕ) (i : ℕ) where
   accessStored a =
       set
       (set
-      (set (set w (place (Layout.accessTable c) i Layout.A-RECORD) (a .rec)) (place (Layout.accessTable c) i Layout.A-FROM) (a .from))
+      (set (set w (place (Layout.accessTable c) i Layout.A-RECORD) (a .rec))
+      (place (Layout.accessTable c) i Layout.A-FROM) (a .from))
       (place (Layout.accessTable c) i Layout.A-WRITTEN)
       (writtenMark (a .written)))
       (place (Layout.accessTable c) i Layout.A-VALUE)

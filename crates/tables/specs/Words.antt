@@ -1,4 +1,5 @@
--- What a call is lent, what it means, and when it is sound: the clauses that speak of words, and those that speak of the meaning. Rests on Decode.
+-- What a call is lent, what it means, and when it is sound: the clauses that speak of words, and those that speak of
+-- the meaning. Rests on Decode.
 use Prim.Native.Nat.{ℕ, suc, _≤_, _<_}
 use mathlib.Core.Path.{_≡_}
 use mathlib.Core.Bool.{Bool, true, _&&_}

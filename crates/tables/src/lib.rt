@@ -1,7 +1,9 @@
-// The tables of a store in lent words: the layout of document 01, the header, and rows by value.
+// The tables of a store in lent words: the layout of document 01, the header, and rows by value. Rests on the crates
+// `meaning` and `chains`.
 //
-// A caller proves that the words have these counts (`Fits`), so the functions have `requires`. Each read equals a part of the decoded store, and
-// each store promises the exact words after it; what changes make of the decoded store is the crate `changes`.
+// A caller proves that the words have these counts (`Fits`), so the functions have `requires`. Each read equals a part
+// of the decoded store, and each store promises the exact words after it; what changes make of the decoded store is the
+// crate `changes`.
 //
 // This file has the layout and the header; `reads` and `writes` have the words, rows and chains.
 mod reads;
@@ -37,7 +39,8 @@ ghost use mathlib.Core.Path.{_≡_};
 ghost use Prim.Native.Nat.{_≤_, _<_};
 ghost use lib.ListN.{length, getD};
 ghost use Rattle.meaning.specs.Records.{inRange, goodCounts};
-ghost use Rattle.tables.specs.Layout.{HEADER, recordTable, slotTable, versionTable, lockTable, accessTable, versionHeads, lockHeads, accessHeads, countsOf, sizeOf, headerOk, Ranged};
+ghost use Rattle.tables.specs.Layout.{HEADER, recordTable, slotTable, versionTable, lockTable, accessTable};
+ghost use Rattle.tables.specs.Layout.{versionHeads, lockHeads, accessHeads, countsOf, sizeOf, headerOk, Ranged};
 use chains::Heads;
 use chains::Table;
 use meaning::Counts;

@@ -1,10 +1,13 @@
-// Rows, records and slots by value, and the steps along a chain. Each equals a part of the decoded store, on any words with these counts.
+// Rows, records and slots by value, and the steps along a chain. Each equals a part of the decoded store, on any words
+// with these counts. Rests on lib.rt and on the crates `meaning` and `chains`.
 ghost use mathlib.Core.Path.{_≡_};
 ghost use Prim.Native.Nat.{suc, _<_};
 ghost use lib.ListN.{length};
 ghost use Rattle.chains.specs.Table.{headOf, link, field};
 ghost use Rattle.chains.specs.Walk.{IsRow};
-ghost use Rattle.tables.specs.Layout.{RECORD, SLOT, VERSION, LOCK, ACCESS, recordTable, slotTable, versionTable, lockTable, accessTable, versionHeads, lockHeads, accessHeads, Fits, L-RECORD, A-WRITTEN};
+ghost use Rattle.tables.specs.Layout.{RECORD, SLOT, VERSION, LOCK, ACCESS, recordTable, slotTable, versionTable};
+ghost use Rattle.tables.specs.Layout.{lockTable, accessTable, versionHeads, lockHeads, accessHeads, Fits};
+ghost use Rattle.tables.specs.Layout.{L-RECORD, A-WRITTEN};
 ghost use Rattle.tables.specs.Rows.{rowsIn};
 ghost use Rattle.tables.specs.Words.{Well};
 ghost use Rattle.tables.specs.Decode.{versionAt, lockAt, accessAt, recordAt, slotAt};
@@ -169,7 +172,8 @@ pub fn access_mark(w: &[u64], c: Counts, i: usize) -> u64
     access_word(w, c, i, A_WRITTEN)
 }
 
-// Chains: the first row of record r's versions and locks and of slot k's accesses, and the row after a row; 0 ends a chain.
+// Chains: the first row of record r's versions and locks and of slot k's accesses, and the row after a row; 0 ends a
+// chain.
 
 pub fn first_version(w: &[u64], c: Counts, r: usize) -> usize
     requires { ⌜ Fits c (now w) × (r < c .records) ⌝ }

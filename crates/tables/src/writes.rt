@@ -1,4 +1,5 @@
-// Stores of words and rows. Each promises the exact words after it.
+// Stores of words and rows. Each promises the exact words after it. Rests on lib.rt and on the crates `meaning` and
+// `chains`.
 ghost use mathlib.Core.Path.{_≡_};
 ghost use Prim.Native.Nat.{suc, _≤_, _<_};
 ghost use lib.ListN.{set};
@@ -6,7 +7,9 @@ ghost use Rattle.chains.specs.Table.{place};
 ghost use Rattle.chains.specs.Walk.{IsRow};
 ghost use Rattle.chains.specs.Change.{Ready, Taken, InsertedSorted};
 ghost use Rattle.meaning.specs.Limits.{MAX-EDITS};
-ghost use Rattle.tables.specs.Layout.{SLOT, VERSION, LOCK, ACCESS, recordTable, slotTable, versionTable, lockTable, accessTable, versionHeads, Fits, V-POINT, MODES, R-FLOOR, S-STATE, S-GENERATION, S-POINT, L-LOW};
+ghost use Rattle.tables.specs.Layout.{SLOT, VERSION, LOCK, ACCESS, recordTable, slotTable, versionTable};
+ghost use Rattle.tables.specs.Layout.{lockTable, accessTable, versionHeads, Fits, V-POINT, MODES, R-FLOOR};
+ghost use Rattle.tables.specs.Layout.{S-STATE, S-GENERATION, S-POINT, L-LOW};
 ghost use Rattle.tables.specs.Rows.{lockTag, writtenMark, versionStored, lockStored, accessStored};
 use crate::A_FROM;
 use crate::A_RECORD;
@@ -146,10 +149,14 @@ pub fn put_access(w: &mut [u64], c: Counts, i: usize, a: Access)
     set_access_word(w, c, i, A_VALUE, a.value);
 }
 
-// The first free row comes to stand on record r's chain of versions after those with points above q. Replies the row, or 0 where none is free.
+// The first free row comes to stand on record r's chain of versions after those with points above q. Replies the row,
+// or 0 where none is free.
 pub fn insert_version(w: &mut [u64], c: Counts, r: usize, q: u64) -> usize
     requires { ⌜ Fits c (now w) × (r < c .records) × Ready (versionTable c) (versionHeads c) (now w) (suc r) 0 ⌝ }
-    ensures { λ i. ⌜ Taken (versionHeads c) (now (w .entry)) (now (w .exit)) 0 i (InsertedSorted (versionTable c) (versionHeads c) (now (w .entry)) (now (w .exit)) (suc r) 0 V-POINT q i) ⌝ }
+    ensures { λ i. ⌜
+        Taken (versionHeads c) (now (w .entry)) (now (w .exit)) 0 i
+        (InsertedSorted (versionTable c) (versionHeads c) (now (w .entry)) (now (w .exit)) (suc r) 0 V-POINT q i)
+        ⌝ }
 {
     chains::insert_sorted(
         w,

@@ -1,4 +1,5 @@
--- A reader's answer, by the flag and the header, and that it is the reply of View where the flag is the check's. Rests on Words of `tables`.
+-- A reader's answer, by the flag and the header, and that it is the reply of View where the flag is the check's. Rests
+-- on Words of `tables`.
 use Prim.Native.Nat.{ℕ}
 use mathlib.Core.Path.{_≡_, refl, sym, ap, _∙_}
 use mathlib.Core.Bool.{Bool, true, false, _&&_, cond}
@@ -9,7 +10,7 @@ use Rattle.meaning.specs.Records.{viewing}
 use Rattle.meaning.specs.Sound.{soundStore}
 use Rattle.tables.specs.Layout.{countsOf, headerOk}
 use Rattle.tables.specs.Words.{lent, decode, formedAt, formed, soundWords}
-use Rattle.view.specs.Seen.{asked, answered}
+use Rattle.view.specs.Seen.{Viewed, answered}
 
 module _ (r p : ℕ) (w : List ℕ) where
   pub not-good : {good : Bool} → good ≡ false → refusing 1 [] ≡ answered good r p w
@@ -20,16 +21,18 @@ module _ (r p : ℕ) (w : List ℕ) where
   unfolding answered
   no-header e h = rw (e, h) refl
 
-  pub seen : {good : Bool} {q : Reply} → good ≡ true → headerOk w ≡ true → q ≡ viewing r p (decode (lent w)) .reply → q ≡ answered good r p w
+  pub seen : {good : Bool} {q : Reply} → good ≡ true → headerOk w ≡ true → q ≡ viewing r p (decode (lent w)) .reply
+      → q ≡ answered good r p w
   unfolding answered
   seen e h f = rw (e, h) f
 
-  -- sound words have a good header
-  pub as-asked : answered (soundWords (lent w)) r p w ≡ asked r p w
-  unfolding answered asked soundWords formed
-  as-asked =
-      ap (λ (b : Bool). cond b (viewing r p (decode (lent w)) .reply) (refusing 1 []))
-      (both (headerOk w) (formedAt (countsOf w) w) (soundStore (decode (lent w))))
+  -- sound words have a good header, so the verdict of the check decides alone
+  by-verdict : (b : Bool) → soundWords (lent w) ≡ b
+      → answered (soundWords (lent w)) r p w ≡ cond b (viewing r p (decode (lent w)) .reply) (refusing 1 [])
+  unfolding answered soundWords formed
+  by-verdict b e =
+      ap (λ (x : Bool). cond x (viewing r p (decode (lent w)) .reply) (refusing 1 []))
+      (both (headerOk w) (formedAt (countsOf w) w) (soundStore (decode (lent w))) ∙ e)
     where
       both : (h f s : Bool) → (((h && f) && s) && h) ≡ ((h && f) && s)
       both true true true = refl
@@ -37,3 +40,6 @@ module _ (r p : ℕ) (w : List ℕ) where
       both true false true = refl
       both true false false = refl
       both false f s = refl
+
+  pub viewed : {q : Reply} → q ≡ answered (soundWords (lent w)) r p w → Viewed r p w q
+  viewed k = record { unsound = λ e. k ∙ by-verdict false e; reply = λ e. k ∙ by-verdict true e }

@@ -1,11 +1,13 @@
-// The chart reader: a struct that holds the lent store and answers from it. It is made once, with the one check of the words, and asked many times;
-// an ask costs one record's version chain. Nobody outside this file can make a reader whose flag is not the check's verdict.
+// The chart reader: a struct that holds the lent store and answers from it. It is made once, with the one check of the
+// words, and asked many times; an ask costs one record's version chain. Nobody outside this file can make a reader
+// whose flag is not the check's verdict. Rests on the crates `meaning`, `chains`, `tables`, `lookups`, `soundness` and
+// `calls`.
 ghost use mathlib.Core.Path.{_≡_};
 ghost use mathlib.Core.Bool.{Bool};
 ghost use Rattle.meaning.specs.Replies.{ofView};
 ghost use Rattle.meaning.specs.Records.{viewing};
 ghost use Rattle.tables.specs.Words.{lent, soundWords};
-ghost use Rattle.view.specs.Seen.{asked, answered};
+ghost use Rattle.view.specs.Seen.{Viewed, answered};
 use meaning::Point;
 use meaning::Refusal;
 use meaning::ViewReply;
@@ -16,7 +18,14 @@ pub struct Chart<'a> {
     good: bool,
 }
 
-// The check of soundness, as a function of this crate: the walks by hand of `open` and `at` cite functions of their own crate alone.
+// The replies of two asks.
+pub struct Pair {
+    pub first: ViewReply,
+    pub second: ViewReply,
+}
+
+// The check of soundness, as a function of this crate: the walks by hand of `open` and `at` cite functions of their own
+// crate alone.
 fn check(words: &[u64]) -> bool
     ensures { λ r. ⌜ r ≡ soundWords (lent (now (words .entry))) ⌝ }
 {
@@ -53,7 +62,26 @@ pub fn at<'a>(c: Chart<'a>, rec: u64, p: Point) -> ViewReply
 
 // One ask of a reader made for it: the call View of every slice.
 pub fn view(words: &[u64], rec: u64, p: Point) -> ViewReply
-    ensures { λ r. ⌜ ofView r ≡ asked rec (p .0) (now (words .entry)) ⌝ }
+    ensures { λ r. ⌜ Viewed rec (p .0) (now (words .entry)) (ofView r) ⌝ }
 {
     at(open(words), rec, p)
+}
+
+fn paired(first: ViewReply, second: ViewReply) -> Pair
+    ensures { λ r. ⌜ (r .first ≡ first) × (r .second ≡ second) ⌝ }
+{
+    Pair { first, second }
+}
+
+// Two asks of one reader: the words are checked once.
+pub fn view_pair(words: &[u64], rec: u64, p: Point, other: u64, o: Point) -> Pair
+    ensures { λ r. ⌜
+        Viewed rec (p .0) (now (words .entry)) (ofView (r .first))
+        × Viewed other (o .0) (now (words .entry)) (ofView (r .second))
+        ⌝ }
+{
+    let chart = open(words);
+    let first = at(chart, rec, p);
+    let second = at(chart, other, o);
+    paired(first, second)
 }

@@ -277,8 +277,8 @@ impl Tables {
         Some(Change { kind: Kind::Shifted, at, word })
     }
 
-    /// Shifts the point read of an edit's first access, with the read lock that starts just after it. `None` if the slot
-    /// met has no such access.
+    /// Shifts the point read of an edit's first access, with the read lock that starts just after it. `None` if the
+    /// slot met has no such access.
     pub fn read_shifted(&self, words: &mut [u64], random: &mut Random) -> Option<Change> {
         let slot = random.from(1, self.edits.count as u64);
         let access = match words[self.edits.at(slot) + 2] {

@@ -1,4 +1,4 @@
--- `chains::get` meets its contract.
+-- `chains::get` meets its contract. Rests on nothing.
 use Rattle.chains.specs.Table.{field}
 use borrow.Author.Needs.{needs}
 use Rattle.chains.proofs.get.Statement.{statement}

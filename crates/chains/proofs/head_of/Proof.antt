@@ -1,4 +1,4 @@
--- `chains::head_of` meets its contract.
+-- `chains::head_of` meets its contract. Rests on nothing.
 use Rattle.chains.specs.Table.{headOf}
 use borrow.Author.Needs.{needs}
 use Rattle.chains.proofs.head_of.Statement.{statement}

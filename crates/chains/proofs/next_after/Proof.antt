@@ -15,7 +15,9 @@ returns : tie.Need-returns
 returns c = c .head-of .ensures ∙ sym (after-head (c .before .before .before .args .t) _ _ _ _ (c .before .if1 .taken))
 
 returns-2 : tie.Need-returns-2
-returns-2 c = c .next-of .ensures ∙ sym (after-link _ (c .before .before .before .args .h) _ (c .before .before .before .args .a) _ (c .before .if1 .left))
+returns-2 c =
+    c .next-of .ensures ∙ sym
+    (after-link _ (c .before .before .before .args .h) _ (c .before .before .before .args .a) _ (c .before .if1 .left))
 
 pub next-after-spec : {M : Type 1} → statement M
 next-after-spec = tie.close (tie.spec head-of-requires next-of-requires returns returns-2)

@@ -1,4 +1,4 @@
--- `chains::put` meets its contract.
+-- `chains::put` meets its contract. Rests on nothing.
 use borrow.Author.Needs.{needs}
 use Rattle.chains.proofs.put.Statement.{statement}
 use Rattle.chains.proofs.put.Tie as tie

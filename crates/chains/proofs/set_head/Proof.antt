@@ -1,4 +1,4 @@
--- `chains::set_head` meets its contract.
+-- `chains::set_head` meets its contract. Rests on nothing.
 use borrow.Author.Needs.{needs}
 use Rattle.chains.proofs.set_head.Statement.{statement}
 use Rattle.chains.proofs.set_head.Tie as tie

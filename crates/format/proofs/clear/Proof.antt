@@ -1,4 +1,4 @@
--- `format::clear` meets its contract.
+-- `format::clear` meets its contract. Rests on Laying.
 use Prim.Native.Nat.{_-_}
 use native.Mathlib.Omega.{arith}
 use Rattle.format.proofs.Laying.{Cleared, clear-start, clear-again, clear-done}
@@ -37,4 +37,5 @@ returns : tie.Need-returns Inv-loop μ-loop
 returns c = clear-done (c .before .loop .inv) (omega arith)
 
 pub clear-spec : {M : Type 1} → statement M
-clear-spec = tie.close (tie.spec Inv-loop μ-loop loop-holds mul-w slice-write-w add-i loop-less loop-again same-length returns)
+clear-spec =
+    tie.close (tie.spec Inv-loop μ-loop loop-holds mul-w slice-write-w add-i loop-less loop-again same-length returns)

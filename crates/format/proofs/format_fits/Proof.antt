@@ -1,4 +1,4 @@
--- `format::format_fits` meets its contract.
+-- `format::format_fits` meets its contract. Rests on Header of `tables`.
 use mathlib.Core.Path.{sym, ap, _∙_}
 use lib.Dec.{eqb}
 use borrow.Author.Tests.{not-true, not-false}
@@ -20,7 +20,9 @@ size-of-requires c κs = good-ranged _ (sym (c .before .good-counts .ensures) �
 
 returns-2 : tie.Need-returns-2
 unfolding formatFits
-returns-2 c = rw (sym (c .before .before .good-counts .ensures) ∙ not-false _ (c .before .if1 .left)) (ap (eqb (c .before .before .before .args .n)) (c .size-of .ensures))
+returns-2 c =
+    rw (sym (c .before .before .good-counts .ensures) ∙ not-false _ (c .before .if1 .left))
+    (ap (eqb (c .before .before .before .args .n)) (c .size-of .ensures))
 
 pub format-fits-spec : {M : Type 1} → statement M
 format-fits-spec = tie.close (tie.spec good-counts-requires returns size-of-requires returns-2)

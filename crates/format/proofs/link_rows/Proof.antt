@@ -1,4 +1,4 @@
--- `format::link_rows` meets its contract.
+-- `format::link_rows` meets its contract. Rests on Laying.
 use Prim.Native.Nat.{_-_}
 use native.Mathlib.Omega.{arith}
 use Rattle.format.proofs.Laying.{Linking, link-start, link-again, link-done, link-lies}
@@ -24,7 +24,11 @@ add-put : tie.Need-add-put Inv-loop μ-loop
 add-put c = omega arith
 
 put-requires : tie.Need-put-requires Inv-loop μ-loop
-put-requires c κs = (link-lies (c .before .before .before .loop .inv) (c .before .before .before .before .before .pre), record { low = omega arith; high = omega arith }, c .before .before .before .before .before .pre .within)
+put-requires c κs = (
+  link-lies (c .before .before .before .loop .inv) (c .before .before .before .before .before .pre),
+  record { low = omega arith; high = omega arith },
+  c .before .before .before .before .before .pre .within,
+)
 
 add-i : tie.Need-add-i Inv-loop μ-loop
 add-i c = omega arith
@@ -33,7 +37,9 @@ loop-less : tie.Need-loop-less Inv-loop μ-loop
 loop-less c = omega arith
 
 loop-again : tie.Need-loop-again Inv-loop μ-loop
-loop-again c = link-again (c .before .before .before .before .before .before .loop .inv) (omega arith) (c .before .before .before .before .next-free .ensures) (c .before .before .put .ensures)
+loop-again c =
+    link-again (c .before .before .before .before .before .before .loop .inv) (omega arith)
+    (c .before .before .before .before .next-free .ensures) (c .before .before .put .ensures)
 
 same-length : tie.Need-same-length Inv-loop μ-loop
 same-length c = c .before .loop .inv .size
@@ -42,4 +48,6 @@ returns : tie.Need-returns Inv-loop μ-loop
 returns c = link-done (c .before .loop .inv) (omega arith)
 
 pub link-rows-spec : {M : Type 1} → statement M
-link-rows-spec = tie.close (tie.spec Inv-loop μ-loop loop-holds add-next-free next-free-requires add-put put-requires add-i loop-less loop-again same-length returns)
+link-rows-spec =
+    tie.close (tie.spec Inv-loop μ-loop loop-holds add-next-free next-free-requires add-put put-requires add-i loop-less
+    loop-again same-length returns)

@@ -1,4 +1,4 @@
--- `format::next_free` meets its contract.
+-- `format::next_free` meets its contract. Rests on Laying.
 use native.Mathlib.Omega.{arith}
 use Rattle.format.proofs.Laying.{next-in, next-end}
 use borrow.Author.Needs.{needs}

@@ -1,4 +1,4 @@
--- `format::write_header` meets its contract: eight stores.
+-- `format::write_header` meets its contract: eight stores. Rests on nothing.
 use native.Mathlib.Omega.{arith}
 use lib.ListN.{length-set}
 use borrow.Author.Needs.{needs}
@@ -48,7 +48,17 @@ same-length : tie.Need-same-length
 same-length c = simp length-set
 
 returns : tie.Need-returns
-returns c = rw (c .before .before .before .before .word .ensures, c .before .before .before .word2 .ensures, c .before .before .word3 .ensures, c .before .word4 .ensures, c .word5 .ensures)
+returns c =
+    rw (
+      c .before .before .before .before .word .ensures,
+      c .before .before .before .word2 .ensures,
+      c .before .before .word3 .ensures,
+      c .before .word4 .ensures,
+      c .word5 .ensures,
+    )
 
 pub write-header-spec : {M : Type 1} → statement M
-write-header-spec = tie.close (tie.spec word-requires slice-write-w word-requires-2 slice-write-w-2 word-requires-3 slice-write-w-3 word-requires-4 slice-write-w-4 word-requires-5 slice-write-w-5 slice-write-w-6 slice-write-w-7 slice-write-w-8 same-length returns)
+write-header-spec =
+    tie.close (tie.spec word-requires slice-write-w word-requires-2 slice-write-w-2 word-requires-3 slice-write-w-3
+    word-requires-4 slice-write-w-4 word-requires-5 slice-write-w-5 slice-write-w-6 slice-write-w-7 slice-write-w-8
+    same-length returns)

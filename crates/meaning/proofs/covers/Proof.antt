@@ -7,7 +7,8 @@ returns : tie.Need-returns
 returns c = covers-low (c .before .before .args .p) (c .before .before .args .l) (c .if1 .taken)
 
 returns-2 : tie.Need-returns-2
-returns-2 c = covers-high (c .before .before .before .args .p) (c .before .before .before .args .l) (c .before .if1 .left)
+returns-2 c =
+    covers-high (c .before .before .before .args .p) (c .before .before .before .args .l) (c .before .if1 .left)
 
 pub covers-spec : {M : Type 1} → statement M
 covers-spec = tie.close (tie.spec returns returns-2)

@@ -7,7 +7,9 @@ use Rattle.script.proofs.end_line.Statement.{statement}
 use Rattle.script.proofs.end_line.Tie as tie
 
 slice-aggregate-answer : tie.Need-slice-aggregate-answer
-slice-aggregate-answer c = sym (length-take-le (c .before .before .before .before .args .run .held) (c .before .before .before .before .args .line .now) (c .before .before .before .before .pre .1))
+slice-aggregate-answer c =
+    sym (length-take-le (c .before .before .before .before .args .run .held)
+    (c .before .before .before .before .args .line .now) (c .before .before .before .before .pre .1))
 
 answer-requires : tie.Need-answer-requires
 answer-requires c κs = search needs

@@ -1,5 +1,5 @@
--- `script::take_all` meets its contract: what is counted stays inside its buffers; the measure is the number of turns that are left.
--- Assumes nothing.
+-- `script::take_all` meets its contract: what is counted stays inside its buffers; the measure is the number of turns
+-- that are left. Assumes nothing.
 use mathlib.Core.Path.{_≡_}
 use lib.ListN.{length}
 use Rattle.script.specs.Run.{Inside}
@@ -9,7 +9,8 @@ use Rattle.script.proofs.take_all.Statement.{statement}
 use Rattle.script.proofs.take_all.Tie as tie
 
 abbrev Inv-loop : tie.InvT-loop
-Inv-loop words₀ line₀ out₀ run₀ turns₀ words line out run turns = (length words ≡ length words₀) × (length line ≡ length line₀) × Inside run (length words) (length line)
+Inv-loop words₀ line₀ out₀ run₀ turns₀ words line out run turns =
+    (length words ≡ length words₀) × (length line ≡ length line₀) × Inside run (length words) (length line)
 
 abbrev μ-loop : tie.MeasureT-loop
 μ-loop words₀ line₀ out₀ run₀ turns₀ words line out run turns = turns
@@ -48,4 +49,6 @@ returns-2 : tie.Need-returns-2 Inv-loop μ-loop
 returns-2 c = search needs
 
 pub take-all-spec : {M : Type 1} → statement M
-take-all-spec = tie.close (tie.spec Inv-loop μ-loop loop-holds take-input-requires same-length same-length-2 returns sub-turns loop-less loop-again same-length-3 same-length-4 returns-2)
+take-all-spec =
+    tie.close (tie.spec Inv-loop μ-loop loop-holds take-input-requires same-length same-length-2 returns sub-turns
+    loop-less loop-again same-length-3 same-length-4 returns-2)

@@ -9,7 +9,9 @@ use Rattle.script.proofs.take_block.Statement.{statement}
 use Rattle.script.proofs.take_block.Tie as tie
 
 abbrev Inv-loop : tie.InvT-loop
-Inv-loop words₀ line₀ out₀ block r₀ i₀ words line out r i = (i ≤ length block) × (length words ≡ length words₀) × (length line ≡ length line₀) × Inside r (length words) (length line)
+Inv-loop words₀ line₀ out₀ block r₀ i₀ words line out r i =
+    (i ≤ length block) × (length words ≡ length words₀) × (length line ≡ length line₀)
+    × Inside r (length words) (length line)
 
 abbrev μ-loop : tie.MeasureT-loop
 μ-loop words₀ line₀ out₀ block r₀ i₀ words line out r i = length block - i
@@ -42,4 +44,6 @@ returns : tie.Need-returns Inv-loop μ-loop
 returns c = search needs
 
 pub take-block-spec : {M : Type 1} → statement M
-take-block-spec = tie.close (tie.spec Inv-loop μ-loop loop-holds shared-slice-read-take-byte take-byte-requires add-i loop-less loop-again same-length same-length-2 returns)
+take-block-spec =
+    tie.close (tie.spec Inv-loop μ-loop loop-holds shared-slice-read-take-byte take-byte-requires add-i loop-less
+    loop-again same-length same-length-2 returns)

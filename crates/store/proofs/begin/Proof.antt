@@ -1,4 +1,5 @@
--- `begin` meets its contract: on sound words it does what the call on them acts, and unsound words are refused. Assumes nothing.
+-- `begin` meets its contract: on sound words it does what the call on them acts, and unsound words are refused. Assumes
+-- nothing.
 use borrow.Author.Needs.{needs}
 use mathlib.Core.Path.{sym, _∙_}
 use Rattle.store.proofs.Doing.{does-sound, does-unsound}
@@ -16,7 +17,8 @@ same-length c = search needs
 
 returns : tie.Need-returns
 returns c =
-    does-sound (sym (c .before .before .before .before .before .check .ensures) ∙ c .before .before .before .before .if1 .taken)
+    does-sound
+    (sym (c .before .before .before .before .before .check .ensures) ∙ c .before .before .before .before .if1 .taken)
     (c .before .before .begin .ensures)
 
 same-length-2 : tie.Need-same-length-2

@@ -65,63 +65,81 @@ same-length c = search needs
 
 returns : tie.Need-returns
 unfolding act
-returns c = does-matched (c .before .before .before .before .enum-told .given .1) (does-same (λ s. refl) (c .before .before .begin .ensures))
+returns c =
+    does-matched (c .before .before .before .before .enum-told .given .1)
+    (does-same (λ s. refl) (c .before .before .begin .ensures))
 
 same-length-2 : tie.Need-same-length-2
 same-length-2 c = search needs
 
 returns-2 : tie.Need-returns-2
 unfolding act
-returns-2 c = does-matched (c .before .before .before .before .before .call .given .1) (does-same (λ s. refl) (c .before .before .write .ensures))
+returns-2 c =
+    does-matched (c .before .before .before .before .before .call .given .1)
+    (does-same (λ s. refl) (c .before .before .write .ensures))
 
 same-length-3 : tie.Need-same-length-3
 same-length-3 c = search needs
 
 returns-3 : tie.Need-returns-3
 unfolding act
-returns-3 c = does-matched (c .before .before .before .before .before .call2 .given .1) (does-same (λ s. refl) (c .before .before .lock .ensures))
+returns-3 c =
+    does-matched (c .before .before .before .before .before .call2 .given .1)
+    (does-same (λ s. refl) (c .before .before .lock .ensures))
 
 same-length-4 : tie.Need-same-length-4
 same-length-4 c = search needs
 
 returns-4 : tie.Need-returns-4
 unfolding act
-returns-4 c = does-matched (c .before .before .before .before .before .call3 .given .1) (does-same (λ s. refl) (c .before .before .read .ensures))
+returns-4 c =
+    does-matched (c .before .before .before .before .before .call3 .given .1)
+    (does-same (λ s. refl) (c .before .before .read .ensures))
 
 same-length-5 : tie.Need-same-length-5
 same-length-5 c = search needs
 
 returns-5 : tie.Need-returns-5
 unfolding act
-returns-5 c = does-matched (c .before .before .before .before .before .call4 .given .1) (does-same (λ s. refl) (c .before .before .commit .ensures))
+returns-5 c =
+    does-matched (c .before .before .before .before .before .call4 .given .1)
+    (does-same (λ s. refl) (c .before .before .commit .ensures))
 
 same-length-6 : tie.Need-same-length-6
 same-length-6 c = search needs
 
 returns-6 : tie.Need-returns-6
 unfolding act
-returns-6 c = does-matched (c .before .before .before .before .before .call5 .given .1) (does-same (λ s. refl) (c .before .before .abort .ensures))
+returns-6 c =
+    does-matched (c .before .before .before .before .before .call5 .given .1)
+    (does-same (λ s. refl) (c .before .before .abort .ensures))
 
 same-length-7 : tie.Need-same-length-7
 same-length-7 c = search needs
 
 returns-7 : tie.Need-returns-7
 unfolding act
-returns-7 c = does-matched (c .before .before .before .before .before .call6 .given .1) (does-same (λ s. refl) (c .before .before .settle .ensures))
+returns-7 c =
+    does-matched (c .before .before .before .before .before .call6 .given .1)
+    (does-same (λ s. refl) (c .before .before .settle .ensures))
 
 same-length-8 : tie.Need-same-length-8
 same-length-8 c = search needs
 
 returns-8 : tie.Need-returns-8
 unfolding act
-returns-8 c = does-matched (c .before .before .before .before .before .call7 .given .1) (does-same (λ s. refl) (c .before .before .purge .ensures))
+returns-8 c =
+    does-matched (c .before .before .before .before .before .call7 .given .1)
+    (does-same (λ s. refl) (c .before .before .purge .ensures))
 
 same-length-9 : tie.Need-same-length-9
 same-length-9 c = search needs
 
 returns-9 : tie.Need-returns-9
 unfolding act
-returns-9 c = does-matched (c .before .before .before .call8 .given .1) (does-same (λ s. refl) (shows-does _ _ (c .view .ensures)))
+returns-9 c =
+    does-matched (c .before .before .before .call8 .given .1)
+    (does-same (λ s. refl) (shows-does _ _ (c .view .ensures)))
 
 pub perform-spec : {M : Type 1} → statement M
 perform-spec =

@@ -1,4 +1,4 @@
--- `tables::access_heads` meets its contract.
+-- `tables::access_heads` meets its contract. Rests on nothing.
 use mathlib.Core.Path.{refl}
 use native.Mathlib.Omega.{arith}
 use Rattle.tables.specs.Layout.{accessHeads, slotBase}
@@ -7,13 +7,19 @@ use Rattle.tables.proofs.access_heads.Statement.{statement}
 use Rattle.tables.proofs.access_heads.Tie as tie
 
 mul-t2 : tie.Need-mul-t2
-mul-t2 c = let p = c .before .pre in omega (arith, p .records-high, p .edits-high, p .versions-high, p .locks-high, p .accesses-high)
+mul-t2 c =
+    let p = c .before .pre in
+    omega (arith, p .records-high, p .edits-high, p .versions-high, p .locks-high, p .accesses-high)
 
 add-t3 : tie.Need-add-t3
-add-t3 c = let p = c .before .pre in omega (arith, p .records-high, p .edits-high, p .versions-high, p .locks-high, p .accesses-high)
+add-t3 c =
+    let p = c .before .pre in
+    omega (arith, p .records-high, p .edits-high, p .versions-high, p .locks-high, p .accesses-high)
 
 add-t4 : tie.Need-add-t4
-add-t4 c = let p = c .before .pre in omega (arith, p .records-high, p .edits-high, p .versions-high, p .locks-high, p .accesses-high)
+add-t4 c =
+    let p = c .before .pre in
+    omega (arith, p .records-high, p .edits-high, p .versions-high, p .locks-high, p .accesses-high)
 
 returns : tie.Need-returns
 unfolding accessHeads slotBase

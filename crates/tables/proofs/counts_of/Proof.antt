@@ -1,4 +1,4 @@
--- `tables::counts_of` meets its contract.
+-- `tables::counts_of` meets its contract. Rests on nothing.
 use mathlib.Core.Path.{refl}
 use Rattle.tables.specs.Layout.{countsOf}
 use borrow.Author.Needs.{needs}
@@ -22,7 +22,14 @@ header-word-requires-5 c κs = search needs
 
 returns : tie.Need-returns
 unfolding countsOf
-returns c = rw (c .before .before .before .before .header-word .ensures, c .before .before .before .header-word2 .ensures, c .before .before .header-word3 .ensures, c .before .header-word4 .ensures, c .header-word5 .ensures) refl
+returns c =
+    rw (
+      c .before .before .before .before .header-word .ensures,
+      c .before .before .before .header-word2 .ensures,
+      c .before .before .header-word3 .ensures,
+      c .before .header-word4 .ensures,
+      c .header-word5 .ensures,
+    ) refl
 
 pub counts-of-spec : {M : Type 1} → statement M
 counts-of-spec =

@@ -1,4 +1,4 @@
--- `tables::good_counts` meets its contract.
+-- `tables::good_counts` meets its contract. Rests on nothing.
 use mathlib.Core.Path.{refl, sym, _∙_}
 use borrow.Author.Tests.{not-true, not-false}
 use Rattle.meaning.specs.Records.{goodCounts}
@@ -19,28 +19,56 @@ in-range-requires-2 c κs = search needs
 
 returns-2 : tie.Need-returns-2
 unfolding goodCounts
-returns-2 c = rw (sym (c .before .before .before .in-range .ensures) ∙ not-false _ (c .before .before .if1 .left), sym (c .before .in-range2 .ensures) ∙ not-true _ (c .if2 .taken)) refl
+returns-2 c =
+    rw (
+      sym (c .before .before .before .in-range .ensures) ∙ not-false _ (c .before .before .if1 .left),
+      sym (c .before .in-range2 .ensures) ∙ not-true _ (c .if2 .taken),
+    ) refl
 
 in-range-requires-3 : tie.Need-in-range-requires-3
 in-range-requires-3 c κs = search needs
 
 returns-3 : tie.Need-returns-3
 unfolding goodCounts
-returns-3 c = rw (sym (c .before .before .before .before .before .in-range .ensures) ∙ not-false _ (c .before .before .before .before .if1 .left), sym (c .before .before .before .in-range2 .ensures) ∙ not-false _ (c .before .before .if2 .left), sym (c .before .in-range3 .ensures) ∙ not-true _ (c .if3 .taken)) refl
+returns-3 c =
+    rw (
+      sym (c .before .before .before .before .before .in-range .ensures)
+          ∙ not-false _ (c .before .before .before .before .if1 .left),
+      sym (c .before .before .before .in-range2 .ensures) ∙ not-false _ (c .before .before .if2 .left),
+      sym (c .before .in-range3 .ensures) ∙ not-true _ (c .if3 .taken),
+    ) refl
 
 in-range-requires-4 : tie.Need-in-range-requires-4
 in-range-requires-4 c κs = search needs
 
 returns-4 : tie.Need-returns-4
 unfolding goodCounts
-returns-4 c = rw (sym (c .before .before .before .before .before .before .before .in-range .ensures) ∙ not-false _ (c .before .before .before .before .before .before .if1 .left), sym (c .before .before .before .before .before .in-range2 .ensures) ∙ not-false _ (c .before .before .before .before .if2 .left), sym (c .before .before .before .in-range3 .ensures) ∙ not-false _ (c .before .before .if3 .left), sym (c .before .in-range4 .ensures) ∙ not-true _ (c .if4 .taken)) refl
+returns-4 c =
+    let start = c .before .before .before .before .before .before .before in
+    rw (
+      sym (start .in-range .ensures) ∙ not-false _ (c .before .before .before .before .before .before .if1 .left),
+      sym (c .before .before .before .before .before .in-range2 .ensures)
+          ∙ not-false _ (c .before .before .before .before .if2 .left),
+      sym (c .before .before .before .in-range3 .ensures) ∙ not-false _ (c .before .before .if3 .left),
+      sym (c .before .in-range4 .ensures) ∙ not-true _ (c .if4 .taken),
+    ) refl
 
 in-range-requires-5 : tie.Need-in-range-requires-5
 in-range-requires-5 c κs = search needs
 
 returns-5 : tie.Need-returns-5
 unfolding goodCounts
-returns-5 c = rw (sym (c .before .before .before .before .before .before .before .before .in-range .ensures) ∙ not-false _ (c .before .before .before .before .before .before .before .if1 .left), sym (c .before .before .before .before .before .before .in-range2 .ensures) ∙ not-false _ (c .before .before .before .before .before .if2 .left), sym (c .before .before .before .before .in-range3 .ensures) ∙ not-false _ (c .before .before .before .if3 .left), sym (c .before .before .in-range4 .ensures) ∙ not-false _ (c .before .if4 .left)) (c .in-range5 .ensures ∙ sym (and-true _))
+returns-5 c =
+    let start = c .before .before .before .before .before .before .before .before in
+    rw (
+      sym (start .in-range .ensures)
+          ∙ not-false _ (c .before .before .before .before .before .before .before .if1 .left),
+      sym (c .before .before .before .before .before .before .in-range2 .ensures)
+          ∙ not-false _ (c .before .before .before .before .before .if2 .left),
+      sym (c .before .before .before .before .in-range3 .ensures)
+          ∙ not-false _ (c .before .before .before .if3 .left),
+      sym (c .before .before .in-range4 .ensures) ∙ not-false _ (c .before .if4 .left),
+    ) (c .in-range5 .ensures ∙ sym (and-true _))
 
 pub good-counts-spec : {M : Type 1} → statement M
 good-counts-spec =

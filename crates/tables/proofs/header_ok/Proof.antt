@@ -1,4 +1,4 @@
--- `tables::header_ok` meets its contract.
+-- `tables::header_ok` meets its contract. Rests on Header.
 use mathlib.Core.Path.{sym, refl, ap, _∙_}
 use native.Mathlib.Omega.{arith}
 use lib.ListN.{length}
@@ -19,13 +19,18 @@ good-counts-requires : tie.Need-good-counts-requires
 good-counts-requires c κs = search needs
 
 returns-2 : tie.Need-returns-2
-returns-2 c = sym (header-bad _ _ (c .before .before .counts-of .ensures) (sym (c .before .good-counts .ensures) ∙ not-true _ (c .if2 .taken)))
+returns-2 c =
+    sym (header-bad _ _ (c .before .before .counts-of .ensures)
+    (sym (c .before .good-counts .ensures) ∙ not-true _ (c .if2 .taken)))
 
 size-of-requires : tie.Need-size-of-requires
 size-of-requires c κs = good-ranged _ (sym (c .before .good-counts .ensures) ∙ not-false _ (c .if2 .left))
 
 returns-3 : tie.Need-returns-3
-returns-3 c = rw (c .size-of .ensures) (sym (header-size _ _ (c .before .before .before .counts-of .ensures) (sym (c .before .before .good-counts .ensures) ∙ not-false _ (c .before .if2 .left))))
+returns-3 c =
+    rw (c .size-of .ensures)
+    (sym (header-size _ _ (c .before .before .before .counts-of .ensures)
+    (sym (c .before .before .good-counts .ensures) ∙ not-false _ (c .before .if2 .left))))
 
 pub header-ok-spec : {M : Type 1} → statement M
 header-ok-spec =

@@ -1,4 +1,4 @@
--- `tables::in_range` meets its contract.
+-- `tables::in_range` meets its contract. Rests on Header.
 use mathlib.Core.Path.{sym}
 use Rattle.tables.proofs.Header.{range-low, range-high}
 use Rattle.tables.proofs.in_range.Statement.{statement}

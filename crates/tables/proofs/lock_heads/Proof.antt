@@ -1,4 +1,4 @@
--- `tables::lock_heads` meets its contract.
+-- `tables::lock_heads` meets its contract. Rests on nothing.
 use mathlib.Core.Path.{refl}
 use native.Mathlib.Omega.{arith}
 use Rattle.tables.specs.Layout.{lockHeads}

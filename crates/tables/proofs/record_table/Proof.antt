@@ -1,4 +1,4 @@
--- `tables::record_table` meets its contract.
+-- `tables::record_table` meets its contract. Rests on nothing.
 use mathlib.Core.Path.{refl}
 use native.Mathlib.Omega.{arith}
 use Rattle.tables.specs.Layout.{recordTable}

@@ -1,4 +1,4 @@
--- `tables::slot_table` meets its contract.
+-- `tables::slot_table` meets its contract. Rests on nothing.
 use mathlib.Core.Path.{refl}
 use native.Mathlib.Omega.{arith}
 use Rattle.tables.specs.Layout.{slotTable, slotBase}
@@ -7,10 +7,14 @@ use Rattle.tables.proofs.slot_table.Statement.{statement}
 use Rattle.tables.proofs.slot_table.Tie as tie
 
 mul-t2 : tie.Need-mul-t2
-mul-t2 c = let p = c .before .pre in omega (arith, p .records-high, p .edits-high, p .versions-high, p .locks-high, p .accesses-high)
+mul-t2 c =
+    let p = c .before .pre in
+    omega (arith, p .records-high, p .edits-high, p .versions-high, p .locks-high, p .accesses-high)
 
 add-t3 : tie.Need-add-t3
-add-t3 c = let p = c .before .pre in omega (arith, p .records-high, p .edits-high, p .versions-high, p .locks-high, p .accesses-high)
+add-t3 c =
+    let p = c .before .pre in
+    omega (arith, p .records-high, p .edits-high, p .versions-high, p .locks-high, p .accesses-high)
 
 returns : tie.Need-returns
 unfolding slotTable slotBase

@@ -1,4 +1,4 @@
--- `tables::version_heads` meets its contract.
+-- `tables::version_heads` meets its contract. Rests on nothing.
 use mathlib.Core.Path.{refl}
 use native.Mathlib.Omega.{arith}
 use Rattle.tables.specs.Layout.{versionHeads}

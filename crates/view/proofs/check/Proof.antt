@@ -1,4 +1,4 @@
--- `view::check` meets its contract.
+-- `view::check` meets its contract. Rests on nothing.
 use borrow.Author.Needs.{needs}
 use Rattle.view.proofs.check.Statement.{statement}
 use Rattle.view.proofs.check.Tie as tie

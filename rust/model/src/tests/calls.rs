@@ -101,22 +101,15 @@ fn misreading_4_purging_forgets_the_floor() {
 
 #[test]
 fn misreading_5_commit_saves_some_of_its_records() {
-    expect(
-        "
-        F 2 2 1 8 8 = ok
-        B = edit 65
-        L 65 0 5 5 A = locked 5 5
-        L 65 1 5 5 A = locked 5 5
-        W 65 0 1 = ok
-        W 65 1 2 = ok
-        C 65 5 S = no 12
+    expect(&format!(
+        "{NO_VERSION_ROW}
         V 0 5 = at 0 -
         V 1 5 = at 0 -
         R 65 0 9 A = own 1
         A 65 S = ok
         V 0 5 = at 0 -
-    ",
-    );
+    "
+    ));
 }
 
 #[test]

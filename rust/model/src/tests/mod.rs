@@ -1,8 +1,9 @@
-//! Each list has script lines on the left of `=` and answers on the right. `refusals` has the sixteen numbers, `calls` the session, the misreadings and
-//! the calls together, `scripts` the form of lines and the generator.
-//! `words` has lent words, laid out by hand or from a store (`layout`), and damaged.
+//! Each list has script lines on the left of `=` and answers on the right. `refusals` has the sixteen numbers, `calls`
+//! the session, the misreadings and the calls together, `scripts` the form of lines and the generator. `words` has lent
+//! words, laid out by hand or from a store (`layout`), and `damages` damaged ones.
 
 mod calls;
+mod damages;
 mod layout;
 mod refusals;
 mod scripts;
@@ -47,4 +48,15 @@ const SESSION: &str = "
     L 129 0 3 3 A = no 9
     P 0 8 = purged 0 2
     R 65 0 6 A = no 2
+";
+
+/// A commit of two records where one version row is left.
+const NO_VERSION_ROW: &str = "
+    F 2 2 1 8 8 = ok
+    B = edit 65
+    L 65 0 5 5 A = locked 5 5
+    L 65 1 5 5 A = locked 5 5
+    W 65 0 1 = ok
+    W 65 1 2 = ok
+    C 65 5 S = no 12
 ";

@@ -209,17 +209,7 @@ fn refusal_11_no_lock_row() {
 
 #[test]
 fn refusal_12_no_version_row() {
-    expect(
-        "
-        F 2 2 1 8 8 = ok
-        B = edit 65
-        L 65 0 5 5 A = locked 5 5
-        L 65 1 5 5 A = locked 5 5
-        W 65 0 1 = ok
-        W 65 1 2 = ok
-        C 65 5 S = no 12
-    ",
-    );
+    expect(NO_VERSION_ROW);
 }
 
 #[test]

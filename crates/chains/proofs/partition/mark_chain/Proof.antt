@@ -23,31 +23,56 @@ element-copy-out-if2 : tie.Need-element-copy-out-if2 Inv-loop μ-loop
 element-copy-out-if2 c = omega (arith, row-of _ _ _ (c .before .more .ensures) (c .if1 .taken))
 
 returns : tie.Need-returns Inv-loop μ-loop
-returns c = mark-twice (c .before .before .before .before .before .before .args .t) (now (c .before .before .before .before .before .before .args .w)) (c .before .before .before .before .loop .inv) (c .before .before .before .more .ensures) (c .before .before .if1 .taken) (c .if2 .taken)
+returns c =
+    mark-twice (c .before .before .before .before .before .before .args .t)
+    (now (c .before .before .before .before .before .before .args .w)) (c .before .before .before .before .loop .inv)
+    (c .before .before .before .more .ensures) (c .before .before .if1 .taken) (c .if2 .taken)
 
 element-write-marks : tie.Need-element-write-marks Inv-loop μ-loop
-element-write-marks c = omega (arith, row-of _ _ _ (c .before .before .before .more .ensures) (c .before .before .if1 .taken))
+element-write-marks c =
+    omega (arith, row-of _ _ _ (c .before .before .before .more .ensures) (c .before .before .if1 .taken))
 
 next-of-requires : tie.Need-next-of-requires Inv-loop μ-loop
-next-of-requires c κs = (c .before .before .before .before .before .before .pre .0, row-of _ _ _ (c .before .before .before .more .ensures) (c .before .before .if1 .taken))
+next-of-requires c κs = (
+  c .before .before .before .before .before .before .pre .0,
+  row-of _ _ _ (c .before .before .before .more .ensures) (c .before .before .if1 .taken),
+)
 
 sub-left : tie.Need-sub-left Inv-loop μ-loop
 sub-left c = fuel-of _ _ _ (c .before .before .before .before .more .ensures) (c .before .before .before .if1 .taken)
 
 loop-less : tie.Need-loop-less Inv-loop μ-loop
-loop-less c = omega (arith, fuel-of _ _ _ (c .before .before .before .before .more .ensures) (c .before .before .before .if1 .taken))
+loop-less c =
+    omega
+    (arith, fuel-of _ _ _ (c .before .before .before .before .more .ensures) (c .before .before .before .if1 .taken))
 
 loop-again : tie.Need-loop-again Inv-loop μ-loop
-loop-again c = mark-again (c .before .before .before .before .before .loop .inv) (c .before .before .before .before .before .before .before .pre .1) (c .before .before .before .before .more .ensures) (c .before .before .before .if1 .taken) (c .before .if2 .left) (c .next-of .ensures)
+loop-again c =
+    mark-again (c .before .before .before .before .before .loop .inv)
+    (c .before .before .before .before .before .before .before .pre .1)
+    (c .before .before .before .before .more .ensures) (c .before .before .before .if1 .taken) (c .before .if2 .left)
+    (c .next-of .ensures)
 
 add-result : tie.Need-add-result Inv-loop μ-loop
-add-result c = omega (arith, c .before .before .before .loop .inv .fuel, c .before .before .before .before .before .pre .1, c .before .before .before .before .before .pre .2)
+add-result c =
+    omega (
+      arith,
+      c .before .before .before .loop .inv .fuel,
+      c .before .before .before .before .before .pre .1,
+      c .before .before .before .before .before .pre .2,
+    )
 
 returns-2 : tie.Need-returns-2 Inv-loop μ-loop
-returns-2 c = mark-end (c .before .before .before .before .before .args .t) (now (c .before .before .before .before .before .args .w)) (c .before .before .before .loop .inv) (c .before .before .more .ensures) (c .before .if1 .left) (c .if3 .taken)
+returns-2 c =
+    mark-end (c .before .before .before .before .before .args .t)
+    (now (c .before .before .before .before .before .args .w)) (c .before .before .before .loop .inv)
+    (c .before .before .more .ensures) (c .before .if1 .left) (c .if3 .taken)
 
 returns-3 : tie.Need-returns-3 Inv-loop μ-loop
-returns-3 c = mark-broken (c .before .before .before .before .before .args .t) (now (c .before .before .before .before .before .args .w)) (c .before .before .before .loop .inv) (c .before .before .more .ensures) (c .before .if1 .left) (c .if3 .left)
+returns-3 c =
+    mark-broken (c .before .before .before .before .before .args .t)
+    (now (c .before .before .before .before .before .args .w)) (c .before .before .before .loop .inv)
+    (c .before .before .more .ensures) (c .before .if1 .left) (c .if3 .left)
 
 pub mark-chain-spec : {M : Type 1} → statement M
 mark-chain-spec =

@@ -1,4 +1,4 @@
--- `chains::partition_ok` meets its contract: the new array is clear.
+-- `chains::partition_ok` meets its contract: the new array is clear. Rests on Parts.
 use mathlib.Core.Path.{refl}
 use Rattle.chains.proofs.Parts.{clear-new}
 use borrow.Author.Needs.{needs}
@@ -6,7 +6,8 @@ use Rattle.chains.proofs.partition.partition_ok.Statement.{statement}
 use Rattle.chains.proofs.partition.partition_ok.Tie as tie
 
 partition-with-requires : tie.Need-partition-with-requires
-partition-with-requires c κs = (c .before .before .pre .0, c .before .before .pre .1, c .before .before .pre .2, clear-new 4096 refl)
+partition-with-requires c κs =
+    (c .before .before .pre .0, c .before .before .pre .1, c .before .before .pre .2, clear-new 4096 refl)
 
 returns : tie.Need-returns
 returns c = search needs

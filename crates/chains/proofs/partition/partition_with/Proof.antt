@@ -20,10 +20,17 @@ head-of-requires : tie.Need-head-of-requires Inv-loop μ-loop
 head-of-requires c κs = (c .before .before .before .pre .1, omega arith)
 
 mark-chain-requires : tie.Need-mark-chain-requires Inv-loop μ-loop
-mark-chain-requires c κs = (c .before .before .before .before .before .pre .0, c .before .before .before .before .before .pre .2, omega (arith, c .before .before .before .loop .inv .budget), c .before .before .before .loop .inv .marks)
+mark-chain-requires c κs = (
+  c .before .before .before .before .before .pre .0,
+  c .before .before .before .before .before .pre .2,
+  omega (arith, c .before .before .before .loop .inv .budget),
+  c .before .before .before .loop .inv .marks,
+)
 
 returns : tie.Need-returns Inv-loop μ-loop
-returns c = sym (part-broken (c .before .before .before .before .before .loop .inv) (omega arith) (c .before .before .before .head-of .ensures) (c .before .mark-chain .ensures) (c .if1 .taken))
+returns c =
+    sym (part-broken (c .before .before .before .before .before .loop .inv) (omega arith)
+    (c .before .before .before .head-of .ensures) (c .before .mark-chain .ensures) (c .if1 .taken))
 
 sub-room : tie.Need-sub-room Inv-loop μ-loop
 sub-room c = omega arith
@@ -35,7 +42,9 @@ loop-less : tie.Need-loop-less Inv-loop μ-loop
 loop-less c = omega arith
 
 loop-again : tie.Need-loop-again Inv-loop μ-loop
-loop-again c = part-again (c .before .before .before .before .before .loop .inv) (omega arith) (c .before .before .before .head-of .ensures) (c .before .mark-chain .ensures) (c .if1 .left)
+loop-again c =
+    part-again (c .before .before .before .before .before .loop .inv) (omega arith)
+    (c .before .before .before .head-of .ensures) (c .before .mark-chain .ensures) (c .if1 .left)
 
 returns-2 : tie.Need-returns-2 Inv-loop μ-loop
 returns-2 c = part-end (c .before .loop .inv) (omega arith)

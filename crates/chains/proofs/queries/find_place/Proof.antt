@@ -10,7 +10,8 @@ use Rattle.chains.proofs.queries.find_place.Statement.{statement}
 use Rattle.chains.proofs.queries.find_place.Tie as tie
 
 abbrev Inv-loop : tie.InvT-loop
-Inv-loop w t o q head n place₀ cur₀ left₀ place cur left = PlaceInv (link t w) n (above t w o q) (lastOr 0 (takeWhile (above t w o q) (chain t w head))) place cur left
+Inv-loop w t o q head n place₀ cur₀ left₀ place cur left =
+    PlaceInv (link t w) n (above t w o q) (lastOr 0 (takeWhile (above t w o q) (chain t w head))) place cur left
 
 abbrev μ-loop : tie.MeasureT-loop
 μ-loop w t o q head n place₀ cur₀ left₀ place cur left = left
@@ -23,22 +24,45 @@ more-requires : tie.Need-more-requires Inv-loop μ-loop
 more-requires c κs = tt
 
 get-requires : tie.Need-get-requires Inv-loop μ-loop
-get-requires c κs = (c .before .before .before .before .pre .0, row-of _ _ _ (c .before .more .ensures) (c .if1 .taken), c .before .before .before .before .pre .1)
+get-requires c κs = (
+  c .before .before .before .before .pre .0,
+  row-of _ _ _ (c .before .more .ensures) (c .if1 .taken),
+  c .before .before .before .before .pre .1,
+)
 
 returns : tie.Need-returns Inv-loop μ-loop
-returns c = place-out (c .before .before .before .before .loop .inv) (c .before .before .before .more .ensures) (c .before .before .if1 .taken) (above-no (c .before .before .before .before .before .before .args .t) (now (c .before .before .before .before .before .before .args .w)) (c .before .before .before .before .before .before .args .o) (c .before .before .before .before .before .before .args .q) _ _ (c .before .get .ensures) (c .if2 .taken))
+returns c =
+    place-out (c .before .before .before .before .loop .inv) (c .before .before .before .more .ensures)
+    (c .before .before .if1 .taken)
+    (above-no (c .before .before .before .before .before .before .args .t)
+    (now (c .before .before .before .before .before .before .args .w))
+    (c .before .before .before .before .before .before .args .o)
+    (c .before .before .before .before .before .before .args .q) _ _ (c .before .get .ensures) (c .if2 .taken))
 
 next-of-requires : tie.Need-next-of-requires Inv-loop μ-loop
-next-of-requires c κs = (c .before .before .before .before .before .before .pre .0, row-of _ _ _ (c .before .before .before .more .ensures) (c .before .before .if1 .taken))
+next-of-requires c κs = (
+  c .before .before .before .before .before .before .pre .0,
+  row-of _ _ _ (c .before .before .before .more .ensures) (c .before .before .if1 .taken),
+)
 
 sub-left : tie.Need-sub-left Inv-loop μ-loop
 sub-left c = fuel-of _ _ _ (c .before .before .before .before .more .ensures) (c .before .before .before .if1 .taken)
 
 loop-less : tie.Need-loop-less Inv-loop μ-loop
-loop-less c = omega (arith, fuel-of _ _ _ (c .before .before .before .before .more .ensures) (c .before .before .before .if1 .taken))
+loop-less c =
+    omega
+    (arith, fuel-of _ _ _ (c .before .before .before .before .more .ensures) (c .before .before .before .if1 .taken))
 
 loop-again : tie.Need-loop-again Inv-loop μ-loop
-loop-again c = place-again (c .before .before .before .before .before .loop .inv) (c .before .before .before .before .more .ensures) (c .before .before .before .if1 .taken) (above-yes (c .before .before .before .before .before .before .before .args .t) (now (c .before .before .before .before .before .before .before .args .w)) (c .before .before .before .before .before .before .before .args .o) (c .before .before .before .before .before .before .before .args .q) _ _ (c .before .before .get .ensures) (c .before .if2 .left)) (c .next-of .ensures)
+loop-again c =
+    place-again (c .before .before .before .before .before .loop .inv)
+    (c .before .before .before .before .more .ensures) (c .before .before .before .if1 .taken)
+    (above-yes (c .before .before .before .before .before .before .before .args .t)
+    (now (c .before .before .before .before .before .before .before .args .w))
+    (c .before .before .before .before .before .before .before .args .o)
+    (c .before .before .before .before .before .before .before .args .q) _ _ (c .before .before .get .ensures)
+    (c .before .if2 .left))
+    (c .next-of .ensures)
 
 returns-2 : tie.Need-returns-2 Inv-loop μ-loop
 returns-2 c = place-end (c .before .before .loop .inv) (c .before .more .ensures) (c .if1 .left)

@@ -1,4 +1,4 @@
--- `chains::larger` meets its contract.
+-- `chains::larger` meets its contract. Rests on nothing.
 use native.Mathlib.Omega.{arith}
 use Rattle.chains.specs.Table.{larger}
 use borrow.Author.Needs.{needs}

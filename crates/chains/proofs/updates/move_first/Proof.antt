@@ -14,16 +14,27 @@ same-length : tie.Need-same-length
 same-length c = search needs
 
 returns : tie.Need-returns
-returns c = record { head = sym (c .if1 .taken) ∙ c .before .head-of .ensures; empty = λ _. refl; done = λ k. absurd (omega arith) }
+returns c = record {
+  head = sym (c .if1 .taken) ∙ c .before .head-of .ensures;
+  empty = λ _. refl;
+  done = λ k. absurd (omega arith);
+}
 
 unlink-requires : tie.Need-unlink-requires
-unlink-requires c κs = (c .before .before .before .before .before .pre, first-follows (c .before .before .before .before .before .pre) (c .before .before .head-of .ensures) (c .before .if1 .left))
+unlink-requires c κs = (
+  c .before .before .before .before .before .pre,
+  first-follows (c .before .before .before .before .before .pre) (c .before .before .head-of .ensures)
+      (c .before .if1 .left),
+)
 
 same-length-2 : tie.Need-same-length-2
 same-length-2 c = search needs
 
 returns-2 : tie.Need-returns-2
-returns-2 c = move-law (c .before .before .before .before .before .before .before .before .pre) (c .before .before .before .before .before .head-of .ensures) (c .before .before .before .before .if1 .left) (c .before .before .unlink .ensures)
+returns-2 c =
+    move-law (c .before .before .before .before .before .before .before .before .pre)
+    (c .before .before .before .before .before .head-of .ensures) (c .before .before .before .before .if1 .left)
+    (c .before .before .unlink .ensures)
 
 pub move-first-spec : {M : Type 1} → statement M
 move-first-spec =

@@ -23,15 +23,24 @@ returns c = λ next. letter-off _ _ _ (c .before .before .letter .ensures) (c .e
 
 returns-2 : tie.Need-returns-2
 unfolding extent
-returns-2 c = λ next. letter-at _ _ _ _ _ (c .before .before .before .before .letter .ensures) (c .before .before .b .given .1) _ _ ∙ rw (eq-eqb _ 65 (c .if1 .taken))
+returns-2 c =
+    λ next. letter-at _ _ _ _ _ (c .before .before .before .before .letter .ensures) (c .before .before .b .given .1) _
+    _
+    ∙ rw (eq-eqb _ 65 (c .if1 .taken))
 
 returns-3 : tie.Need-returns-3
 unfolding extent
-returns-3 c = λ next. letter-at _ _ _ _ _ (c .before .before .before .before .before .letter .ensures) (c .before .before .before .b .given .1) _ _ ∙ rw (ne-eqb _ 65 (c .before .if1 .left), eq-eqb _ 80 (c .if2 .taken))
+returns-3 c =
+    λ next. letter-at _ _ _ _ _ (c .before .before .before .before .before .letter .ensures)
+    (c .before .before .before .b .given .1) _ _
+    ∙ rw (ne-eqb _ 65 (c .before .if1 .left), eq-eqb _ 80 (c .if2 .taken))
 
 returns-4 : tie.Need-returns-4
 unfolding extent
-returns-4 c = λ next. letter-at _ _ _ _ _ (c .before .before .before .before .before .letter .ensures) (c .before .before .before .b .given .1) _ _ ∙ rw (ne-eqb _ 65 (c .before .if1 .left), ne-eqb _ 80 (c .if2 .left))
+returns-4 c =
+    λ next. letter-at _ _ _ _ _ (c .before .before .before .before .before .letter .ensures)
+    (c .before .before .before .b .given .1) _ _
+    ∙ rw (ne-eqb _ 65 (c .before .if1 .left), ne-eqb _ 80 (c .if2 .left))
 
 pub extent-spec : {M : Type 1} → statement M
 extent-spec =

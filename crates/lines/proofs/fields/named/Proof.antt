@@ -21,7 +21,9 @@ point-of-word-requires : tie.Need-point-of-word-requires
 point-of-word-requires c κs = search needs
 
 returns-2 : tie.Need-returns-2
-returns-2 c = λ next. rw (point-is _ _ (c .point-of-word .ensures)) (number-at _ _ _ _ _ (c .before .before .before .before .number .ensures) (c .before .before .n .given .1) _)
+returns-2 c =
+    λ next. rw (point-is _ _ (c .point-of-word .ensures))
+    (number-at _ _ _ _ _ (c .before .before .before .before .number .ensures) (c .before .before .n .given .1) _)
 
 pub named-spec : {M : Type 1} → statement M
 named-spec =

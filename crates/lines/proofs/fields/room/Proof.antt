@@ -1,5 +1,5 @@
--- `lines::fields::room` meets its contract: n * 10 + d is at most 2^64 - 1 exactly if d is at most 2^64 - 1 - n * 10, once n * 10 fits.
--- Assumes nothing.
+-- `lines::fields::room` meets its contract: n * 10 + d is at most 2^64 - 1 exactly if d is at most 2^64 - 1 - n * 10,
+-- once n * 10 fits. Assumes nothing.
 use borrow.Author.Needs.{needs}
 use mathlib.Core.Path.{sym}
 use Rattle.lines.proofs.Digits.{room-none, room-some}

@@ -1,5 +1,5 @@
--- `lines::calls::abort` meets its contract: the fields are found one after another, and none is left; each missing one ends in `Malformed`.
--- Assumes nothing.
+-- `lines::calls::abort` meets its contract: the fields are found one after another, and none is left; each missing one
+-- ends in `Malformed`. Assumes nothing.
 use borrow.Author.Needs.{needs}
 use mathlib.Core.Path.{sym, _∙_}
 use Rattle.lines.specs.Calls.{aborting}
@@ -31,24 +31,34 @@ enum-told-2 c = search needs
 
 returns-2 : tie.Need-returns-2
 unfolding aborting
-returns-2 c = sym (number-at _ _ _ _ _ (c .before .before .before .before .before .before .number .ensures) (c .before .before .before .before .h .given .1) _
+returns-2 c =
+    sym (number-at _ _ _ _ _ (c .before .before .before .before .before .before .number .ensures)
+    (c .before .before .before .before .h .given .1) _
     ∙ finish-off _ _ _ (c .before .before .finish .ensures) (c .enum-told2 .given .1) _)
 
 returns-3 : tie.Need-returns-3
 unfolding aborting
-returns-3 c = sym (number-at _ _ _ _ _ (c .before .before .before .before .before .before .before .before .number .ensures) (c .before .before .before .before .before .before .h .given .1) _
+returns-3 c =
+    let start = c .before .before .before .before .before .before .before .before .before .before in
+    sym (number-at _ _ _ _ _ (c .before .before .before .before .before .before .before .before .number .ensures)
+    (c .before .before .before .before .before .before .h .given .1) _
     ∙ finish-at _ _ _ _ _ (c .before .before .before .before .finish .ensures) (c .before .before .f .given .1) _
-    ∙ done-within (c .before .before .before .before .before .before .before .before .before .before .args .line .now) _ _ (c .if1 .taken))
+    ∙ done-within (start .args .line .now) _ _ (c .if1 .taken))
 
 handle-of-word-requires : tie.Need-handle-of-word-requires
 handle-of-word-requires c κs = search needs
 
 returns-4 : tie.Need-returns-4
 unfolding aborting
-returns-4 c = rw (handle-is _ _ (c .handle-of-word .ensures))
-    (sym (number-at _ _ _ _ _ (c .before .before .before .before .before .before .before .before .before .number .ensures) (c .before .before .before .before .before .before .before .h .given .1) _
-    ∙ finish-at _ _ _ _ _ (c .before .before .before .before .before .finish .ensures) (c .before .before .before .f .given .1) _
-    ∙ done-past (c .before .before .before .before .before .before .before .before .before .before .before .args .line .now) _ _ (c .before .if1 .left)))
+returns-4 c =
+    let start = c .before .before .before .before .before .before .before .before .before .before .before in
+    rw (handle-is _ _ (c .handle-of-word .ensures))
+    (sym (number-at _ _ _ _ _
+    (c .before .before .before .before .before .before .before .before .before .number .ensures)
+    (c .before .before .before .before .before .before .before .h .given .1) _
+    ∙ finish-at _ _ _ _ _ (c .before .before .before .before .before .finish .ensures)
+    (c .before .before .before .f .given .1) _
+    ∙ done-past (start .args .line .now) _ _ (c .before .if1 .left)))
 
 pub abort-spec : {M : Type 1} → statement M
 abort-spec =

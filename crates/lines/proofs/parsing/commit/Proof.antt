@@ -1,9 +1,10 @@
--- `lines::calls::commit` meets its contract: the fields are found one after another, and none is left; each missing one ends in `Malformed`.
--- Assumes nothing.
+-- `lines::calls::commit` meets its contract: the fields are found one after another, and none is left; each missing one
+-- ends in `Malformed`. Assumes nothing.
 use borrow.Author.Needs.{needs}
 use mathlib.Core.Path.{sym, _∙_}
 use Rattle.lines.specs.Calls.{committing}
-use Rattle.lines.proofs.Found.{number-at, number-off, finish-at, finish-off, pick-at, pick-off, done-past, done-within, handle-is}
+use Rattle.lines.proofs.Found.{number-at, number-off, finish-at, finish-off, pick-at, pick-off, done-past}
+use Rattle.lines.proofs.Found.{done-within, handle-is}
 use Rattle.lines.proofs.parsing.commit.Statement.{statement}
 use Rattle.lines.proofs.parsing.commit.Tie as tie
 
@@ -31,7 +32,9 @@ enum-told-2 c = search needs
 
 returns-2 : tie.Need-returns-2
 unfolding committing
-returns-2 c = sym (number-at _ _ _ _ _ (c .before .before .before .before .before .before .number .ensures) (c .before .before .before .before .h .given .1) _
+returns-2 c =
+    sym (number-at _ _ _ _ _ (c .before .before .before .before .before .before .number .ensures)
+    (c .before .before .before .before .h .given .1) _
     ∙ pick-off _ _ _ (c .before .before .pick .ensures) (c .enum-told2 .given .1) _)
 
 finish-requires : tie.Need-finish-requires
@@ -45,27 +48,41 @@ enum-told-3 c = search needs
 
 returns-3 : tie.Need-returns-3
 unfolding committing
-returns-3 c = sym (number-at _ _ _ _ _ (c .before .before .before .before .before .before .before .before .before .before .number .ensures) (c .before .before .before .before .before .before .before .before .h .given .1) _
-    ∙ pick-at _ _ _ _ _ (c .before .before .before .before .before .before .pick .ensures) (c .before .before .before .before .p .given .1) _
+returns-3 c =
+    let start = c .before .before .before .before .before .before .before .before .before .before in
+    sym (number-at _ _ _ _ _ (start .number .ensures)
+    (c .before .before .before .before .before .before .before .before .h .given .1) _
+    ∙ pick-at _ _ _ _ _ (c .before .before .before .before .before .before .pick .ensures)
+    (c .before .before .before .before .p .given .1) _
     ∙ finish-off _ _ _ (c .before .before .finish .ensures) (c .enum-told3 .given .1) _)
 
 returns-4 : tie.Need-returns-4
 unfolding committing
-returns-4 c = sym (number-at _ _ _ _ _ (c .before .before .before .before .before .before .before .before .before .before .before .before .number .ensures) (c .before .before .before .before .before .before .before .before .before .before .h .given .1) _
-    ∙ pick-at _ _ _ _ _ (c .before .before .before .before .before .before .before .before .pick .ensures) (c .before .before .before .before .before .before .p .given .1) _
+returns-4 c =
+    let middle = c .before .before .before .before .before .before .before in
+    let start = middle .before .before .before .before .before .before .before in
+    sym (number-at _ _ _ _ _ (middle .before .before .before .before .before .number .ensures)
+    (middle .before .before .before .h .given .1) _
+    ∙ pick-at _ _ _ _ _ (middle .before .pick .ensures) (c .before .before .before .before .before .before .p .given .1)
+    _
     ∙ finish-at _ _ _ _ _ (c .before .before .before .before .finish .ensures) (c .before .before .f .given .1) _
-    ∙ done-within (c .before .before .before .before .before .before .before .before .before .before .before .before .before .before .args .line .now) _ _ (c .if1 .taken))
+    ∙ done-within (start .args .line .now) _ _ (c .if1 .taken))
 
 handle-of-word-requires : tie.Need-handle-of-word-requires
 handle-of-word-requires c κs = search needs
 
 returns-5 : tie.Need-returns-5
 unfolding committing
-returns-5 c = rw (handle-is _ _ (c .handle-of-word .ensures))
-    (sym (number-at _ _ _ _ _ (c .before .before .before .before .before .before .before .before .before .before .before .before .before .number .ensures) (c .before .before .before .before .before .before .before .before .before .before .before .h .given .1) _
-    ∙ pick-at _ _ _ _ _ (c .before .before .before .before .before .before .before .before .before .pick .ensures) (c .before .before .before .before .before .before .before .p .given .1) _
-    ∙ finish-at _ _ _ _ _ (c .before .before .before .before .before .finish .ensures) (c .before .before .before .f .given .1) _
-    ∙ done-past (c .before .before .before .before .before .before .before .before .before .before .before .before .before .before .before .args .line .now) _ _ (c .before .if1 .left)))
+returns-5 c =
+    let middle = c .before .before .before .before .before .before .before in
+    let start = middle .before .before .before .before .before .before .before .before in
+    rw (handle-is _ _ (c .handle-of-word .ensures))
+    (sym (number-at _ _ _ _ _ (middle .before .before .before .before .before .before .number .ensures)
+    (middle .before .before .before .before .h .given .1) _
+    ∙ pick-at _ _ _ _ _ (middle .before .before .pick .ensures) (middle .p .given .1) _
+    ∙ finish-at _ _ _ _ _ (c .before .before .before .before .before .finish .ensures)
+    (c .before .before .before .f .given .1) _
+    ∙ done-past (start .args .line .now) _ _ (c .before .if1 .left)))
 
 pub commit-spec : {M : Type 1} → statement M
 commit-spec =

@@ -1,5 +1,5 @@
--- `lines::calls::format` meets its contract: the fields are found one after another, and none is left; each missing one ends in `Malformed`.
--- Assumes nothing.
+-- `lines::calls::format` meets its contract: the fields are found one after another, and none is left; each missing one
+-- ends in `Malformed`. Assumes nothing.
 use borrow.Author.Needs.{needs}
 use mathlib.Core.Path.{sym, _∙_}
 use Rattle.lines.specs.Calls.{formatting}
@@ -31,7 +31,9 @@ enum-told-2 c = search needs
 
 returns-2 : tie.Need-returns-2
 unfolding formatting
-returns-2 c = sym (number-at _ _ _ _ _ (c .before .before .before .before .before .before .number .ensures) (c .before .before .before .before .r .given .1) _
+returns-2 c =
+    sym (number-at _ _ _ _ _ (c .before .before .before .before .before .before .number .ensures)
+    (c .before .before .before .before .r .given .1) _
     ∙ number-off _ _ _ (c .before .before .number2 .ensures) (c .enum-told2 .given .1) _)
 
 number-requires-3 : tie.Need-number-requires-3
@@ -45,8 +47,12 @@ enum-told-3 c = search needs
 
 returns-3 : tie.Need-returns-3
 unfolding formatting
-returns-3 c = sym (number-at _ _ _ _ _ (c .before .before .before .before .before .before .before .before .before .before .number .ensures) (c .before .before .before .before .before .before .before .before .r .given .1) _
-    ∙ number-at _ _ _ _ _ (c .before .before .before .before .before .before .number2 .ensures) (c .before .before .before .before .e .given .1) _
+returns-3 c =
+    let start = c .before .before .before .before .before .before .before .before .before .before in
+    sym (number-at _ _ _ _ _ (start .number .ensures)
+    (c .before .before .before .before .before .before .before .before .r .given .1) _
+    ∙ number-at _ _ _ _ _ (c .before .before .before .before .before .before .number2 .ensures)
+    (c .before .before .before .before .e .given .1) _
     ∙ number-off _ _ _ (c .before .before .number3 .ensures) (c .enum-told3 .given .1) _)
 
 number-requires-4 : tie.Need-number-requires-4
@@ -60,9 +66,13 @@ enum-told-4 c = search needs
 
 returns-4 : tie.Need-returns-4
 unfolding formatting
-returns-4 c = sym (number-at _ _ _ _ _ (c .before .before .before .before .before .before .before .before .before .before .before .before .before .before .number .ensures) (c .before .before .before .before .before .before .before .before .before .before .before .before .r .given .1) _
-    ∙ number-at _ _ _ _ _ (c .before .before .before .before .before .before .before .before .before .before .number2 .ensures) (c .before .before .before .before .before .before .before .before .e .given .1) _
-    ∙ number-at _ _ _ _ _ (c .before .before .before .before .before .before .number3 .ensures) (c .before .before .before .before .v .given .1) _
+returns-4 c =
+    let middle = c .before .before .before .before .before .before .before in
+    let start = middle .before .before .before .before .before .before .before in
+    sym (number-at _ _ _ _ _ (start .number .ensures) (middle .before .before .before .before .before .r .given .1) _
+    ∙ number-at _ _ _ _ _ (middle .before .before .before .number2 .ensures) (middle .before .e .given .1) _
+    ∙ number-at _ _ _ _ _ (c .before .before .before .before .before .before .number3 .ensures)
+    (c .before .before .before .before .v .given .1) _
     ∙ number-off _ _ _ (c .before .before .number4 .ensures) (c .enum-told4 .given .1) _)
 
 number-requires-5 : tie.Need-number-requires-5
@@ -76,29 +86,52 @@ enum-told-5 c = search needs
 
 returns-5 : tie.Need-returns-5
 unfolding formatting
-returns-5 c = sym (number-at _ _ _ _ _ (c .before .before .before .before .before .before .before .before .before .before .before .before .before .before .before .before .before .before .number .ensures) (c .before .before .before .before .before .before .before .before .before .before .before .before .before .before .before .before .r .given .1) _
-    ∙ number-at _ _ _ _ _ (c .before .before .before .before .before .before .before .before .before .before .before .before .before .before .number2 .ensures) (c .before .before .before .before .before .before .before .before .before .before .before .before .e .given .1) _
-    ∙ number-at _ _ _ _ _ (c .before .before .before .before .before .before .before .before .before .before .number3 .ensures) (c .before .before .before .before .before .before .before .before .v .given .1) _
-    ∙ number-at _ _ _ _ _ (c .before .before .before .before .before .before .number4 .ensures) (c .before .before .before .before .l .given .1) _
+returns-5 c =
+    let middle = c .before .before .before .before .before .before .before .before .before in
+    let start = middle .before .before .before .before .before .before .before .before .before in
+    sym (number-at _ _ _ _ _ (start .number .ensures)
+    (middle .before .before .before .before .before .before .before .r .given .1) _
+    ∙ number-at _ _ _ _ _ (middle .before .before .before .before .before .number2 .ensures)
+    (middle .before .before .before .e .given .1) _
+    ∙ number-at _ _ _ _ _ (middle .before .number3 .ensures)
+    (c .before .before .before .before .before .before .before .before .v .given .1) _
+    ∙ number-at _ _ _ _ _ (c .before .before .before .before .before .before .number4 .ensures)
+    (c .before .before .before .before .l .given .1) _
     ∙ number-off _ _ _ (c .before .before .number5 .ensures) (c .enum-told5 .given .1) _)
 
 returns-6 : tie.Need-returns-6
 unfolding formatting
-returns-6 c = sym (number-at _ _ _ _ _ (c .before .before .before .before .before .before .before .before .before .before .before .before .before .before .before .before .before .before .before .before .number .ensures) (c .before .before .before .before .before .before .before .before .before .before .before .before .before .before .before .before .before .before .r .given .1) _
-    ∙ number-at _ _ _ _ _ (c .before .before .before .before .before .before .before .before .before .before .before .before .before .before .before .before .number2 .ensures) (c .before .before .before .before .before .before .before .before .before .before .before .before .before .before .e .given .1) _
-    ∙ number-at _ _ _ _ _ (c .before .before .before .before .before .before .before .before .before .before .before .before .number3 .ensures) (c .before .before .before .before .before .before .before .before .before .before .v .given .1) _
-    ∙ number-at _ _ _ _ _ (c .before .before .before .before .before .before .before .before .number4 .ensures) (c .before .before .before .before .before .before .l .given .1) _
+returns-6 c =
+    let middle = c .before .before .before .before .before .before .before .before .before .before .before in
+    let start = middle .before .before .before .before .before .before .before .before .before .before .before in
+    sym (number-at _ _ _ _ _
+    (middle .before .before .before .before .before .before .before .before .before .number .ensures)
+    (middle .before .before .before .before .before .before .before .r .given .1) _
+    ∙ number-at _ _ _ _ _ (middle .before .before .before .before .before .number2 .ensures)
+    (middle .before .before .before .e .given .1) _
+    ∙ number-at _ _ _ _ _ (middle .before .number3 .ensures)
+    (c .before .before .before .before .before .before .before .before .before .before .v .given .1) _
+    ∙ number-at _ _ _ _ _ (c .before .before .before .before .before .before .before .before .number4 .ensures)
+    (c .before .before .before .before .before .before .l .given .1) _
     ∙ number-at _ _ _ _ _ (c .before .before .before .before .number5 .ensures) (c .before .before .a .given .1) _
-    ∙ done-within (c .before .before .before .before .before .before .before .before .before .before .before .before .before .before .before .before .before .before .before .before .before .before .args .line .now) _ _ (c .if1 .taken))
+    ∙ done-within (start .args .line .now) _ _ (c .if1 .taken))
 
 returns-7 : tie.Need-returns-7
 unfolding formatting
-returns-7 c = sym (number-at _ _ _ _ _ (c .before .before .before .before .before .before .before .before .before .before .before .before .before .before .before .before .before .before .before .before .number .ensures) (c .before .before .before .before .before .before .before .before .before .before .before .before .before .before .before .before .before .before .r .given .1) _
-    ∙ number-at _ _ _ _ _ (c .before .before .before .before .before .before .before .before .before .before .before .before .before .before .before .before .number2 .ensures) (c .before .before .before .before .before .before .before .before .before .before .before .before .before .before .e .given .1) _
-    ∙ number-at _ _ _ _ _ (c .before .before .before .before .before .before .before .before .before .before .before .before .number3 .ensures) (c .before .before .before .before .before .before .before .before .before .before .v .given .1) _
-    ∙ number-at _ _ _ _ _ (c .before .before .before .before .before .before .before .before .number4 .ensures) (c .before .before .before .before .before .before .l .given .1) _
+returns-7 c =
+    let middle = c .before .before .before .before .before .before .before .before .before .before .before in
+    let start = middle .before .before .before .before .before .before .before .before .before .before .before in
+    sym (number-at _ _ _ _ _
+    (middle .before .before .before .before .before .before .before .before .before .number .ensures)
+    (middle .before .before .before .before .before .before .before .r .given .1) _
+    ∙ number-at _ _ _ _ _ (middle .before .before .before .before .before .number2 .ensures)
+    (middle .before .before .before .e .given .1) _
+    ∙ number-at _ _ _ _ _ (middle .before .number3 .ensures)
+    (c .before .before .before .before .before .before .before .before .before .before .v .given .1) _
+    ∙ number-at _ _ _ _ _ (c .before .before .before .before .before .before .before .before .number4 .ensures)
+    (c .before .before .before .before .before .before .l .given .1) _
     ∙ number-at _ _ _ _ _ (c .before .before .before .before .number5 .ensures) (c .before .before .a .given .1) _
-    ∙ done-past (c .before .before .before .before .before .before .before .before .before .before .before .before .before .before .before .before .before .before .before .before .before .before .args .line .now) _ _ (c .if1 .left))
+    ∙ done-past (start .args .line .now) _ _ (c .if1 .left))
 
 pub format-spec : {M : Type 1} → statement M
 format-spec =

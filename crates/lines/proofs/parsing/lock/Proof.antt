@@ -1,9 +1,10 @@
--- `lines::calls::lock` meets its contract: the fields are found one after another, and none is left; each missing one ends in `Malformed`.
--- Assumes nothing.
+-- `lines::calls::lock` meets its contract: the fields are found one after another, and none is left; each missing one
+-- ends in `Malformed`. Assumes nothing.
 use borrow.Author.Needs.{needs}
 use mathlib.Core.Path.{sym, _∙_}
 use Rattle.lines.specs.Calls.{locking}
-use Rattle.lines.proofs.Found.{number-at, number-off, extent-at, extent-off, done-past, done-within, handle-is, point-is}
+use Rattle.lines.proofs.Found.{number-at, number-off, extent-at, extent-off, done-past, done-within, handle-is}
+use Rattle.lines.proofs.Found.{point-is}
 use Rattle.lines.proofs.parsing.lock.Statement.{statement}
 use Rattle.lines.proofs.parsing.lock.Tie as tie
 
@@ -31,7 +32,9 @@ enum-told-2 c = search needs
 
 returns-2 : tie.Need-returns-2
 unfolding locking
-returns-2 c = sym (number-at _ _ _ _ _ (c .before .before .before .before .before .before .number .ensures) (c .before .before .before .before .h .given .1) _
+returns-2 c =
+    sym (number-at _ _ _ _ _ (c .before .before .before .before .before .before .number .ensures)
+    (c .before .before .before .before .h .given .1) _
     ∙ number-off _ _ _ (c .before .before .number2 .ensures) (c .enum-told2 .given .1) _)
 
 number-requires-3 : tie.Need-number-requires-3
@@ -45,8 +48,12 @@ enum-told-3 c = search needs
 
 returns-3 : tie.Need-returns-3
 unfolding locking
-returns-3 c = sym (number-at _ _ _ _ _ (c .before .before .before .before .before .before .before .before .before .before .number .ensures) (c .before .before .before .before .before .before .before .before .h .given .1) _
-    ∙ number-at _ _ _ _ _ (c .before .before .before .before .before .before .number2 .ensures) (c .before .before .before .before .r .given .1) _
+returns-3 c =
+    let start = c .before .before .before .before .before .before .before .before .before .before in
+    sym (number-at _ _ _ _ _ (start .number .ensures)
+    (c .before .before .before .before .before .before .before .before .h .given .1) _
+    ∙ number-at _ _ _ _ _ (c .before .before .before .before .before .before .number2 .ensures)
+    (c .before .before .before .before .r .given .1) _
     ∙ number-off _ _ _ (c .before .before .number3 .ensures) (c .enum-told3 .given .1) _)
 
 number-requires-4 : tie.Need-number-requires-4
@@ -60,9 +67,13 @@ enum-told-4 c = search needs
 
 returns-4 : tie.Need-returns-4
 unfolding locking
-returns-4 c = sym (number-at _ _ _ _ _ (c .before .before .before .before .before .before .before .before .before .before .before .before .before .before .number .ensures) (c .before .before .before .before .before .before .before .before .before .before .before .before .h .given .1) _
-    ∙ number-at _ _ _ _ _ (c .before .before .before .before .before .before .before .before .before .before .number2 .ensures) (c .before .before .before .before .before .before .before .before .r .given .1) _
-    ∙ number-at _ _ _ _ _ (c .before .before .before .before .before .before .number3 .ensures) (c .before .before .before .before .low .given .1) _
+returns-4 c =
+    let middle = c .before .before .before .before .before .before .before in
+    let start = middle .before .before .before .before .before .before .before in
+    sym (number-at _ _ _ _ _ (start .number .ensures) (middle .before .before .before .before .before .h .given .1) _
+    ∙ number-at _ _ _ _ _ (middle .before .before .before .number2 .ensures) (middle .before .r .given .1) _
+    ∙ number-at _ _ _ _ _ (c .before .before .before .before .before .before .number3 .ensures)
+    (c .before .before .before .before .low .given .1) _
     ∙ number-off _ _ _ (c .before .before .number4 .ensures) (c .enum-told4 .given .1) _)
 
 extent-requires : tie.Need-extent-requires
@@ -76,20 +87,35 @@ enum-told-5 c = search needs
 
 returns-5 : tie.Need-returns-5
 unfolding locking
-returns-5 c = sym (number-at _ _ _ _ _ (c .before .before .before .before .before .before .before .before .before .before .before .before .before .before .before .before .before .before .number .ensures) (c .before .before .before .before .before .before .before .before .before .before .before .before .before .before .before .before .h .given .1) _
-    ∙ number-at _ _ _ _ _ (c .before .before .before .before .before .before .before .before .before .before .before .before .before .before .number2 .ensures) (c .before .before .before .before .before .before .before .before .before .before .before .before .r .given .1) _
-    ∙ number-at _ _ _ _ _ (c .before .before .before .before .before .before .before .before .before .before .number3 .ensures) (c .before .before .before .before .before .before .before .before .low .given .1) _
-    ∙ number-at _ _ _ _ _ (c .before .before .before .before .before .before .number4 .ensures) (c .before .before .before .before .high .given .1) _
+returns-5 c =
+    let middle = c .before .before .before .before .before .before .before .before .before in
+    let start = middle .before .before .before .before .before .before .before .before .before in
+    sym (number-at _ _ _ _ _ (start .number .ensures)
+    (middle .before .before .before .before .before .before .before .h .given .1) _
+    ∙ number-at _ _ _ _ _ (middle .before .before .before .before .before .number2 .ensures)
+    (middle .before .before .before .r .given .1) _
+    ∙ number-at _ _ _ _ _ (middle .before .number3 .ensures)
+    (c .before .before .before .before .before .before .before .before .low .given .1) _
+    ∙ number-at _ _ _ _ _ (c .before .before .before .before .before .before .number4 .ensures)
+    (c .before .before .before .before .high .given .1) _
     ∙ extent-off _ _ _ (c .before .before .extent .ensures) (c .enum-told5 .given .1) _)
 
 returns-6 : tie.Need-returns-6
 unfolding locking
-returns-6 c = sym (number-at _ _ _ _ _ (c .before .before .before .before .before .before .before .before .before .before .before .before .before .before .before .before .before .before .before .before .number .ensures) (c .before .before .before .before .before .before .before .before .before .before .before .before .before .before .before .before .before .before .h .given .1) _
-    ∙ number-at _ _ _ _ _ (c .before .before .before .before .before .before .before .before .before .before .before .before .before .before .before .before .number2 .ensures) (c .before .before .before .before .before .before .before .before .before .before .before .before .before .before .r .given .1) _
-    ∙ number-at _ _ _ _ _ (c .before .before .before .before .before .before .before .before .before .before .before .before .number3 .ensures) (c .before .before .before .before .before .before .before .before .before .before .low .given .1) _
-    ∙ number-at _ _ _ _ _ (c .before .before .before .before .before .before .before .before .number4 .ensures) (c .before .before .before .before .before .before .high .given .1) _
+returns-6 c =
+    let middle = c .before .before .before .before .before .before .before .before .before .before .before in
+    let start = middle .before .before .before .before .before .before .before .before .before .before .before in
+    sym (number-at _ _ _ _ _
+    (middle .before .before .before .before .before .before .before .before .before .number .ensures)
+    (middle .before .before .before .before .before .before .before .h .given .1) _
+    ∙ number-at _ _ _ _ _ (middle .before .before .before .before .before .number2 .ensures)
+    (middle .before .before .before .r .given .1) _
+    ∙ number-at _ _ _ _ _ (middle .before .number3 .ensures)
+    (c .before .before .before .before .before .before .before .before .before .before .low .given .1) _
+    ∙ number-at _ _ _ _ _ (c .before .before .before .before .before .before .before .before .number4 .ensures)
+    (c .before .before .before .before .before .before .high .given .1) _
     ∙ extent-at _ _ _ _ _ (c .before .before .before .before .extent .ensures) (c .before .before .w .given .1) _
-    ∙ done-within (c .before .before .before .before .before .before .before .before .before .before .before .before .before .before .before .before .before .before .before .before .before .before .args .line .now) _ _ (c .if1 .taken))
+    ∙ done-within (start .args .line .now) _ _ (c .if1 .taken))
 
 handle-of-word-requires : tie.Need-handle-of-word-requires
 handle-of-word-requires c κs = search needs
@@ -102,13 +128,27 @@ point-of-word-requires-2 c κs = search needs
 
 returns-7 : tie.Need-returns-7
 unfolding locking
-returns-7 c = rw (handle-is _ _ (c .before .before .handle-of-word .ensures), point-is _ _ (c .before .point-of-word .ensures), point-is _ _ (c .point-of-word2 .ensures))
-    (sym (number-at _ _ _ _ _ (c .before .before .before .before .before .before .before .before .before .before .before .before .before .before .before .before .before .before .before .before .before .before .before .number .ensures) (c .before .before .before .before .before .before .before .before .before .before .before .before .before .before .before .before .before .before .before .before .before .h .given .1) _
-    ∙ number-at _ _ _ _ _ (c .before .before .before .before .before .before .before .before .before .before .before .before .before .before .before .before .before .before .before .number2 .ensures) (c .before .before .before .before .before .before .before .before .before .before .before .before .before .before .before .before .before .r .given .1) _
-    ∙ number-at _ _ _ _ _ (c .before .before .before .before .before .before .before .before .before .before .before .before .before .before .before .number3 .ensures) (c .before .before .before .before .before .before .before .before .before .before .before .before .before .low .given .1) _
-    ∙ number-at _ _ _ _ _ (c .before .before .before .before .before .before .before .before .before .before .before .number4 .ensures) (c .before .before .before .before .before .before .before .before .before .high .given .1) _
-    ∙ extent-at _ _ _ _ _ (c .before .before .before .before .before .before .before .extent .ensures) (c .before .before .before .before .before .w .given .1) _
-    ∙ done-past (c .before .before .before .before .before .before .before .before .before .before .before .before .before .before .before .before .before .before .before .before .before .before .before .before .before .args .line .now) _ _ (c .before .before .before .if1 .left)))
+returns-7 c =
+    let middle = c .before .before .before .before .before .before .before .before .before .before .before .before in
+    let start =
+    middle .before .before .before .before .before .before .before .before .before .before .before .before .before in
+    rw (
+      handle-is _ _ (c .before .before .handle-of-word .ensures),
+      point-is _ _ (c .before .point-of-word .ensures),
+      point-is _ _ (c .point-of-word2 .ensures),
+    )
+    (sym (number-at _ _ _ _ _
+    (middle .before .before .before .before .before .before .before .before .before .before .before .number .ensures)
+    (middle .before .before .before .before .before .before .before .before .before .h .given .1) _
+    ∙ number-at _ _ _ _ _ (middle .before .before .before .before .before .before .before .number2 .ensures)
+    (middle .before .before .before .before .before .r .given .1) _
+    ∙ number-at _ _ _ _ _ (middle .before .before .before .number3 .ensures) (middle .before .low .given .1) _
+    ∙ number-at _ _ _ _ _
+    (c .before .before .before .before .before .before .before .before .before .before .before .number4 .ensures)
+    (c .before .before .before .before .before .before .before .before .before .high .given .1) _
+    ∙ extent-at _ _ _ _ _ (c .before .before .before .before .before .before .before .extent .ensures)
+    (c .before .before .before .before .before .w .given .1) _
+    ∙ done-past (start .args .line .now) _ _ (c .before .before .before .if1 .left)))
 
 pub lock-spec : {M : Type 1} → statement M
 lock-spec =

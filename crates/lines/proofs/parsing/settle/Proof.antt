@@ -1,5 +1,5 @@
--- `lines::calls::settle` meets its contract: the fields are found one after another, and none is left; each missing one ends in `Malformed`.
--- Assumes nothing.
+-- `lines::calls::settle` meets its contract: the fields are found one after another, and none is left; each missing one
+-- ends in `Malformed`. Assumes nothing.
 use borrow.Author.Needs.{needs}
 use mathlib.Core.Path.{sym, ap, _∙_}
 use Rattle.meaning.specs.declared.Call.the-variants as C
@@ -24,7 +24,9 @@ returns c = sym (number-off _ _ _ (c .before .before .number .ensures) (c .enum-
 
 returns-2 : tie.Need-returns-2
 unfolding settling
-returns-2 c = sym (number-at _ _ _ _ _ (c .before .before .before .before .number .ensures) (c .before .before .h .given .1) _ ∙ done-within (c .before .before .before .before .before .before .args .line .now) _ _ (c .if1 .taken))
+returns-2 c =
+    sym (number-at _ _ _ _ _ (c .before .before .before .before .number .ensures) (c .before .before .h .given .1) _
+    ∙ done-within (c .before .before .before .before .before .before .args .line .now) _ _ (c .if1 .taken))
 
 handle-of-word-requires : tie.Need-handle-of-word-requires
 handle-of-word-requires c κs = search needs
@@ -32,7 +34,9 @@ handle-of-word-requires c κs = search needs
 returns-3 : tie.Need-returns-3
 unfolding settling
 returns-3 c = ap (λ x. P.Call (C.Settle x)) (handle-is _ _ (c .handle-of-word .ensures))
-    ∙ sym (number-at _ _ _ _ _ (c .before .before .before .before .before .number .ensures) (c .before .before .before .h .given .1) _ ∙ done-past (c .before .before .before .before .before .before .before .args .line .now) _ _ (c .before .if1 .left))
+    ∙ sym (number-at _ _ _ _ _ (c .before .before .before .before .before .number .ensures)
+    (c .before .before .before .h .given .1) _
+    ∙ done-past (c .before .before .before .before .before .before .before .args .line .now) _ _ (c .before .if1 .left))
 
 pub settle-spec : {M : Type 1} → statement M
 settle-spec =

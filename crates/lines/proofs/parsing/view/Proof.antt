@@ -1,5 +1,5 @@
--- `lines::calls::view` meets its contract: the fields are found one after another, and none is left; each missing one ends in `Malformed`.
--- Assumes nothing.
+-- `lines::calls::view` meets its contract: the fields are found one after another, and none is left; each missing one
+-- ends in `Malformed`. Assumes nothing.
 use borrow.Author.Needs.{needs}
 use mathlib.Core.Path.{sym, _∙_}
 use Rattle.lines.specs.Calls.{viewing}
@@ -31,24 +31,34 @@ enum-told-2 c = search needs
 
 returns-2 : tie.Need-returns-2
 unfolding viewing
-returns-2 c = sym (number-at _ _ _ _ _ (c .before .before .before .before .before .before .number .ensures) (c .before .before .before .before .r .given .1) _
+returns-2 c =
+    sym (number-at _ _ _ _ _ (c .before .before .before .before .before .before .number .ensures)
+    (c .before .before .before .before .r .given .1) _
     ∙ number-off _ _ _ (c .before .before .number2 .ensures) (c .enum-told2 .given .1) _)
 
 returns-3 : tie.Need-returns-3
 unfolding viewing
-returns-3 c = sym (number-at _ _ _ _ _ (c .before .before .before .before .before .before .before .before .number .ensures) (c .before .before .before .before .before .before .r .given .1) _
+returns-3 c =
+    let start = c .before .before .before .before .before .before .before .before .before .before in
+    sym (number-at _ _ _ _ _ (c .before .before .before .before .before .before .before .before .number .ensures)
+    (c .before .before .before .before .before .before .r .given .1) _
     ∙ number-at _ _ _ _ _ (c .before .before .before .before .number2 .ensures) (c .before .before .p .given .1) _
-    ∙ done-within (c .before .before .before .before .before .before .before .before .before .before .args .line .now) _ _ (c .if1 .taken))
+    ∙ done-within (start .args .line .now) _ _ (c .if1 .taken))
 
 point-of-word-requires : tie.Need-point-of-word-requires
 point-of-word-requires c κs = search needs
 
 returns-4 : tie.Need-returns-4
 unfolding viewing
-returns-4 c = rw (point-is _ _ (c .point-of-word .ensures))
-    (sym (number-at _ _ _ _ _ (c .before .before .before .before .before .before .before .before .before .number .ensures) (c .before .before .before .before .before .before .before .r .given .1) _
-    ∙ number-at _ _ _ _ _ (c .before .before .before .before .before .number2 .ensures) (c .before .before .before .p .given .1) _
-    ∙ done-past (c .before .before .before .before .before .before .before .before .before .before .before .args .line .now) _ _ (c .before .if1 .left)))
+returns-4 c =
+    let start = c .before .before .before .before .before .before .before .before .before .before .before in
+    rw (point-is _ _ (c .point-of-word .ensures))
+    (sym (number-at _ _ _ _ _
+    (c .before .before .before .before .before .before .before .before .before .number .ensures)
+    (c .before .before .before .before .before .before .before .r .given .1) _
+    ∙ number-at _ _ _ _ _ (c .before .before .before .before .before .number2 .ensures)
+    (c .before .before .before .p .given .1) _
+    ∙ done-past (start .args .line .now) _ _ (c .before .if1 .left)))
 
 pub view-spec : {M : Type 1} → statement M
 view-spec =

@@ -1,5 +1,5 @@
--- `lines::calls::write` meets its contract: the fields are found one after another, and none is left; each missing one ends in `Malformed`.
--- Assumes nothing.
+-- `lines::calls::write` meets its contract: the fields are found one after another, and none is left; each missing one
+-- ends in `Malformed`. Assumes nothing.
 use borrow.Author.Needs.{needs}
 use mathlib.Core.Path.{sym, _∙_}
 use Rattle.lines.specs.Calls.{writing}
@@ -31,7 +31,9 @@ enum-told-2 c = search needs
 
 returns-2 : tie.Need-returns-2
 unfolding writing
-returns-2 c = sym (number-at _ _ _ _ _ (c .before .before .before .before .before .before .number .ensures) (c .before .before .before .before .h .given .1) _
+returns-2 c =
+    sym (number-at _ _ _ _ _ (c .before .before .before .before .before .before .number .ensures)
+    (c .before .before .before .before .h .given .1) _
     ∙ number-off _ _ _ (c .before .before .number2 .ensures) (c .enum-told2 .given .1) _)
 
 number-requires-3 : tie.Need-number-requires-3
@@ -45,27 +47,41 @@ enum-told-3 c = search needs
 
 returns-3 : tie.Need-returns-3
 unfolding writing
-returns-3 c = sym (number-at _ _ _ _ _ (c .before .before .before .before .before .before .before .before .before .before .number .ensures) (c .before .before .before .before .before .before .before .before .h .given .1) _
-    ∙ number-at _ _ _ _ _ (c .before .before .before .before .before .before .number2 .ensures) (c .before .before .before .before .r .given .1) _
+returns-3 c =
+    let start = c .before .before .before .before .before .before .before .before .before .before in
+    sym (number-at _ _ _ _ _ (start .number .ensures)
+    (c .before .before .before .before .before .before .before .before .h .given .1) _
+    ∙ number-at _ _ _ _ _ (c .before .before .before .before .before .before .number2 .ensures)
+    (c .before .before .before .before .r .given .1) _
     ∙ number-off _ _ _ (c .before .before .number3 .ensures) (c .enum-told3 .given .1) _)
 
 returns-4 : tie.Need-returns-4
 unfolding writing
-returns-4 c = sym (number-at _ _ _ _ _ (c .before .before .before .before .before .before .before .before .before .before .before .before .number .ensures) (c .before .before .before .before .before .before .before .before .before .before .h .given .1) _
-    ∙ number-at _ _ _ _ _ (c .before .before .before .before .before .before .before .before .number2 .ensures) (c .before .before .before .before .before .before .r .given .1) _
+returns-4 c =
+    let middle = c .before .before .before .before .before .before .before in
+    let start = middle .before .before .before .before .before .before .before in
+    sym (number-at _ _ _ _ _ (middle .before .before .before .before .before .number .ensures)
+    (middle .before .before .before .h .given .1) _
+    ∙ number-at _ _ _ _ _ (middle .before .number2 .ensures)
+    (c .before .before .before .before .before .before .r .given .1) _
     ∙ number-at _ _ _ _ _ (c .before .before .before .before .number3 .ensures) (c .before .before .v .given .1) _
-    ∙ done-within (c .before .before .before .before .before .before .before .before .before .before .before .before .before .before .args .line .now) _ _ (c .if1 .taken))
+    ∙ done-within (start .args .line .now) _ _ (c .if1 .taken))
 
 handle-of-word-requires : tie.Need-handle-of-word-requires
 handle-of-word-requires c κs = search needs
 
 returns-5 : tie.Need-returns-5
 unfolding writing
-returns-5 c = rw (handle-is _ _ (c .handle-of-word .ensures))
-    (sym (number-at _ _ _ _ _ (c .before .before .before .before .before .before .before .before .before .before .before .before .before .number .ensures) (c .before .before .before .before .before .before .before .before .before .before .before .h .given .1) _
-    ∙ number-at _ _ _ _ _ (c .before .before .before .before .before .before .before .before .before .number2 .ensures) (c .before .before .before .before .before .before .before .r .given .1) _
-    ∙ number-at _ _ _ _ _ (c .before .before .before .before .before .number3 .ensures) (c .before .before .before .v .given .1) _
-    ∙ done-past (c .before .before .before .before .before .before .before .before .before .before .before .before .before .before .before .args .line .now) _ _ (c .before .if1 .left)))
+returns-5 c =
+    let middle = c .before .before .before .before .before .before .before in
+    let start = middle .before .before .before .before .before .before .before .before in
+    rw (handle-is _ _ (c .handle-of-word .ensures))
+    (sym (number-at _ _ _ _ _ (middle .before .before .before .before .before .before .number .ensures)
+    (middle .before .before .before .before .h .given .1) _
+    ∙ number-at _ _ _ _ _ (middle .before .before .number2 .ensures) (middle .r .given .1) _
+    ∙ number-at _ _ _ _ _ (c .before .before .before .before .before .number3 .ensures)
+    (c .before .before .before .v .given .1) _
+    ∙ done-past (start .args .line .now) _ _ (c .before .if1 .left)))
 
 pub write-spec : {M : Type 1} → statement M
 write-spec =

@@ -23,7 +23,9 @@ line-of-refusal-requires : tie.Need-line-of-refusal-requires
 line-of-refusal-requires c κs = search needs
 
 returns : tie.Need-returns
-returns c = rw (c .word-of-point2 .ensures, c .before .word-of-point .ensures) (sym (ap (λ x. lineOf (ofLock x)) (c .before .before .before .r .given .1)))
+returns c =
+    rw (c .word-of-point2 .ensures, c .before .word-of-point .ensures)
+    (sym (ap (λ x. lineOf (ofLock x)) (c .before .before .before .r .given .1)))
 
 returns-2 : tie.Need-returns-2
 returns-2 c = rw (c .line-of-refusal .ensures) (sym (ap (λ x. lineOf (ofLock x)) (c .before .before .r2 .given .1)))

@@ -47,7 +47,9 @@ put-number-put-requires : (t : ℕ) → put-number-lts.Need-put-requires (
   put-number-below t,
   put-number.Post,
 ) (put-number-at t) put-number.Post
-put-number-put-requires t c κs = let e = ap length (decimal-small (c .before .before .before .args .n) (c .before .if1 .taken)) in omega (arith, c .before .before .before .pre .1)
+put-number-put-requires t c κs =
+    let e = ap length (decimal-small (c .before .before .before .args .n) (c .before .if1 .taken)) in
+    omega (arith, c .before .before .before .pre .1)
 
 put-number-same-length : (t : ℕ) → put-number-lts.Need-same-length (
   put-reads.Asked,
@@ -63,7 +65,10 @@ put-number-returns : (t : ℕ) → put-number-lts.Need-returns (
   put-number-below t,
   put-number.Post,
 ) (put-number-at t) put-number.Post
-put-number-returns t c = appended-as (c .before .before .put .ensures) (sym (decimal-small (c .before .before .before .before .before .before .args .n) (c .before .before .before .before .if1 .taken))) refl
+put-number-returns t c =
+    appended-as (c .before .before .put .ensures)
+    (sym (decimal-small (c .before .before .before .before .before .before .args .n)
+    (c .before .before .before .before .if1 .taken))) refl
 
 put-number-put-number-requires : (t : ℕ) → put-number-lts.Need-put-number-requires (
   put-reads.Asked,
@@ -71,7 +76,9 @@ put-number-put-number-requires : (t : ℕ) → put-number-lts.Need-put-number-re
   put-number-below t,
   put-number.Post,
 ) (put-number-at t) put-number.Post
-put-number-put-number-requires t c κs = let e = decimal-longer (c .before .before .before .args .n) (c .before .if1 .left) in (omega (arith, c .before .before .before .pre .0), omega (arith, c .before .before .before .pre .1))
+put-number-put-number-requires t c κs =
+    let e = decimal-longer (c .before .before .before .args .n) (c .before .if1 .left) in
+    (omega (arith, c .before .before .before .pre .0), omega (arith, c .before .before .before .pre .1))
 
 put-number-cast-put-2 : (t : ℕ) → put-number-lts.Need-cast-put-2 (
   put-reads.Asked,
@@ -95,7 +102,16 @@ put-number-put-requires-2 : (t : ℕ) → put-number-lts.Need-put-requires-2 (
   put-number-below t,
   put-number.Post,
 ) (put-number-at t) put-number.Post
-put-number-put-requires-2 t c κs = let e = decimal-longer (c .before .before .before .before .before .before .before .args .n) (c .before .before .before .before .before .if1 .left) in omega (arith, c .before .before .before .before .before .before .before .pre .1, c .before .before .before .put-number .ensures .ends, c .before .before .before .put-number .ensures .long)
+put-number-put-requires-2 t c κs =
+    let e =
+    decimal-longer (c .before .before .before .before .before .before .before .args .n)
+    (c .before .before .before .before .before .if1 .left) in
+    omega (
+      arith,
+      c .before .before .before .before .before .before .before .pre .1,
+      c .before .before .before .put-number .ensures .ends,
+      c .before .before .before .put-number .ensures .long,
+    )
 
 put-number-same-length-2 : (t : ℕ) → put-number-lts.Need-same-length-2 (
   put-reads.Asked,
@@ -103,7 +119,8 @@ put-number-same-length-2 : (t : ℕ) → put-number-lts.Need-same-length-2 (
   put-number-below t,
   put-number.Post,
 ) (put-number-at t) put-number.Post
-put-number-same-length-2 t c = c .before .before .put2 .kept .0 ∙ c .before .before .before .before .before .before .put-number .kept .0
+put-number-same-length-2 t c =
+    c .before .before .put2 .kept .0 ∙ c .before .before .before .before .before .before .put-number .kept .0
 
 put-number-returns-2 : (t : ℕ) → put-number-lts.Need-returns-2 (
   put-reads.Asked,
@@ -111,7 +128,12 @@ put-number-returns-2 : (t : ℕ) → put-number-lts.Need-returns-2 (
   put-number-below t,
   put-number.Post,
 ) (put-number-at t) put-number.Post
-put-number-returns-2 t c = appended-as (appended-then (c .before .before .before .before .before .before .put-number .ensures) (c .before .before .put2 .ensures)) (sym (decimal-more (c .before .before .before .before .before .before .before .before .before .before .args .n) (c .before .before .before .before .before .before .before .before .if1 .left))) refl
+put-number-returns-2 t c =
+    let start = c .before .before .before .before .before .before .before .before .before .before in
+    appended-as (appended-then (c .before .before .before .before .before .before .put-number .ensures)
+    (c .before .before .put2 .ensures))
+    (sym (decimal-more (start .args .n) (c .before .before .before .before .before .before .before .before .if1 .left)))
+    refl
 
 pub +put-number-spec : {M : Type 1} → statement M
 +put-number-spec = close μ-put-number λ t. put-number-lts.spec (

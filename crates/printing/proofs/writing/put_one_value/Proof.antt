@@ -12,18 +12,41 @@ put-one-requires : tie.Need-put-one-requires
 put-one-requires c κs = search needs
 
 put-requires : tie.Need-put-requires
-put-requires c κs = let d = one-long (c .before .before .before .before .before .before .before .args .word .now) (c .before .before .before .before .before .before .before .args .n) (omega (arith, c .before .before .before .before .before .before .before .fits .n)) in omega (arith, c .before .before .before .before .before .before .before .pre, c .before .before .before .put-one .ensures .ends, c .before .before .before .put-one .ensures .long)
+put-requires c κs =
+    let d =
+    one-long (c .before .before .before .before .before .before .before .args .word .now)
+    (c .before .before .before .before .before .before .before .args .n)
+    (omega (arith, c .before .before .before .before .before .before .before .fits .n)) in
+    omega (
+      arith,
+      c .before .before .before .before .before .before .before .pre,
+      c .before .before .before .put-one .ensures .ends,
+      c .before .before .before .put-one .ensures .long,
+    )
 
 put-value-requires : tie.Need-put-value-requires
-put-value-requires c κs = let d = one-long (c .before .before .before .before .before .before .before .before .before .before .before .args .word .now) (c .before .before .before .before .before .before .before .before .before .before .before .args .n) (omega (arith, c .before .before .before .before .before .before .before .before .before .before .before .fits .n)) in
-    omega (arith, c .before .before .before .before .before .before .before .before .before .before .before .pre, c .before .before .before .before .before .before .before .put-one .ensures .ends, c .before .before .before .before .before .before .before .put-one .ensures .long, c .before .before .before .put .ensures .ends, c .before .before .before .put .ensures .long)
+put-value-requires c κs =
+    let start = c .before .before .before .before .before .before .before .before .before .before .before in
+    let d = one-long (start .args .word .now) (start .args .n) (omega (arith, start .fits .n)) in
+    omega (
+      arith,
+      start .pre,
+      c .before .before .before .before .before .before .before .put-one .ensures .ends,
+      c .before .before .before .before .before .before .before .put-one .ensures .long,
+      c .before .before .before .put .ensures .ends,
+      c .before .before .before .put .ensures .long,
+    )
 
 same-length : tie.Need-same-length
 same-length c = search needs
 
 returns : tie.Need-returns
 unfolding oneValue
-returns c = appended-then (c .before .before .before .before .before .before .before .before .before .before .put-one .ensures) (appended-then (c .before .before .before .before .before .before .put .ensures) (c .before .before .put-value .ensures))
+returns c =
+    let start = c .before .before .before .before .before .before .before .before .before .before in
+    appended-then (start .put-one .ensures)
+    (appended-then (c .before .before .before .before .before .before .put .ensures)
+    (c .before .before .put-value .ensures))
 
 pub put-one-value-spec : {M : Type 1} → statement M
 put-one-value-spec =

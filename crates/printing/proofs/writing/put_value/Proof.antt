@@ -19,21 +19,27 @@ enum-known-v : tie.Need-enum-known-v
 enum-known-v c = search needs
 
 put-number-requires : tie.Need-put-number-requires
-put-number-requires c κs = let d = decimal-long (c .before .before .v .given .0 .0) (omega (arith, c .before .known-told .given)) in omega (arith, c .before .before .before .before .before .pre)
+put-number-requires c κs =
+    let d = decimal-long (c .before .before .v .given .0 .0) (omega (arith, c .before .known-told .given)) in
+    omega (arith, c .before .before .before .before .before .pre)
 
 same-length : tie.Need-same-length
 same-length c = search needs
 
 returns : tie.Need-returns
 unfolding valueText
-returns c = appended-as (c .before .before .put .ensures) (sym (ap valueText (c .before .before .before .before .enum-told .given .1))) refl
+returns c =
+    appended-as (c .before .before .put .ensures)
+    (sym (ap valueText (c .before .before .before .before .enum-told .given .1))) refl
 
 same-length-2 : tie.Need-same-length-2
 same-length-2 c = search needs
 
 returns-2 : tie.Need-returns-2
 unfolding valueText
-returns-2 c = appended-as (c .before .before .put-number .ensures) (sym (ap valueText (c .before .before .before .before .before .v .given .1))) refl
+returns-2 c =
+    appended-as (c .before .before .put-number .ensures)
+    (sym (ap valueText (c .before .before .before .before .before .v .given .1))) refl
 
 pub put-value-spec : {M : Type 1} → statement M
 put-value-spec =

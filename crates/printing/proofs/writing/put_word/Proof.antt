@@ -1,5 +1,5 @@
--- `printing::writing::put_word` meets its contract: the loop's invariant is `Copied`: the first i bytes of the word are written.
--- Assumes nothing.
+-- `printing::writing::put_word` meets its contract: the loop's invariant is `Copied`: the first i bytes of the word are
+-- written. Assumes nothing.
 use native.Mathlib.Omega.{arith}
 use Prim.Native.Nat.{_-_}
 use lib.ListN.{length}
@@ -23,7 +23,8 @@ add-out : tie.Need-add-out Inv-loop μ-loop
 add-out c = let h = c .before .before .loop .inv .so-far .long in omega (arith, (c .before .before .before .pre))
 
 slice-write-out : tie.Need-slice-write-out Inv-loop μ-loop
-slice-write-out c = let h = c .before .before .loop .inv .so-far .long in omega (arith, (c .before .before .before .pre))
+slice-write-out c =
+    let h = c .before .before .loop .inv .so-far .long in omega (arith, (c .before .before .before .pre))
 
 add-i : tie.Need-add-i Inv-loop μ-loop
 add-i c = omega arith
@@ -32,7 +33,10 @@ loop-less : tie.Need-loop-less Inv-loop μ-loop
 loop-less c = omega arith
 
 loop-again : tie.Need-loop-again Inv-loop μ-loop
-loop-again c = copied-again (c .before .before .before .args .out .now) (c .before .before .before .args .word .now) _ (c .before .before .before .args .at) _ (c .before .before .loop .inv) (c .before .before .before .pre) (c .before .loop-test .taken)
+loop-again c =
+    copied-again (c .before .before .before .args .out .now) (c .before .before .before .args .word .now) _
+    (c .before .before .before .args .at) _ (c .before .before .loop .inv) (c .before .before .before .pre)
+    (c .before .loop-test .taken)
 
 add-result : tie.Need-add-result Inv-loop μ-loop
 add-result c = let h = c .before .loop .inv .within in omega (arith, (c .before .before .pre))
@@ -41,7 +45,9 @@ same-length : tie.Need-same-length Inv-loop μ-loop
 same-length c = c .before .loop .inv .so-far .long
 
 returns : tie.Need-returns Inv-loop μ-loop
-returns c = copied-ends (c .before .before .args .out .now) (c .before .before .args .word .now) _ (c .before .before .args .at) _ (c .before .loop .inv) (c .loop-test .left)
+returns c =
+    copied-ends (c .before .before .args .out .now) (c .before .before .args .word .now) _ (c .before .before .args .at)
+    _ (c .before .loop .inv) (c .loop-test .left)
 
 pub put-word-spec : {M : Type 1} → statement M
 put-word-spec =

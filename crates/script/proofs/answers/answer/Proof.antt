@@ -26,19 +26,35 @@ run-call-requires : tie.Need-run-call-requires
 run-call-requires c κs = search needs
 
 returns : tie.Need-returns
-returns c = line-answers (length (c .before .before .before .before .before .args .words .now)) (sym (c .before .before .parse .ensures) ∙ c .enum-told .given .1) (malformed-answers (c .before .before .before .before .before .pre))
+returns c =
+    line-answers (length (c .before .before .before .before .before .args .words .now))
+    (sym (c .before .before .parse .ensures) ∙ c .enum-told .given .1)
+    (malformed-answers (c .before .before .before .before .before .pre))
 
 same-length : tie.Need-same-length
 same-length c = search needs
 
 returns-2 : tie.Need-returns-2
-returns-2 c = line-answers (length (c .before .before .before .before .before .before .before .before .before .before .args .words .now)) (sym (c .before .before .before .before .before .before .before .parse .ensures) ∙ c .before .before .before .before .before .c .given .1) (c .before .before .run-format .ensures)
+returns-2 c =
+    let start = c .before .before .before .before .before .before .before .before .before .before in
+    line-answers (length (start .args .words .now))
+    (sym (c .before .before .before .before .before .before .before .parse .ensures)
+    ∙ c .before .before .before .before .before .c .given .1)
+    (c .before .before .run-format .ensures)
 
 same-length-2 : tie.Need-same-length-2
 same-length-2 c = search needs
 
 returns-3 : tie.Need-returns-3
-returns-3 c = line-answers (length (c .before .before .before .before .before .before .before .before .before .before .args .words .now)) (sym (c .before .before .before .before .before .before .before .parse .ensures) ∙ c .before .before .before .before .before .call .given .1) (call-line (c .before .before .before .before .before .before .before .before .before .before .args .words .now) (c .before .before .run-call .last .0) (c .before .before .before .before .before .before .before .before .before .before .args .used) (c .before .before .before .before .before .before .before .before .before .before .pre) (same-length-2 c) (c .before .before .run-call .ensures))
+returns-3 c =
+    let start = c .before .before .before .before .before .before .before .before .before .before in
+    line-answers (length (start .args .words .now))
+    (sym (c .before .before .before .before .before .before .before .parse .ensures)
+    ∙ c .before .before .before .before .before .call .given .1)
+    (call-line (start .args .words .now) (c .before .before .run-call .last .0) (start .args .used) (start .pre)
+    (same-length-2 c) (c .before .before .run-call .ensures))
 
 pub answer-spec : {M : Type 1} → statement M
-answer-spec = tie.close (tie.spec parse-requires enum-told enum-known-c run-format-requires enum-known-call run-call-requires returns same-length returns-2 same-length-2 returns-3)
+answer-spec =
+    tie.close (tie.spec parse-requires enum-told enum-known-c run-format-requires enum-known-call run-call-requires
+    returns same-length returns-2 same-length-2 returns-3)

@@ -22,11 +22,20 @@ size-of-requires c κs = good-ranged _ (sym (c .before .good-counts .ensures) �
 
 returns-2 : tie.Need-returns-2
 unfolding wordsFor roomFor
-returns-2 c = rw (sym (c .before .before .before .good-counts .ensures) ∙ not-false _ (c .before .before .if1 .left)) (rw (ap (λ x. leb x (c .before .before .before .before .args .room)) (sym (c .before .size-of .ensures)) ∙ le-leb (c .before .size-of .result) (c .before .before .before .before .args .room) (omega (arith, c .if2 .taken))) (c .before .size-of .ensures))
+returns-2 c =
+    rw (sym (c .before .before .before .good-counts .ensures) ∙ not-false _ (c .before .before .if1 .left))
+    (rw (ap (λ x. leb x (c .before .before .before .before .args .room)) (sym (c .before .size-of .ensures))
+    ∙ le-leb (c .before .size-of .result) (c .before .before .before .before .args .room)
+    (omega (arith, c .if2 .taken)))
+    (c .before .size-of .ensures))
 
 returns-3 : tie.Need-returns-3
 unfolding wordsFor roomFor
-returns-3 c = rw (sym (c .before .before .before .good-counts .ensures) ∙ not-false _ (c .before .before .if1 .left)) (rw (ap (λ x. leb x (c .before .before .before .before .args .room)) (sym (c .before .size-of .ensures)) ∙ lt-leb (c .before .size-of .result) (c .before .before .before .before .args .room) (omega (arith, c .if2 .left))))
+returns-3 c =
+    rw (sym (c .before .before .before .good-counts .ensures) ∙ not-false _ (c .before .before .if1 .left))
+    (rw (ap (λ x. leb x (c .before .before .before .before .args .room)) (sym (c .before .size-of .ensures))
+    ∙ lt-leb (c .before .size-of .result) (c .before .before .before .before .args .room)
+    (omega (arith, c .if2 .left))))
 
 pub words-for-spec : {M : Type 1} → statement M
 words-for-spec = tie.close (tie.spec good-counts-requires returns size-of-requires returns-2 returns-3)

@@ -48,4 +48,6 @@ returns : tie.Need-returns Inv-loop μ-loop
 returns c = omega arith
 
 pub copy-line-spec : {M : Type 1} → statement M
-copy-line-spec = tie.close (tie.spec Inv-loop μ-loop loop-holds shared-slice-read-out add-out element-write-out add-i loop-less loop-again add-out-2 element-write-out-2 add-result add-result-2 returns)
+copy-line-spec =
+    tie.close (tie.spec Inv-loop μ-loop loop-holds shared-slice-read-out add-out element-write-out add-i loop-less
+    loop-again add-out-2 element-write-out-2 add-result add-result-2 returns)

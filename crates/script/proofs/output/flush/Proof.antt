@@ -7,7 +7,8 @@ use Rattle.script.proofs.output.flush.Statement.{statement}
 use Rattle.script.proofs.output.flush.Tie as tie
 
 slice-aggregate-write-all : tie.Need-slice-aggregate-write-all
-slice-aggregate-write-all c = sym (length-take-le (c .before .before .args .ready) (c .before .before .args .out .now) (c .before .before .pre))
+slice-aggregate-write-all c =
+    sym (length-take-le (c .before .before .args .ready) (c .before .before .args .out .now) (c .before .before .pre))
 
 write-all-requires : tie.Need-write-all-requires
 write-all-requires c κs = search needs

@@ -1,4 +1,4 @@
--- `soundness::record_clauses::ends_at` meets its contract.
+-- `soundness::record_clauses::ends_at` meets its contract. Rests on Steps.
 use mathlib.Core.Path.{refl}
 use borrow.Author.Tests.{eq-eqb, ne-eqb}
 use Rattle.soundness.proofs.Steps.{or-yes, or-on}

@@ -1,4 +1,4 @@
--- `soundness::record_clauses::falls_below` meets its contract.
+-- `soundness::record_clauses::falls_below` meets its contract. Rests on Steps.
 use mathlib.Core.Path.{refl}
 use native.Mathlib.Omega.{arith}
 use borrow.Author.Tests.{le-leb, lt-leb, le-ltb, lt-ltb}
@@ -13,11 +13,15 @@ returns c = and-no _ (le-ltb (c .before .args .p) (c .before .args .top) (c .if1
 
 returns-2 : tie.Need-returns-2
 unfolding fallsBelow
-returns-2 c = and-on (lt-ltb (c .before .before .args .p) (c .before .before .args .top) (omega arith)) (and-no _ (lt-leb (c .before .before .args .floor) (c .before .before .args .p) (c .if2 .taken)))
+returns-2 c =
+    and-on (lt-ltb (c .before .before .args .p) (c .before .before .args .top) (omega arith))
+    (and-no _ (lt-leb (c .before .before .args .floor) (c .before .before .args .p) (c .if2 .taken)))
 
 returns-3 : tie.Need-returns-3
 unfolding fallsBelow
-returns-3 c = and-on (lt-ltb (c .before .before .args .p) (c .before .before .args .top) (omega arith)) (and-on (le-leb (c .before .before .args .floor) (c .before .before .args .p) (omega arith)) refl)
+returns-3 c =
+    and-on (lt-ltb (c .before .before .args .p) (c .before .before .args .top) (omega arith))
+    (and-on (le-leb (c .before .before .args .floor) (c .before .before .args .p) (omega arith)) refl)
 
 pub falls-below-spec : {M : Type 1} → statement M
 falls-below-spec = tie.close (tie.spec returns returns-2 returns-3)

@@ -1,4 +1,4 @@
--- `soundness::record_clauses::lock_sound` meets its contract.
+-- `soundness::record_clauses::lock_sound` meets its contract. Rests on Steps.
 use mathlib.Core.Path.{sym, _∙_}
 use borrow.Author.Tests.{not-true, not-false}
 use Rattle.soundness.specs.Clauses.{lockSound}
@@ -15,21 +15,31 @@ span-lies-requires c κs = search needs
 
 returns : tie.Need-returns
 unfolding lockSound
-returns c = rw (sym (c .before .before .lock-at .ensures)) (and-no _ (sym (c .before .span-lies .ensures) ∙ not-true _ (c .if1 .taken)))
+returns c =
+    rw (sym (c .before .before .lock-at .ensures))
+    (and-no _ (sym (c .before .span-lies .ensures) ∙ not-true _ (c .if1 .taken)))
 
 mode-listed-requires : tie.Need-mode-listed-requires
 mode-listed-requires c κs = search needs
 
 returns-2 : tie.Need-returns-2
 unfolding lockSound
-returns-2 c = rw (sym (c .before .before .before .before .lock-at .ensures)) (and-on (sym (c .before .before .before .span-lies .ensures) ∙ not-false _ (c .before .before .if1 .left)) (and-no _ (sym (c .before .mode-listed .ensures) ∙ not-true _ (c .if2 .taken))))
+returns-2 c =
+    rw (sym (c .before .before .before .before .lock-at .ensures))
+    (and-on (sym (c .before .before .before .span-lies .ensures) ∙ not-false _ (c .before .before .if1 .left))
+    (and-no _ (sym (c .before .mode-listed .ensures) ∙ not-true _ (c .if2 .taken))))
 
 owner-used-requires : tie.Need-owner-used-requires
 owner-used-requires c κs = search needs
 
 returns-3 : tie.Need-returns-3
 unfolding lockSound
-returns-3 c = rw (sym (c .before .before .before .before .before .lock-at .ensures)) (and-on (sym (c .before .before .before .before .span-lies .ensures) ∙ not-false _ (c .before .before .before .if1 .left)) (and-on (sym (c .before .before .mode-listed .ensures) ∙ not-false _ (c .before .if2 .left)) (c .owner-used .ensures)))
+returns-3 c =
+    rw (sym (c .before .before .before .before .before .lock-at .ensures))
+    (and-on
+    (sym (c .before .before .before .before .span-lies .ensures) ∙ not-false _ (c .before .before .before .if1 .left))
+    (and-on (sym (c .before .before .mode-listed .ensures) ∙ not-false _ (c .before .if2 .left))
+    (c .owner-used .ensures)))
 
 pub lock-sound-spec : {M : Type 1} → statement M
 lock-sound-spec =

@@ -1,4 +1,5 @@
--- `soundness::record_clauses::records_sound` meets its contract: the marks of a new array serve every record.
+-- `soundness::record_clauses::records_sound` meets its contract: the marks of a new array serve every record. Rests on
+-- Marks.
 use mathlib.Core.Path.{refl}
 use denote.Ref.{now}
 use Rattle.soundness.proofs.Marks.{writers-new, new-size}
@@ -9,7 +10,12 @@ mark-slots-requires : tie.Need-mark-slots-requires
 mark-slots-requires c κs = (c .before .before .pre .0, new-size 4096 refl)
 
 records-sound-with-requires : tie.Need-records-sound-with-requires
-records-sound-with-requires c κs = (c .before .before .before .before .pre .0, writers-new (c .before .before .before .before .args .c) (now (c .before .before .before .before .args .w)) 4096 refl (c .before .before .before .before .pre .0) (c .before .before .before .before .pre .1) (c .before .before .before .before .pre .2) (c .before .mark-slots .ensures))
+records-sound-with-requires c κs = (
+  c .before .before .before .before .pre .0,
+  writers-new (c .before .before .before .before .args .c) (now (c .before .before .before .before .args .w))
+      4096 refl (c .before .before .before .before .pre .0) (c .before .before .before .before .pre .1)
+      (c .before .before .before .before .pre .2) (c .before .mark-slots .ensures),
+)
 
 returns : tie.Need-returns
 returns c = c .records-sound-with .ensures

@@ -1,4 +1,4 @@
--- `soundness::record_clauses::row_backs` meets its contract.
+-- `soundness::record_clauses::row_backs` meets its contract. Rests on Backing and Marks.
 use denote.Ref.{now}
 use borrow.Author.Tests.{not-true, not-false}
 use Rattle.tables.specs.Decode.{editsOf}
@@ -13,25 +13,54 @@ lock-at-requires : tie.Need-lock-at-requires
 lock-at-requires c κs = (c .before .pre .0, c .before .pre .1)
 
 returns : tie.Need-returns
-returns c = backs-read (editsOf (c .before .before .before .before .args .c) (now (c .before .before .before .before .args .w))) (c .before .before .before .before .args .r) (c .before .before .before .before .args .p) (c .before .before .lock-at .ensures) (c .if1 .taken)
+returns c =
+    backs-read (editsOf (c .before .before .before .before .args .c) (now (c .before .before .before .before .args .w)))
+    (c .before .before .before .before .args .r) (c .before .before .before .before .args .p)
+    (c .before .before .lock-at .ensures) (c .if1 .taken)
 
 covers-requires : tie.Need-covers-requires
 covers-requires c κs = search needs
 
 returns-2 : tie.Need-returns-2
-returns-2 c = backs-off (editsOf (c .before .before .before .before .before .before .args .c) (now (c .before .before .before .before .before .before .args .w))) (c .before .before .before .before .before .before .args .r) (c .before .before .before .before .before .before .args .p) (c .before .before .before .before .lock-at .ensures) (c .before .before .if1 .left) (c .before .covers .ensures) (not-true _ (c .if2 .taken))
+returns-2 c =
+    backs-off (editsOf (c .before .before .before .before .before .before .args .c)
+    (now (c .before .before .before .before .before .before .args .w)))
+    (c .before .before .before .before .before .before .args .r)
+    (c .before .before .before .before .before .before .args .p) (c .before .before .before .before .lock-at .ensures)
+    (c .before .before .if1 .left) (c .before .covers .ensures) (not-true _ (c .if2 .taken))
 
 returns-3 : tie.Need-returns-3
-returns-3 c = backs-settled (editsOf (c .before .before .before .before .before .before .before .before .args .c) (now (c .before .before .before .before .before .before .before .before .args .w))) (c .before .before .before .before .before .before .before .before .args .r) (c .before .before .before .before .before .before .before .before .args .p) (c .before .before .before .before .before .before .lock-at .ensures) (c .before .before .before .before .if1 .left) (c .before .before .before .covers .ensures) (not-false _ (c .before .before .if2 .left)) (c .if3 .taken)
+returns-3 c =
+    backs-settled (editsOf (c .before .before .before .before .before .before .before .before .args .c)
+    (now (c .before .before .before .before .before .before .before .before .args .w)))
+    (c .before .before .before .before .before .before .before .before .args .r)
+    (c .before .before .before .before .before .before .before .before .args .p)
+    (c .before .before .before .before .before .before .lock-at .ensures) (c .before .before .before .before .if1 .left)
+    (c .before .before .before .covers .ensures) (not-false _ (c .before .before .if2 .left)) (c .if3 .taken)
 
 element-copy-out-wrote-at : tie.Need-element-copy-out-wrote-at
-element-copy-out-wrote-at c = omega (arith, c .before .before .before .before .before .before .before .before .pre .1 .high, c .before .before .before .before .before .before .before .before .pre .0 .ranged .locks-high, c .before .before .before .before .before .before .before .before .pre .2 .size)
+element-copy-out-wrote-at c =
+    let start = c .before .before .before .before .before .before .before .before in
+    omega (arith, start .pre .1 .high, start .pre .0 .ranged .locks-high, start .pre .2 .size)
 
 wrote-at-requires : tie.Need-wrote-at-requires
-wrote-at-requires c κs = (c .before .before .before .before .before .before .before .before .before .pre .0, λ row. writers-at (c .before .before .before .before .before .before .before .before .before .args .c) (now (c .before .before .before .before .before .before .before .before .before .args .w)) (c .before .before .before .before .before .before .before .before .before .args .r) (c .before .before .before .before .before .before .before .before .before .args .i) (c .before .before .before .before .before .before .before .before .before .pre .2) (c .before .before .before .before .before .before .before .before .before .pre .3) (c .before .before .before .before .before .before .before .lock-at .ensures) row)
+wrote-at-requires c κs =
+    let start = c .before .before .before .before .before .before .before .before .before in (
+      start .pre .0,
+      λ row. writers-at (start .args .c) (now (start .args .w)) (start .args .r) (start .args .i) (start .pre .2)
+          (start .pre .3) (c .before .before .before .before .before .before .before .lock-at .ensures) row,
+    )
 
 returns-4 : tie.Need-returns-4
-returns-4 c = backs-owned (editsOf (c .before .before .before .before .before .before .before .before .before .before .args .c) (now (c .before .before .before .before .before .before .before .before .before .before .args .w))) (c .before .before .before .before .before .before .before .before .before .before .args .r) (c .before .before .before .before .before .before .before .before .before .before .args .p) (c .before .before .before .before .before .before .before .before .lock-at .ensures) (c .before .before .before .before .before .before .if1 .left) (c .before .before .before .before .before .covers .ensures) (not-false _ (c .before .before .before .before .if2 .left)) (c .before .before .if3 .left) (c .wrote-at .ensures)
+returns-4 c =
+    let start = c .before .before .before .before .before .before .before .before .before .before in
+    backs-owned (editsOf (start .args .c) (now (start .args .w))) (start .args .r) (start .args .p)
+    (c .before .before .before .before .before .before .before .before .lock-at .ensures)
+    (c .before .before .before .before .before .before .if1 .left)
+    (c .before .before .before .before .before .covers .ensures)
+    (not-false _ (c .before .before .before .before .if2 .left)) (c .before .before .if3 .left) (c .wrote-at .ensures)
 
 pub row-backs-spec : {M : Type 1} → statement M
-row-backs-spec = tie.close (tie.spec lock-at-requires returns covers-requires returns-2 returns-3 element-copy-out-wrote-at wrote-at-requires returns-4)
+row-backs-spec =
+    tie.close (tie.spec lock-at-requires returns covers-requires returns-2 returns-3 element-copy-out-wrote-at
+    wrote-at-requires returns-4)

@@ -1,4 +1,4 @@
--- `soundness::record_clauses::rows_agree` meets its contract.
+-- `soundness::record_clauses::rows_agree` meets its contract. Rests on nothing.
 use mathlib.Core.Path.{ap, _∙_}
 use Rattle.meaning.specs.Sound.{agree}
 use borrow.Author.Needs.{needs}

@@ -1,4 +1,4 @@
--- `soundness::record_clauses::versions_sound` meets its contract.
+-- `soundness::record_clauses::versions_sound` meets its contract. Rests on Steps and Counting.
 use native.Mathlib.Omega.{arith}
 use Rattle.meaning.specs.Limits.{LAST}
 use Rattle.soundness.specs.Clauses.{versionsSound}
@@ -20,7 +20,9 @@ versions-fall-requires c κs = search needs
 
 returns-2 : tie.Need-returns-2
 unfolding versionsSound
-returns-2 c = and-on (most-yes LAST (c .before .before .floor-of .ensures) (omega arith)) (rw (c .before .before .floor-of .ensures) at (c .versions-fall .ensures))
+returns-2 c =
+    and-on (most-yes LAST (c .before .before .floor-of .ensures) (omega arith))
+    (rw (c .before .before .floor-of .ensures) at (c .versions-fall .ensures))
 
 pub versions-sound-spec : {M : Type 1} → statement M
 versions-sound-spec =

@@ -1,4 +1,4 @@
--- `soundness::slot_clauses::free_idle` meets its contract.
+-- `soundness::slot_clauses::free_idle` meets its contract. Rests on Slots.
 use denote.Ref.{now}
 use Rattle.soundness.proofs.Slots.{idle-used, idle-free}
 use borrow.Author.Needs.{needs}
@@ -9,7 +9,9 @@ state-of-requires : tie.Need-state-of-requires
 state-of-requires c κs = search needs
 
 returns : tie.Need-returns
-returns c = idle-used (c .before .before .before .args .c) (now (c .before .before .before .args .w)) (c .before .before .before .args .k) (c .before .state-of .ensures) (c .if1 .taken)
+returns c =
+    idle-used (c .before .before .before .args .c) (now (c .before .before .before .args .w))
+    (c .before .before .before .args .k) (c .before .state-of .ensures) (c .if1 .taken)
 
 first-access-requires : tie.Need-first-access-requires
 first-access-requires c κs = search needs
@@ -18,7 +20,12 @@ more-requires : tie.Need-more-requires
 more-requires c κs = search needs
 
 returns-2 : tie.Need-returns-2
-returns-2 c = idle-free (c .before .before .before .before .before .args .c) (now (c .before .before .before .before .before .args .w)) (c .before .before .before .before .before .args .k) (c .before .before .before .before .before .pre .0 .ranged .accesses-low) (c .before .before .before .state-of .ensures) (c .before .before .if1 .left) (c .before .first-access .ensures) (c .more .ensures)
+returns-2 c =
+    idle-free (c .before .before .before .before .before .args .c)
+    (now (c .before .before .before .before .before .args .w)) (c .before .before .before .before .before .args .k)
+    (c .before .before .before .before .before .pre .0 .ranged .accesses-low)
+    (c .before .before .before .state-of .ensures) (c .before .before .if1 .left) (c .before .first-access .ensures)
+    (c .more .ensures)
 
 pub free-idle-spec : {M : Type 1} → statement M
 free-idle-spec =

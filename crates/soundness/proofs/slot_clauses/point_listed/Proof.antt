@@ -1,4 +1,4 @@
--- `soundness::slot_clauses::point_listed` meets its contract.
+-- `soundness::slot_clauses::point_listed` meets its contract. Rests on Steps.
 use mathlib.Core.Path.{refl}
 use borrow.Author.Tests.{eq-eqb, ne-eqb}
 use Rattle.meaning.specs.Limits.{COMMITTED}

@@ -1,4 +1,4 @@
--- `soundness::slot_clauses::row_stands` meets its contract.
+-- `soundness::slot_clauses::row_stands` meets its contract. Rests on Reading.
 use mathlib.Core.Path.{sym}
 use Rattle.soundness.proofs.Reading.{stands-zero, stands-at}
 use borrow.Author.Needs.{needs}

@@ -1,4 +1,4 @@
--- `soundness::slot_clauses::row_starts` meets its contract.
+-- `soundness::slot_clauses::row_starts` meets its contract. Rests on nothing.
 use mathlib.Core.Path.{ap, _∙_}
 use Rattle.meaning.specs.Sound.{startsRead}
 use borrow.Author.Needs.{needs}
@@ -12,7 +12,10 @@ starts-read-requires : tie.Need-starts-read-requires
 starts-read-requires c κs = search needs
 
 returns : tie.Need-returns
-returns c = c .starts-read .ensures ∙ ap (startsRead (c .before .before .before .args .k) (c .before .before .before .args .from)) (c .before .lock-at .ensures)
+returns c =
+    c .starts-read .ensures
+    ∙ ap (startsRead (c .before .before .before .args .k) (c .before .before .before .args .from))
+    (c .before .lock-at .ensures)
 
 pub row-starts-spec : {M : Type 1} → statement M
 row-starts-spec = tie.close (tie.spec lock-at-requires starts-read-requires returns)

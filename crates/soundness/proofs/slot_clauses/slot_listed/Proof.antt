@@ -1,4 +1,4 @@
--- `soundness::slot_clauses::slot_listed` meets its contract.
+-- `soundness::slot_clauses::slot_listed` meets its contract. Rests on Steps and Counting.
 use mathlib.Core.Path.{sym, _∙_}
 use native.Mathlib.Omega.{arith}
 use borrow.Author.Tests.{not-true, not-false}
@@ -23,7 +23,9 @@ generation-of-requires c κs = search needs
 
 returns-2 : tie.Need-returns-2
 unfolding slotListed stateListed generationListed
-returns-2 c = and-on (most-yes ABORTED (c .before .before .before .state-of .ensures) (omega arith)) (and-no _ (less-no GENERATIONS (c .before .generation-of .ensures) (c .if2 .taken)))
+returns-2 c =
+    and-on (most-yes ABORTED (c .before .before .before .state-of .ensures) (omega arith))
+    (and-no _ (less-no GENERATIONS (c .before .generation-of .ensures) (c .if2 .taken)))
 
 point-of-requires : tie.Need-point-of-requires
 point-of-requires c κs = search needs
@@ -33,14 +35,27 @@ point-listed-requires c κs = search needs
 
 returns-3 : tie.Need-returns-3
 unfolding slotListed stateListed generationListed pointListed
-returns-3 c = and-on (most-yes ABORTED (c .before .before .before .before .before .before .state-of .ensures) (omega arith)) (and-on (less-yes GENERATIONS (c .before .before .before .before .generation-of .ensures) (omega arith)) (and-no _ (sym (rw (c .before .before .before .before .before .before .state-of .ensures, c .before .before .point-of .ensures) at (c .before .point-listed .ensures)) ∙ not-true _ (c .if3 .taken))))
+returns-3 c =
+    and-on (most-yes ABORTED (c .before .before .before .before .before .before .state-of .ensures) (omega arith))
+    (and-on (less-yes GENERATIONS (c .before .before .before .before .generation-of .ensures) (omega arith))
+    (and-no _ (sym (rw
+    (c .before .before .before .before .before .before .state-of .ensures, c .before .before .point-of .ensures) at
+    (c .before .point-listed .ensures))
+    ∙ not-true _ (c .if3 .taken))))
 
 free-idle-requires : tie.Need-free-idle-requires
 free-idle-requires c κs = search needs
 
 returns-4 : tie.Need-returns-4
 unfolding slotListed stateListed generationListed pointListed
-returns-4 c = and-on (most-yes ABORTED (c .before .before .before .before .before .before .before .state-of .ensures) (omega arith)) (and-on (less-yes GENERATIONS (c .before .before .before .before .before .generation-of .ensures) (omega arith)) (and-on (sym (rw (c .before .before .before .before .before .before .before .state-of .ensures, c .before .before .before .point-of .ensures) at (c .before .before .point-listed .ensures)) ∙ not-false _ (c .before .if3 .left)) (c .free-idle .ensures)))
+returns-4 c =
+    let start = c .before .before .before .before .before .before .before in
+    and-on (most-yes ABORTED (start .state-of .ensures) (omega arith))
+    (and-on (less-yes GENERATIONS (c .before .before .before .before .before .generation-of .ensures) (omega arith))
+    (and-on (sym (rw (start .state-of .ensures, c .before .before .before .point-of .ensures) at
+    (c .before .before .point-listed .ensures))
+    ∙ not-false _ (c .before .if3 .left))
+    (c .free-idle .ensures)))
 
 pub slot-listed-spec : {M : Type 1} → statement M
 slot-listed-spec =

@@ -1,4 +1,4 @@
--- `soundness::slot_clauses::slots_sound` meets its contract: the new array has no stamps.
+-- `soundness::slot_clauses::slots_sound` meets its contract: the new array has no stamps. Rests on Slots.
 use Rattle.soundness.proofs.Slots.{stamps-new}
 use mathlib.Core.Path.{refl}
 use borrow.Author.Needs.{needs}

@@ -1,4 +1,4 @@
--- `soundness::word_clauses::accesses_parted` meets its contract.
+-- `soundness::word_clauses::accesses_parted` meets its contract. Rests on Cells of `chains`, on Places of `tables`.
 use mathlib.Core.Path.{sym}
 use Rattle.chains.proofs.Cells.{lies, heads-lie}
 use Rattle.tables.specs.Layout.{accessTable}
@@ -16,11 +16,16 @@ access-heads-requires c κs = search needs
 
 partition-ok-requires : tie.Need-partition-ok-requires
 unfolding accessTable
-partition-ok-requires c κs = rw (c .before .access-table .ensures, c .access-heads .ensures) (let l = Places.accesses-laid (c .before .before .before .pre) in (lies l, heads-lie l, c .before .before .before .pre .ranged .accesses-high))
+partition-ok-requires c κs =
+    rw (c .before .access-table .ensures, c .access-heads .ensures)
+    (let l = Places.accesses-laid (c .before .before .before .pre) in
+    (lies l, heads-lie l, c .before .before .before .pre .ranged .accesses-high))
 
 returns : tie.Need-returns
 unfolding accessesParted
-returns c = rw (sym (c .before .before .access-table .ensures), sym (c .before .access-heads .ensures)) (c .partition-ok .ensures)
+returns c =
+    rw (sym (c .before .before .access-table .ensures), sym (c .before .access-heads .ensures))
+    (c .partition-ok .ensures)
 
 pub accesses-parted-spec : {M : Type 1} → statement M
 accesses-parted-spec =

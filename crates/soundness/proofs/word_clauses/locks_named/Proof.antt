@@ -1,4 +1,4 @@
--- `soundness::word_clauses::locks_named` meets its contract: one record after the other.
+-- `soundness::word_clauses::locks_named` meets its contract: one record after the other. Rests on Counting.
 use Prim.Native.Nat.{_-_}
 use native.Mathlib.Omega.{arith}
 use borrow.Author.Tests.{not-true, not-false}
@@ -23,7 +23,9 @@ record-named-requires c κs = (c .before .before .before .pre, omega arith)
 
 returns : tie.Need-returns Inv-loop μ-loop
 unfolding locksNamed
-returns c = up-fail (c .before .before .before .loop .inv) (omega arith) (c .before .record-named .ensures) (not-true _ (c .if1 .taken))
+returns c =
+    up-fail (c .before .before .before .loop .inv) (omega arith) (c .before .record-named .ensures)
+    (not-true _ (c .if1 .taken))
 
 add-r : tie.Need-add-r Inv-loop μ-loop
 add-r c = omega (arith, c .before .before .before .before .before .pre .ranged .records-high)
@@ -32,7 +34,9 @@ loop-less : tie.Need-loop-less Inv-loop μ-loop
 loop-less c = omega arith
 
 loop-again : tie.Need-loop-again Inv-loop μ-loop
-loop-again c = up-again (c .before .before .before .loop .inv) (omega arith) (c .before .record-named .ensures) (not-false _ (c .if1 .left))
+loop-again c =
+    up-again (c .before .before .before .loop .inv) (omega arith) (c .before .record-named .ensures)
+    (not-false _ (c .if1 .left))
 
 returns-2 : tie.Need-returns-2 Inv-loop μ-loop
 unfolding locksNamed

@@ -1,4 +1,4 @@
--- `soundness::word_clauses::locks_parted` meets its contract.
+-- `soundness::word_clauses::locks_parted` meets its contract. Rests on Cells of `chains`, on Places of `tables`.
 use mathlib.Core.Path.{sym}
 use Rattle.chains.proofs.Cells.{lies, heads-lie}
 use Rattle.tables.specs.Layout.{lockTable}
@@ -16,11 +16,15 @@ lock-heads-requires c κs = search needs
 
 partition-ok-requires : tie.Need-partition-ok-requires
 unfolding lockTable
-partition-ok-requires c κs = rw (c .before .lock-table .ensures, c .lock-heads .ensures) (let l = Places.locks-laid (c .before .before .before .pre) in (lies l, heads-lie l, c .before .before .before .pre .ranged .locks-high))
+partition-ok-requires c κs =
+    rw (c .before .lock-table .ensures, c .lock-heads .ensures)
+    (let l = Places.locks-laid (c .before .before .before .pre) in
+    (lies l, heads-lie l, c .before .before .before .pre .ranged .locks-high))
 
 returns : tie.Need-returns
 unfolding locksParted
-returns c = rw (sym (c .before .before .lock-table .ensures), sym (c .before .lock-heads .ensures)) (c .partition-ok .ensures)
+returns c =
+    rw (sym (c .before .before .lock-table .ensures), sym (c .before .lock-heads .ensures)) (c .partition-ok .ensures)
 
 pub locks-parted-spec : {M : Type 1} → statement M
 locks-parted-spec =

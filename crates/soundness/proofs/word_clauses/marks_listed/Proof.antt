@@ -1,4 +1,4 @@
--- `soundness::word_clauses::marks_listed` meets its contract: one slot after the other.
+-- `soundness::word_clauses::marks_listed` meets its contract: one slot after the other. Rests on Counting.
 use Prim.Native.Nat.{suc, _-_}
 use native.Mathlib.Omega.{arith}
 use native.Mathlib.Numerals.{add-one}
@@ -27,7 +27,9 @@ slot-marked-requires c κs = (c .before .before .before .pre, record { low = ome
 
 returns : tie.Need-returns Inv-loop μ-loop
 unfolding marksListed
-returns c = up-fail (c .before .before .before .loop .inv) (omega arith) (rw add-one at (c .before .slot-marked .ensures)) (not-true _ (c .if1 .taken))
+returns c =
+    up-fail (c .before .before .before .loop .inv) (omega arith) (rw add-one at (c .before .slot-marked .ensures))
+    (not-true _ (c .if1 .taken))
 
 add-k : tie.Need-add-k Inv-loop μ-loop
 add-k c = omega (arith, c .before .before .before .before .before .pre .ranged .edits-high)
@@ -36,7 +38,9 @@ loop-less : tie.Need-loop-less Inv-loop μ-loop
 loop-less c = omega arith
 
 loop-again : tie.Need-loop-again Inv-loop μ-loop
-loop-again c = up-again (c .before .before .before .loop .inv) (omega arith) (rw add-one at (c .before .slot-marked .ensures)) (not-false _ (c .if1 .left))
+loop-again c =
+    up-again (c .before .before .before .loop .inv) (omega arith) (rw add-one at (c .before .slot-marked .ensures))
+    (not-false _ (c .if1 .left))
 
 returns-2 : tie.Need-returns-2 Inv-loop μ-loop
 unfolding marksListed

@@ -1,4 +1,4 @@
--- `soundness::word_clauses::versions_parted` meets its contract.
+-- `soundness::word_clauses::versions_parted` meets its contract. Rests on Cells of `chains`, on Places of `tables`.
 use mathlib.Core.Path.{sym}
 use Rattle.chains.proofs.Cells.{lies, heads-lie}
 use Rattle.tables.specs.Layout.{versionTable}
@@ -16,11 +16,16 @@ version-heads-requires c κs = search needs
 
 partition-ok-requires : tie.Need-partition-ok-requires
 unfolding versionTable
-partition-ok-requires c κs = rw (c .before .version-table .ensures, c .version-heads .ensures) (let l = Places.versions-laid (c .before .before .before .pre) in (lies l, heads-lie l, c .before .before .before .pre .ranged .versions-high))
+partition-ok-requires c κs =
+    rw (c .before .version-table .ensures, c .version-heads .ensures)
+    (let l = Places.versions-laid (c .before .before .before .pre) in
+    (lies l, heads-lie l, c .before .before .before .pre .ranged .versions-high))
 
 returns : tie.Need-returns
 unfolding versionsParted
-returns c = rw (sym (c .before .before .version-table .ensures), sym (c .before .version-heads .ensures)) (c .partition-ok .ensures)
+returns c =
+    rw (sym (c .before .before .version-table .ensures), sym (c .before .version-heads .ensures))
+    (c .partition-ok .ensures)
 
 pub versions-parted-spec : {M : Type 1} → statement M
 versions-parted-spec =

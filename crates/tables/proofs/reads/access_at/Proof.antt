@@ -1,4 +1,4 @@
--- `tables::reads::access_at` meets its contract.
+-- `tables::reads::access_at` meets its contract. Rests on nothing.
 use mathlib.Core.Path.{refl}
 use Rattle.tables.specs.Decode.{accessAt}
 use borrow.Author.Needs.{needs}
@@ -19,7 +19,13 @@ access-word-requires-4 c κs = search needs
 
 returns : tie.Need-returns
 unfolding accessAt
-returns c = rw (c .before .before .before .access-word .ensures, c .before .before .access-word2 .ensures, c .before .access-word3 .ensures, c .access-word4 .ensures) refl
+returns c =
+    rw (
+      c .before .before .before .access-word .ensures,
+      c .before .before .access-word2 .ensures,
+      c .before .access-word3 .ensures,
+      c .access-word4 .ensures,
+    ) refl
 
 pub access-at-spec : {M : Type 1} → statement M
 access-at-spec =

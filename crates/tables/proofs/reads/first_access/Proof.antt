@@ -1,4 +1,4 @@
--- `tables::reads::first_access` meets its contract.
+-- `tables::reads::first_access` meets its contract. Rests on Places, on Cells of `chains`.
 use native.Mathlib.Omega.{arith}
 use Rattle.chains.proofs.Cells.{heads-lie}
 use Rattle.tables.specs.Layout.{accessHeads}
@@ -12,7 +12,9 @@ access-heads-requires c κs = search needs
 
 head-of-requires : tie.Need-head-of-requires
 unfolding accessHeads
-head-of-requires c κs = rw (c .access-heads .ensures) (heads-lie (Places.accesses-laid (c .before .before .pre .0)), c .before .before .pre .1 .high)
+head-of-requires c κs =
+    rw (c .access-heads .ensures)
+    (heads-lie (Places.accesses-laid (c .before .before .pre .0)), c .before .before .pre .1 .high)
 
 returns : tie.Need-returns
 returns c = rw (c .before .access-heads .ensures) at (c .head-of .ensures)

@@ -1,4 +1,4 @@
--- `tables::reads::first_lock` meets its contract.
+-- `tables::reads::first_lock` meets its contract. Rests on Places, on Cells of `chains`.
 use native.Mathlib.Omega.{arith}
 use native.Mathlib.Numerals.{add-one}
 use Rattle.chains.proofs.Cells.{heads-lie}
@@ -16,7 +16,9 @@ add-head-of c = search needs
 
 head-of-requires : tie.Need-head-of-requires
 unfolding lockHeads
-head-of-requires c κs = rw (c .lock-heads .ensures) (heads-lie (Places.locks-laid (c .before .before .pre .0)), omega (arith, c .before .before .pre .1))
+head-of-requires c κs =
+    rw (c .lock-heads .ensures)
+    (heads-lie (Places.locks-laid (c .before .before .pre .0)), omega (arith, c .before .before .pre .1))
 
 returns : tie.Need-returns
 returns c = rw add-one at (rw (c .before .lock-heads .ensures) at (c .head-of .ensures))

@@ -1,4 +1,4 @@
--- `tables::reads::floor_of` meets its contract.
+-- `tables::reads::floor_of` meets its contract. Rests on nothing.
 use Rattle.tables.specs.Decode.{recordAt, floorOf}
 use borrow.Author.Needs.{needs}
 use Rattle.tables.proofs.reads.floor_of.Statement.{statement}

@@ -1,4 +1,4 @@
--- `tables::reads::generation_of` meets its contract.
+-- `tables::reads::generation_of` meets its contract. Rests on nothing.
 use Rattle.tables.specs.Decode.{slotAt}
 use borrow.Author.Needs.{needs}
 use Rattle.tables.proofs.reads.generation_of.Statement.{statement}

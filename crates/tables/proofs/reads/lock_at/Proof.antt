@@ -1,4 +1,4 @@
--- `tables::reads::lock_at` meets its contract.
+-- `tables::reads::lock_at` meets its contract. Rests on nothing.
 use mathlib.Core.Path.{refl}
 use Rattle.tables.specs.Decode.{lockAt}
 use borrow.Author.Needs.{needs}

@@ -1,4 +1,4 @@
--- `tables::reads::next_version` meets its contract.
+-- `tables::reads::next_version` meets its contract. Rests on Places, on Cells of `chains`.
 use native.Mathlib.Omega.{arith}
 use Rattle.chains.proofs.Cells.{lies}
 use Rattle.tables.specs.Layout.{versionTable}
@@ -12,7 +12,8 @@ version-table-requires c κs = search needs
 
 next-of-requires : tie.Need-next-of-requires
 unfolding versionTable
-next-of-requires c κs = rw (c .version-table .ensures) (lies (Places.versions-laid (c .before .before .pre .0)), c .before .before .pre .1)
+next-of-requires c κs =
+    rw (c .version-table .ensures) (lies (Places.versions-laid (c .before .before .pre .0)), c .before .before .pre .1)
 
 returns : tie.Need-returns
 returns c = rw (c .before .version-table .ensures) at (c .next-of .ensures)

@@ -1,4 +1,4 @@
--- `tables::reads::point_of` meets its contract.
+-- `tables::reads::point_of` meets its contract. Rests on nothing.
 use Rattle.tables.specs.Decode.{slotAt}
 use borrow.Author.Needs.{needs}
 use Rattle.tables.proofs.reads.point_of.Statement.{statement}

@@ -1,4 +1,4 @@
--- `tables::reads::record_word` meets its contract.
+-- `tables::reads::record_word` meets its contract. Rests on Places.
 use mathlib.Core.Path.{_∙_}
 use native.Mathlib.Omega.{arith}
 use native.Mathlib.Numerals.{add-one}
@@ -16,13 +16,19 @@ add-get c = search needs
 
 get-requires : tie.Need-get-requires
 unfolding recordTable
-get-requires c κs = rw (c .record-table .ensures) (Places.records-lie (c .before .before .pre .0), record { low = omega arith; high = omega (arith, c .before .before .pre .1) }, c .before .before .pre .2)
+get-requires c κs =
+    rw (c .record-table .ensures) (
+      Places.records-lie (c .before .before .pre .0),
+      record { low = omega arith; high = omega (arith, c .before .before .pre .1) },
+      c .before .before .pre .2,
+    )
 
 word-requires : tie.Need-word-requires
 word-requires c κs = search needs
 
 returns : tie.Need-returns
-returns c = rw add-one at (rw (c .before .before .record-table .ensures) at (c .word .ensures ∙ c .before .get .ensures))
+returns c =
+    rw add-one at (rw (c .before .before .record-table .ensures) at (c .word .ensures ∙ c .before .get .ensures))
 
 pub record-word-spec : {M : Type 1} → statement M
 record-word-spec =

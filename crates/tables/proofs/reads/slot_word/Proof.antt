@@ -1,4 +1,4 @@
--- `tables::reads::slot_word` meets its contract.
+-- `tables::reads::slot_word` meets its contract. Rests on Places.
 use mathlib.Core.Path.{_∙_}
 use native.Mathlib.Omega.{arith}
 use Rattle.tables.specs.Layout.{slotTable}
@@ -12,7 +12,9 @@ slot-table-requires c κs = search needs
 
 get-requires : tie.Need-get-requires
 unfolding slotTable
-get-requires c κs = rw (c .slot-table .ensures) (Places.slots-lie (c .before .before .pre .0), c .before .before .pre .1, c .before .before .pre .2)
+get-requires c κs =
+    rw (c .slot-table .ensures)
+    (Places.slots-lie (c .before .before .pre .0), c .before .before .pre .1, c .before .before .pre .2)
 
 word-requires : tie.Need-word-requires
 word-requires c κs = search needs

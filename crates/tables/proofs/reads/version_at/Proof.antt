@@ -1,4 +1,4 @@
--- `tables::reads::version_at` meets its contract.
+-- `tables::reads::version_at` meets its contract. Rests on nothing.
 use mathlib.Core.Path.{refl}
 use Rattle.tables.specs.Decode.{versionAt}
 use borrow.Author.Needs.{needs}
@@ -16,7 +16,8 @@ version-word-requires-3 c κs = search needs
 
 returns : tie.Need-returns
 unfolding versionAt
-returns c = rw (c .before .before .version-word .ensures, c .before .version-word2 .ensures, c .version-word3 .ensures) refl
+returns c =
+    rw (c .before .before .version-word .ensures, c .before .version-word2 .ensures, c .version-word3 .ensures) refl
 
 pub version-at-spec : {M : Type 1} → statement M
 version-at-spec =

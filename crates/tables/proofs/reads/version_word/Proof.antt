@@ -1,4 +1,4 @@
--- `tables::reads::version_word` meets its contract.
+-- `tables::reads::version_word` meets its contract. Rests on Places, on Cells of `chains`.
 use mathlib.Core.Path.{_∙_}
 use native.Mathlib.Omega.{arith}
 use Rattle.chains.proofs.Cells.{lies}
@@ -13,7 +13,9 @@ version-table-requires c κs = search needs
 
 get-requires : tie.Need-get-requires
 unfolding versionTable
-get-requires c κs = rw (c .version-table .ensures) (lies (Places.versions-laid (c .before .before .pre .0)), c .before .before .pre .1, c .before .before .pre .2)
+get-requires c κs =
+    rw (c .version-table .ensures)
+    (lies (Places.versions-laid (c .before .before .pre .0)), c .before .before .pre .1, c .before .before .pre .2)
 
 word-requires : tie.Need-word-requires
 word-requires c κs = search needs

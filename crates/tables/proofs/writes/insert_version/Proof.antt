@@ -1,4 +1,4 @@
--- `tables::writes::insert_version` meets its contract.
+-- `tables::writes::insert_version` meets its contract. Rests on nothing.
 use native.Mathlib.Omega.{arith}
 use native.Mathlib.Numerals.{add-one}
 use Rattle.tables.specs.Layout.{versionTable}
@@ -20,13 +20,20 @@ wide-requires c κs = search needs
 
 insert-sorted-requires : tie.Need-insert-sorted-requires
 unfolding versionTable
-insert-sorted-requires c κs = rw (c .before .before .version-table .ensures, c .before .version-heads .ensures, add-one) (c .before .before .before .before .before .pre .2, omega arith)
+insert-sorted-requires c κs =
+    rw (c .before .before .version-table .ensures, c .before .version-heads .ensures, add-one)
+    (c .before .before .before .before .before .pre .2, omega arith)
 
 same-length : tie.Need-same-length
 same-length c = search needs
 
 returns : tie.Need-returns
-returns c = rw (c .before .before .before .wide .ensures, add-one) at (rw (c .before .before .before .before .before .version-table .ensures, c .before .before .before .before .version-heads .ensures) at (c .before .before .insert-sorted .ensures))
+returns c =
+    rw (c .before .before .before .wide .ensures, add-one) at
+    (rw (
+      c .before .before .before .before .before .version-table .ensures,
+      c .before .before .before .before .version-heads .ensures,
+    ) at (c .before .before .insert-sorted .ensures))
 
 pub insert-version-spec : {M : Type 1} → statement M
 insert-version-spec =

@@ -1,4 +1,4 @@
--- `tables::writes::lock_tag` meets its contract.
+-- `tables::writes::lock_tag` meets its contract. Rests on nothing.
 use mathlib.Core.Path.{refl}
 use Rattle.tables.specs.Rows.{lockTag}
 use borrow.Author.Needs.{needs}

@@ -1,4 +1,4 @@
--- `tables::writes::put_floor` meets its contract.
+-- `tables::writes::put_floor` meets its contract. Rests on Places.
 use native.Mathlib.Omega.{arith}
 use native.Mathlib.Numerals.{add-one}
 use Rattle.tables.specs.Layout.{recordTable}
@@ -18,13 +18,21 @@ wide-requires c κs = search needs
 
 put-requires : tie.Need-put-requires
 unfolding recordTable
-put-requires c κs = rw (c .before .record-table .ensures) (Places.records-lie (c .before .before .before .before .pre .0), record { low = omega arith; high = omega (arith, c .before .before .before .before .pre .1) }, omega arith)
+put-requires c κs =
+    rw (c .before .record-table .ensures) (
+      Places.records-lie (c .before .before .before .before .pre .0),
+      record { low = omega arith; high = omega (arith, c .before .before .before .before .pre .1) },
+      omega arith,
+    )
 
 same-length : tie.Need-same-length
 same-length c = search needs
 
 returns : tie.Need-returns
-returns c = rw add-one at (rw (c .before .before .before .before .record-table .ensures, c .before .before .before .wide .ensures) at (c .before .before .put .ensures))
+returns c =
+    rw add-one at (rw
+    (c .before .before .before .before .record-table .ensures, c .before .before .before .wide .ensures) at
+    (c .before .before .put .ensures))
 
 pub put-floor-spec : {M : Type 1} → statement M
 put-floor-spec =

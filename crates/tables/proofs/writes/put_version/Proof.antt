@@ -1,4 +1,4 @@
--- `tables::writes::put_version` meets its contract.
+-- `tables::writes::put_version` meets its contract. Rests on Places.
 use mathlib.Core.Path.{refl}
 use native.Mathlib.Omega.{arith}
 use Rattle.tables.specs.Rows.{versionStored}
@@ -11,17 +11,36 @@ set-version-word-requires : tie.Need-set-version-word-requires
 set-version-word-requires c κs = search needs
 
 set-version-word-requires-2 : tie.Need-set-version-word-requires-2
-set-version-word-requires-2 c κs = (Places.version-fits _ _ _ (c .before .before .before .before .before .before .pre .0) (c .before .before .before .set-version-word .ensures), c .before .before .before .before .before .before .pre .1, omega arith)
+set-version-word-requires-2 c κs = (
+  Places.version-fits _ _ _ (c .before .before .before .before .before .before .pre .0)
+      (c .before .before .before .set-version-word .ensures),
+  c .before .before .before .before .before .before .pre .1,
+  omega arith,
+)
 
 set-version-word-requires-3 : tie.Need-set-version-word-requires-3
-set-version-word-requires-3 c κs = (Places.version-fits _ _ _ (Places.version-fits _ _ _ (c .before .before .before .before .before .before .before .before .before .before .pre .0) (c .before .before .before .before .before .before .before .set-version-word .ensures)) (c .before .before .before .set-version-word2 .ensures), c .before .before .before .before .before .before .before .before .before .before .pre .1, omega arith)
+set-version-word-requires-3 c κs =
+    let start = c .before .before .before .before .before .before .before .before .before .before in (
+      Places.version-fits _ _ _
+          (Places.version-fits _ _ _ (start .pre .0)
+          (c .before .before .before .before .before .before .before .set-version-word .ensures))
+          (c .before .before .before .set-version-word2 .ensures),
+      start .pre .1,
+      omega arith,
+    )
 
 same-length : tie.Need-same-length
 same-length c = search needs
 
 returns : tie.Need-returns
 unfolding versionStored
-returns c = rw (c .before .before .set-version-word3 .ensures, c .before .before .before .before .before .before .set-version-word2 .ensures, c .before .before .before .before .before .before .before .before .before .before .set-version-word .ensures) refl
+returns c =
+    let start = c .before .before .before .before .before .before .before .before .before .before in
+    rw (
+      c .before .before .set-version-word3 .ensures,
+      c .before .before .before .before .before .before .set-version-word2 .ensures,
+      start .set-version-word .ensures,
+    ) refl
 
 pub put-version-spec : {M : Type 1} → statement M
 put-version-spec =

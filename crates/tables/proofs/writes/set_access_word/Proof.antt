@@ -1,4 +1,4 @@
--- `tables::writes::set_access_word` meets its contract.
+-- `tables::writes::set_access_word` meets its contract. Rests on Places, on Cells of `chains`.
 use native.Mathlib.Omega.{arith}
 use Rattle.chains.proofs.Cells.{lies}
 use Rattle.tables.specs.Layout.{accessTable}
@@ -15,13 +15,20 @@ wide-requires c κs = search needs
 
 put-requires : tie.Need-put-requires
 unfolding accessTable
-put-requires c κs = rw (c .before .access-table .ensures) (lies (Places.accesses-laid (c .before .before .before .before .pre .0)), c .before .before .before .before .pre .1, c .before .before .before .before .pre .2)
+put-requires c κs =
+    rw (c .before .access-table .ensures) (
+      lies (Places.accesses-laid (c .before .before .before .before .pre .0)),
+      c .before .before .before .before .pre .1,
+      c .before .before .before .before .pre .2,
+    )
 
 same-length : tie.Need-same-length
 same-length c = search needs
 
 returns : tie.Need-returns
-returns c = rw (c .before .before .before .before .access-table .ensures, c .before .before .before .wide .ensures) at (c .before .before .put .ensures)
+returns c =
+    rw (c .before .before .before .before .access-table .ensures, c .before .before .before .wide .ensures) at
+    (c .before .before .put .ensures)
 
 pub set-access-word-spec : {M : Type 1} → statement M
 set-access-word-spec =

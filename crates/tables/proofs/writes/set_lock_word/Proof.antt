@@ -1,4 +1,4 @@
--- `tables::writes::set_lock_word` meets its contract.
+-- `tables::writes::set_lock_word` meets its contract. Rests on Places, on Cells of `chains`.
 use native.Mathlib.Omega.{arith}
 use Rattle.chains.proofs.Cells.{lies}
 use Rattle.tables.specs.Layout.{lockTable}
@@ -15,13 +15,20 @@ wide-requires c κs = search needs
 
 put-requires : tie.Need-put-requires
 unfolding lockTable
-put-requires c κs = rw (c .before .lock-table .ensures) (lies (Places.locks-laid (c .before .before .before .before .pre .0)), c .before .before .before .before .pre .1, c .before .before .before .before .pre .2)
+put-requires c κs =
+    rw (c .before .lock-table .ensures) (
+      lies (Places.locks-laid (c .before .before .before .before .pre .0)),
+      c .before .before .before .before .pre .1,
+      c .before .before .before .before .pre .2,
+    )
 
 same-length : tie.Need-same-length
 same-length c = search needs
 
 returns : tie.Need-returns
-returns c = rw (c .before .before .before .before .lock-table .ensures, c .before .before .before .wide .ensures) at (c .before .before .put .ensures)
+returns c =
+    rw (c .before .before .before .before .lock-table .ensures, c .before .before .before .wide .ensures) at
+    (c .before .before .put .ensures)
 
 pub set-lock-word-spec : {M : Type 1} → statement M
 set-lock-word-spec =

@@ -1,4 +1,4 @@
--- `tables::writes::set_slot_word` meets its contract.
+-- `tables::writes::set_slot_word` meets its contract. Rests on Places.
 use native.Mathlib.Omega.{arith}
 use Rattle.tables.specs.Layout.{slotTable}
 use Rattle.tables.proofs.Places
@@ -14,13 +14,20 @@ wide-requires c κs = search needs
 
 put-requires : tie.Need-put-requires
 unfolding slotTable
-put-requires c κs = rw (c .before .slot-table .ensures) (Places.slots-lie (c .before .before .before .before .pre .0), c .before .before .before .before .pre .1, c .before .before .before .before .pre .2)
+put-requires c κs =
+    rw (c .before .slot-table .ensures) (
+      Places.slots-lie (c .before .before .before .before .pre .0),
+      c .before .before .before .before .pre .1,
+      c .before .before .before .before .pre .2,
+    )
 
 same-length : tie.Need-same-length
 same-length c = search needs
 
 returns : tie.Need-returns
-returns c = rw (c .before .before .before .before .slot-table .ensures, c .before .before .before .wide .ensures) at (c .before .before .put .ensures)
+returns c =
+    rw (c .before .before .before .before .slot-table .ensures, c .before .before .before .wide .ensures) at
+    (c .before .before .put .ensures)
 
 pub set-slot-word-spec : {M : Type 1} → statement M
 set-slot-word-spec =

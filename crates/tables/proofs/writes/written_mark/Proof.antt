@@ -1,4 +1,4 @@
--- `tables::writes::written_mark` meets its contract.
+-- `tables::writes::written_mark` meets its contract. Rests on nothing.
 use mathlib.Core.Path.{refl}
 use Rattle.tables.specs.Rows.{writtenMark}
 use Rattle.tables.proofs.writes.written_mark.Statement.{statement}

@@ -1,11 +1,11 @@
--- `script::answers::line_of` meets its contract: each case of the answer is the line of its call's reply.
+-- `rendering::line_of_answer` meets its contract: each case of the answer is the line of its call's reply.
 -- Assumes nothing.
 use mathlib.Core.Path.{sym, ap, _∙_}
 use Rattle.store.specs.Answers.{ofAnswer}
 use Rattle.printing.specs.Shown.{lineOf}
 use borrow.Author.Needs.{needs}
-use Rattle.script.proofs.answers.line_of.Statement.{statement}
-use Rattle.script.proofs.answers.line_of.Tie as tie
+use Rattle.rendering.proofs.line_of_answer.Statement.{statement}
+use Rattle.rendering.proofs.line_of_answer.Tie as tie
 
 enum-known-a : tie.Need-enum-known-a
 enum-known-a c = search needs
@@ -88,5 +88,9 @@ returns-8 c = c .line-of-purge .ensures ∙ sym (ap (λ x. lineOf (ofAnswer x)) 
 returns-9 : tie.Need-returns-9
 returns-9 c = c .line-of-view .ensures ∙ sym (ap (λ x. lineOf (ofAnswer x)) (c .before .before .a9 .given .1))
 
-pub line-of-spec : {M : Type 1} → statement M
-line-of-spec = tie.close (tie.spec enum-known-a line-of-begin-requires enum-known-a-2 line-of-write-requires enum-known-a-3 line-of-lock-requires enum-known-a-4 line-of-read-requires enum-known-a-5 line-of-commit-requires enum-known-a-6 line-of-abort-requires enum-known-a-7 line-of-settle-requires enum-known-a-8 line-of-purge-requires enum-known-a-9 line-of-view-requires returns returns-2 returns-3 returns-4 returns-5 returns-6 returns-7 returns-8 returns-9)
+pub line-of-answer-spec : {M : Type 1} → statement M
+line-of-answer-spec =
+    tie.close (tie.spec enum-known-a line-of-begin-requires enum-known-a-2 line-of-write-requires enum-known-a-3
+    line-of-lock-requires enum-known-a-4 line-of-read-requires enum-known-a-5 line-of-commit-requires enum-known-a-6
+    line-of-abort-requires enum-known-a-7 line-of-settle-requires enum-known-a-8 line-of-purge-requires enum-known-a-9
+    line-of-view-requires returns returns-2 returns-3 returns-4 returns-5 returns-6 returns-7 returns-8 returns-9)

@@ -1,0 +1,33 @@
+// The line that prints the answer of `perform`, for every program that runs calls read from text. Rests on the crates
+// `meaning`, `store` and `printing`.
+ghost use mathlib.Core.Path.{_≡_};
+ghost use Rattle.store.specs.Answers.{ofAnswer};
+ghost use Rattle.printing.specs.Shown.{lineOf};
+use printing::Line;
+use printing::line_of_abort;
+use printing::line_of_begin;
+use printing::line_of_commit;
+use printing::line_of_lock;
+use printing::line_of_purge;
+use printing::line_of_read;
+use printing::line_of_settle;
+use printing::line_of_view;
+use printing::line_of_write;
+use store::Answer;
+
+// The line of an answer: that of its reply.
+pub fn line_of_answer(a: Answer) -> Line
+    ensures { λ l. ⌜ l ≡ lineOf (ofAnswer a) ⌝ }
+{
+    match a {
+        Answer::Begin(r) => line_of_begin(r),
+        Answer::Write(r) => line_of_write(r),
+        Answer::Lock(r) => line_of_lock(r),
+        Answer::Read(r) => line_of_read(r),
+        Answer::Commit(r) => line_of_commit(r),
+        Answer::Abort(r) => line_of_abort(r),
+        Answer::Settle(r) => line_of_settle(r),
+        Answer::Purge(r) => line_of_purge(r),
+        Answer::View(r) => line_of_view(r),
+    }
+}
