@@ -26,7 +26,7 @@ use Rattle.meaning.specs.declared.Call.the-variants as C
 use Rattle.meaning.proofs.Lists.{all-out}
 use Rattle.meaning.proofs.SoundParts.{sound-out}
 use Rattle.meaning.proofs.Stores.{used-range}
-use Rattle.meaning.proofs.FormatCauses.{counts-test}
+use Rattle.meaning.proofs.ForCause.{owner-slot}
 use Rattle.meaning.proofs.Laws.{only-own-numbers, holder-is-lowest}
 use Rattle.codes.specs.Codes.{HANDLES, CODES, codeOf, codeWith}
 use Rattle.codes.specs.Laws.{ZeroIsGranted, HolderReadsBack}
@@ -70,27 +70,10 @@ no-nopoint z e = omega (arith, z, ap codeOf e)
 pub zero-is-granted : ZeroIsGranted
 zero-is-granted c s z = (granted-at (act c s .reply) (from-1 c s) z, no-nopoint z)
 
--- the owner of a lock is below SLOTS
-few-edits : (c : Counts) → goodCounts c ≡ true → c .edits < SLOTS
-few-edits c e = go (decLt (c .edits) SLOTS)
-  where
-    go : Dec (c .edits < SLOTS) → c .edits < SLOTS
-    go (yes h) = h
-    go (no h) = absurd (counts-test c .free e (edits (inr (omega arith))))
-
-owner-slot : (s : Store) → soundStore s ≡ true → (r : ℕ) {mode k p o : ℕ} → BlockedBy mode k (recAt s r) p o → o < SLOTS
-owner-slot s g r {mode} {k} {p} {o} b = go (sound-out s g .recs r .owner (b .lock) (b .member))
-  where
-    go : (b .lock .owner ≡ SETTLED) ⊎ (editOf (s .edits) (b .lock .owner) .state ≡ FREE → ⊥) → o < SLOTS
-    go (inl e) = omega (arith, b .owned)
-    go (inr f) =
-        let u = used-range (s .edits) (b .lock .owner) f .upto in
-        omega (arith, b .owned, u, few-edits (countsOf s) (sound-out s g .counts))
-
--- so its handle is below HANDLES
+-- the owner of a lock is below SLOTS, so its handle is below HANDLES
 handle-fits : (s : Store) → soundStore s ≡ true → (r : ℕ) {mode k p h : ℕ}
     → (o : ℕ) × LowestHolder mode k (recAt s r) p o × (h ≡ handleAt s o) → h < HANDLES
-handle-fits s g r q = omega (arith, owner-slot s g r (q .1 .holds), sound-out s g .edits (q .0) .generation, q .2)
+handle-fits s g r {mode} {k} {p} q = omega (arith, owner-slot s g r mode k p _ (q .1 .holds), sound-out s g .edits (q .0) .generation, q .2)
 
 held-fits : (c : Call) (s : Store) (h : ℕ) → soundStore s ≡ true → HeldByLowest c s h → h < HANDLES
 held-fits C.Begin s h g z = absurd z
