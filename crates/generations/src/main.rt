@@ -5,7 +5,7 @@ use lines::Parsed;
 use meaning::BeginReply;
 use meaning::Call;
 use meaning::Finish;
-use printing::Line;
+use replies::Line;
 
 // The words of slot 1 in the store 2 2 4 8 8.
 const SLOT_1: usize = tables::HEADER + 2 * tables::RECORD;
@@ -38,7 +38,7 @@ fn step(words: &mut [u64; 118], line: &[u8]) {
     let parsed = lines::parse(line);
     match parsed {
         Parsed::Call(call) => print_line(performed(words, call)),
-        Parsed::Format(c) => print_line(printing::line_of_format(format::format(words, c))),
+        Parsed::Format(c) => print_line(replies::line_of_format(format::format(words, c))),
         Parsed::Malformed => print_line(Line::Malformed),
     }
     io::write_all(1, b"\n");

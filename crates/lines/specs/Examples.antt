@@ -9,7 +9,8 @@ use Rattle.meaning.specs.Calls as M
 use Rattle.meaning.specs.declared.Call.the-variants as C
 use Rattle.printing.specs.Text.{text}
 use Rattle.lines.specs.Calls.{handle, point, parsed}
-use Rattle.printing.specs.Shown.{shown, lineOf}
+use Rattle.printing.specs.Shown.{shown}
+use Rattle.replies.specs.Lines.{lineOf}
 use Rattle.lines.specs.declared.Parsed.{Parsed}
 use Rattle.lines.specs.declared.Parsed.the-variants as P
 

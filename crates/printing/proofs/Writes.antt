@@ -7,7 +7,7 @@ use native.Mathlib.Omega.{arith}
 use native.Mathlib.Numerals.{add-one}
 use lib.ListN.{length, take, set, getD, length-append, length-set, length-take}
 use lib.Seq.{take-all, take-suc, take-suc-set}
-use Rattle.printing.specs.declared.Line.{Line}
+use Rattle.replies.specs.declared.Line.{Line}
 use Rattle.printing.specs.Shown.{Appended, Printed, shown}
 
 pub put-appends : (s : List ℕ) (at b : ℕ) → at < length s → Appended s at (b ∷ []) (set s at b) (at + 1)

@@ -7,12 +7,11 @@ use mathlib.Core.Bool.{cond}
 use mathlib.Core.List.{List, [], _∷_, _++_}
 use lib.ListN.{length, take}
 use lib.Dec.{ltb}
-use Rattle.meaning.specs.Replies as R
 use Rattle.meaning.specs.declared.Value.{Value}
 use Rattle.meaning.specs.declared.Value.the-variants.{Never, Written}
 use Rattle.printing.specs.Text.{SPACE, text}
-use Rattle.printing.specs.declared.Line.{Line}
-use Rattle.printing.specs.declared.Line.the-variants as L
+use Rattle.replies.specs.declared.Line.{Line}
+use Rattle.replies.specs.declared.Line.the-variants as L
 
 -- the decimal digits of n, in k steps at most
 unfoldable pub digitsOf : ℕ → ℕ → List ℕ
@@ -54,22 +53,6 @@ shown (L.At p v) = oneValue (text "at ") p v
 shown (L.No n) = one (text "no ") n
 shown (L.Held h) = one (text "no 8 ") h
 shown L.Malformed = text "?"
-
--- the line of a reply; no line of a script calls Point
-abbrev pub lineOf : R.Reply → Line
-lineOf R.ok = L.Ok
-lineOf (R.edit h) = L.Edit h
-lineOf (R.locked low high) = L.Locked low high
-lineOf (R.read tr end v) = L.Read tr end v
-lineOf (R.own v) = L.Own v
-lineOf (R.again tr v) = L.Again tr v
-lineOf (R.commit p) = L.Commit p
-lineOf R.nopoint = L.NoPoint
-lineOf (R.purged vs ls) = L.Purged vs ls
-lineOf (R.at p v) = L.At p v
-lineOf (R.point p) = L.Malformed
-lineOf (R.refusing n []) = L.No n
-lineOf (R.refusing n (h ∷ more)) = L.Held h
 
 -- what a function that writes bytes from a position does: they follow what stood before it, and it answers where they
 -- end

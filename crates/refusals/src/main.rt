@@ -4,7 +4,7 @@
 // lines can differ. Rests on `store` and, for the text of calls and replies, on `lines`.
 use lines::Parsed;
 use meaning::Call;
-use printing::Line;
+use replies::Line;
 
 // The store 2 3 4 8 8 in 122 words: where its parts begin.
 const WORDS: usize = 122;
@@ -29,12 +29,12 @@ enum Part {
 // The reply of the call's own function.
 fn direct(words: &mut [u64], call: Call) -> Line {
     match call {
-        Call::Begin => printing::line_of_begin(store::begin(words)),
-        Call::Write(h, rec, value) => printing::line_of_write(store::write(words, h, rec, value)),
+        Call::Begin => replies::line_of_begin(store::begin(words)),
+        Call::Write(h, rec, value) => replies::line_of_write(store::write(words, h, rec, value)),
         Call::Lock(h, rec, low, high, extent) => {
-            printing::line_of_lock(store::lock(words, h, rec, low, high, extent))
+            replies::line_of_lock(store::lock(words, h, rec, low, high, extent))
         }
-        Call::Read(h, rec, m, extent) => printing::line_of_read(store::read(
+        Call::Read(h, rec, m, extent) => replies::line_of_read(store::read(
             words,
             h,
             rec,
@@ -42,12 +42,12 @@ fn direct(words: &mut [u64], call: Call) -> Line {
             extent,
         )),
         Call::Commit(h, pick, finish) => {
-            printing::line_of_commit(store::commit(words, h, pick, finish))
+            replies::line_of_commit(store::commit(words, h, pick, finish))
         }
-        Call::Abort(h, finish) => printing::line_of_abort(store::abort(words, h, finish)),
-        Call::Settle(h) => printing::line_of_settle(store::settle(words, h)),
-        Call::Purge(rec, b) => printing::line_of_purge(store::purge(words, rec, b)),
-        Call::View(rec, p) => printing::line_of_view(store::view(words, rec, p)),
+        Call::Abort(h, finish) => replies::line_of_abort(store::abort(words, h, finish)),
+        Call::Settle(h) => replies::line_of_settle(store::settle(words, h)),
+        Call::Purge(rec, b) => replies::line_of_purge(store::purge(words, rec, b)),
+        Call::View(rec, p) => replies::line_of_view(store::view(words, rec, p)),
     }
 }
 
@@ -178,7 +178,7 @@ fn step(words: &mut [u64; 122], line: &[u8]) {
     let parsed = lines::parse(line);
     match parsed {
         Parsed::Call(call) => print_line(performed(words, call)),
-        Parsed::Format(c) => print_line(printing::line_of_format(format::format(words, c))),
+        Parsed::Format(c) => print_line(replies::line_of_format(format::format(words, c))),
         Parsed::Malformed => {}
     }
     io::write_all(1, b"\n");

@@ -2,17 +2,17 @@
 // `meaning`, `store` and `printing`.
 ghost use mathlib.Core.Path.{_≡_};
 ghost use Rattle.store.specs.Answers.{ofAnswer};
-ghost use Rattle.printing.specs.Shown.{lineOf};
-use printing::Line;
-use printing::line_of_abort;
-use printing::line_of_begin;
-use printing::line_of_commit;
-use printing::line_of_lock;
-use printing::line_of_purge;
-use printing::line_of_read;
-use printing::line_of_settle;
-use printing::line_of_view;
-use printing::line_of_write;
+ghost use Rattle.replies.specs.Lines.{lineOf};
+use replies::Line;
+use replies::line_of_abort;
+use replies::line_of_begin;
+use replies::line_of_commit;
+use replies::line_of_lock;
+use replies::line_of_purge;
+use replies::line_of_read;
+use replies::line_of_settle;
+use replies::line_of_view;
+use replies::line_of_write;
 use store::Answer;
 
 // The line of an answer: that of its reply.

@@ -20,9 +20,9 @@ use Rattle.tables.specs.Words.{lent, decode, soundWords, formed}
 use Rattle.format.specs.Format.{formatFits, formattedWords, Formats}
 use Rattle.format.proofs.Formatted.{formatted-sound, formatted-fresh}
 use Rattle.store.specs.Answers.{Does}
-use Rattle.printing.specs.Shown.{lineOf}
-use Rattle.printing.specs.declared.Line.{Line}
-use Rattle.printing.specs.declared.Line.the-variants as L
+use Rattle.replies.specs.Lines.{lineOf}
+use Rattle.replies.specs.declared.Line.{Line}
+use Rattle.replies.specs.declared.Line.the-variants as L
 use Rattle.lines.specs.declared.Parsed.{Parsed}
 use Rattle.script.specs.Script.{Has, nothing, one, Stands, Said, Says, Answers, called, kept, formatted, said}
 use Rattle.script.specs.Script.{roomFor, wordsFor}

@@ -14,9 +14,9 @@ use Rattle.meaning.specs.declared.Call.{Call}
 use Rattle.meaning.specs.declared.Counts.{Counts}
 use Rattle.tables.specs.Layout.{sizeOf}
 use Rattle.tables.specs.Words.{lent, decode, soundWords}
-use Rattle.printing.specs.Shown.{lineOf}
-use Rattle.printing.specs.declared.Line.{Line}
-use Rattle.printing.specs.declared.Line.the-variants as L
+use Rattle.replies.specs.Lines.{lineOf}
+use Rattle.replies.specs.declared.Line.{Line}
+use Rattle.replies.specs.declared.Line.the-variants as L
 use Rattle.lines.specs.declared.Parsed.{Parsed}
 use Rattle.lines.specs.declared.Parsed.the-variants as P
 

@@ -11,9 +11,9 @@ use lines::parse;
 use meaning::Call;
 use meaning::Counts;
 use meaning::FormatReply;
-use printing::Line;
-use printing::line_of_refusal;
 use rendering::line_of_answer;
+use replies::Line;
+use replies::line_of_refusal;
 use store::perform;
 
 // The line to print, and how many words are in use after it.

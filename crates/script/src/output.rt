@@ -4,7 +4,7 @@ ghost use Prim.Native.Nat.{_+_, _≤_};
 ghost use lib.ListN.{length};
 ghost use Rattle.printing.specs.Text.{WIDTH};
 ghost use Rattle.script.specs.Run.{BUFFER};
-use printing::Line;
+use replies::Line;
 
 pub const NEWLINE: u8 = 10;
 

@@ -2,7 +2,7 @@
 -- Assumes nothing.
 use mathlib.Core.Path.{sym, ap, _∙_}
 use Rattle.store.specs.Answers.{ofAnswer}
-use Rattle.printing.specs.Shown.{lineOf}
+use Rattle.replies.specs.Lines.{lineOf}
 use borrow.Author.Needs.{needs}
 use Rattle.rendering.proofs.line_of_answer.Statement.{statement}
 use Rattle.rendering.proofs.line_of_answer.Tie as tie

@@ -4,7 +4,7 @@ use mathlib.Core.Path.{sym, ap, refl, _∙_}
 use lib.ListN.{length}
 use lib.Seq.{length-take-le}
 use Rattle.meaning.specs.Replies.{refused, ofFormat}
-use Rattle.printing.specs.Shown.{lineOf}
+use Rattle.replies.specs.Lines.{lineOf}
 use Rattle.script.proofs.Saying.{words-inside, done-answers, refused-answers}
 use borrow.Author.Needs.{needs}
 use Rattle.script.proofs.answers.run_format.Statement.{statement}

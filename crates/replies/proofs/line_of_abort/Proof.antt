@@ -1,0 +1,27 @@
+-- `replies::line_of_abort` meets its contract: each case of the answer is one case of `lineOf`.
+-- Assumes nothing.
+use borrow.Author.Needs.{needs}
+use mathlib.Core.Path.{sym, ap}
+use Rattle.meaning.specs.Replies.{ofAbort}
+use Rattle.replies.specs.Lines.{lineOf}
+use Rattle.replies.proofs.line_of_abort.Statement.{statement}
+use Rattle.replies.proofs.line_of_abort.Tie as tie
+
+enum-told : tie.Need-enum-told
+enum-told c = search needs
+
+enum-known-r : tie.Need-enum-known-r
+enum-known-r c = search needs
+
+line-of-refusal-requires : tie.Need-line-of-refusal-requires
+line-of-refusal-requires c κs = search needs
+
+returns : tie.Need-returns
+returns c = sym (ap (λ x. lineOf (ofAbort x)) (c .enum-told .given .1))
+
+returns-2 : tie.Need-returns-2
+returns-2 c = rw (c .line-of-refusal .ensures) (sym (ap (λ x. lineOf (ofAbort x)) (c .before .before .r .given .1)))
+
+pub line-of-abort-spec : {M : Type 1} → statement M
+line-of-abort-spec =
+    tie.close (tie.spec enum-told enum-known-r line-of-refusal-requires returns returns-2)

@@ -1,0 +1,160 @@
+// The line of each reply, by meaning's number and values of its case; `printing` writes a line. Rests on the crate
+// `meaning`.
+ghost use mathlib.Core.Path.{_≡_};
+ghost use Rattle.meaning.specs.Replies.{ofRefusal, ofFormat, ofBegin, ofWrite, ofLock, ofRead, ofCommit, ofAbort};
+ghost use Rattle.meaning.specs.Replies.{ofSettle, ofPurge, ofView};
+ghost use Rattle.replies.specs.Lines.{lineOf};
+use meaning::AbortReply;
+use meaning::BeginReply;
+use meaning::CommitReply;
+use meaning::FormatReply;
+use meaning::LockReply;
+use meaning::PurgeReply;
+use meaning::ReadReply;
+use meaning::Refusal;
+use meaning::SettleReply;
+use meaning::Value;
+use meaning::ViewReply;
+use meaning::WriteReply;
+
+// What a line prints: a reply, or `?`.
+pub enum Line {
+    Ok,
+    Edit(u64),
+    Locked(u64, u64),
+    Read(u64, u64, Value),
+    Own(u64),
+    Again(u64, Value),
+    Commit(u64),
+    NoPoint,
+    Purged(u64, u64),
+    At(u64, Value),
+    No(u64),
+    Held(u64),
+    Malformed,
+}
+
+// The line of a refusal: its number, and the holder's handle for 8.
+pub fn line_of_refusal(r: Refusal) -> Line
+    ensures { λ l. ⌜ l ≡ lineOf (ofRefusal r) ⌝ }
+{
+    match r {
+        Refusal::Unsound => Line::No(1),
+        Refusal::NoEdit => Line::No(2),
+        Refusal::EditEnded => Line::No(3),
+        Refusal::EditOpen => Line::No(4),
+        Refusal::NoRecord => Line::No(5),
+        Refusal::BadPoint => Line::No(6),
+        Refusal::BelowFloor => Line::No(7),
+        Refusal::Held(h) => Line::Held(meaning::word_of_handle(h)),
+        Refusal::Frozen => Line::No(9),
+        Refusal::NoAccessRow => Line::No(10),
+        Refusal::NoLockRow => Line::No(11),
+        Refusal::NoVersionRow => Line::No(12),
+        Refusal::NoSlot => Line::No(13),
+        Refusal::NotCommon => Line::No(14),
+        Refusal::LockedBelow => Line::No(15),
+        Refusal::BadFormat => Line::No(16),
+    }
+}
+
+// The line of each call's reply.
+pub fn line_of_format(r: FormatReply) -> Line
+    ensures { λ l. ⌜ l ≡ lineOf (ofFormat r) ⌝ }
+{
+    match r {
+        FormatReply::Done => Line::Ok,
+        FormatReply::Refused(x) => line_of_refusal(x),
+    }
+}
+
+pub fn line_of_begin(r: BeginReply) -> Line
+    ensures { λ l. ⌜ l ≡ lineOf (ofBegin r) ⌝ }
+{
+    match r {
+        BeginReply::Edit(h) => Line::Edit(meaning::word_of_handle(h)),
+        BeginReply::Refused(x) => line_of_refusal(x),
+    }
+}
+
+pub fn line_of_write(r: WriteReply) -> Line
+    ensures { λ l. ⌜ l ≡ lineOf (ofWrite r) ⌝ }
+{
+    match r {
+        WriteReply::Done => Line::Ok,
+        WriteReply::Refused(x) => line_of_refusal(x),
+    }
+}
+
+pub fn line_of_lock(r: LockReply) -> Line
+    ensures { λ l. ⌜ l ≡ lineOf (ofLock r) ⌝ }
+{
+    match r {
+        LockReply::Locked(low, high) => Line::Locked(
+            meaning::word_of_point(low),
+            meaning::word_of_point(high),
+        ),
+        LockReply::Refused(x) => line_of_refusal(x),
+    }
+}
+
+pub fn line_of_read(r: ReadReply) -> Line
+    ensures { λ l. ⌜ l ≡ lineOf (ofRead r) ⌝ }
+{
+    match r {
+        ReadReply::Read(tr, end, v) => Line::Read(
+            meaning::word_of_point(tr),
+            meaning::word_of_point(end),
+            v,
+        ),
+        ReadReply::Own(v) => Line::Own(v),
+        ReadReply::Again(tr, v) => Line::Again(meaning::word_of_point(tr), v),
+        ReadReply::Refused(x) => line_of_refusal(x),
+    }
+}
+
+pub fn line_of_commit(r: CommitReply) -> Line
+    ensures { λ l. ⌜ l ≡ lineOf (ofCommit r) ⌝ }
+{
+    match r {
+        CommitReply::Commit(p) => Line::Commit(meaning::word_of_point(p)),
+        CommitReply::NoPoint => Line::NoPoint,
+        CommitReply::Refused(x) => line_of_refusal(x),
+    }
+}
+
+pub fn line_of_abort(r: AbortReply) -> Line
+    ensures { λ l. ⌜ l ≡ lineOf (ofAbort r) ⌝ }
+{
+    match r {
+        AbortReply::Done => Line::Ok,
+        AbortReply::Refused(x) => line_of_refusal(x),
+    }
+}
+
+pub fn line_of_settle(r: SettleReply) -> Line
+    ensures { λ l. ⌜ l ≡ lineOf (ofSettle r) ⌝ }
+{
+    match r {
+        SettleReply::Done => Line::Ok,
+        SettleReply::Refused(x) => line_of_refusal(x),
+    }
+}
+
+pub fn line_of_purge(r: PurgeReply) -> Line
+    ensures { λ l. ⌜ l ≡ lineOf (ofPurge r) ⌝ }
+{
+    match r {
+        PurgeReply::Purged(versions, locks) => Line::Purged(versions, locks),
+        PurgeReply::Refused(x) => line_of_refusal(x),
+    }
+}
+
+pub fn line_of_view(r: ViewReply) -> Line
+    ensures { λ l. ⌜ l ≡ lineOf (ofView r) ⌝ }
+{
+    match r {
+        ViewReply::At(p, v) => Line::At(meaning::word_of_point(p), v),
+        ViewReply::Refused(x) => line_of_refusal(x),
+    }
+}
