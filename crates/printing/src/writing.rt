@@ -1,15 +1,15 @@
-// Lines written into a lent buffer. Each function answers where the bytes that it wrote end. Rests on the crate
-// `meaning`.
+// Lines written into a lent buffer. Each function answers where the bytes that it wrote end. Rests on the
+// crates `meaning` and `replies`.
 ghost use mathlib.Core.Path.{_≡_};
 ghost use mathlib.Core.List.{[], _∷_};
 ghost use Prim.Native.Nat.{_+_, _≤_, _<_};
 ghost use lib.ListN.{length};
 ghost use Rattle.printing.specs.Shown.{Appended, Printed, decimal, valueText, one as one·of, two as two·of};
 ghost use Rattle.printing.specs.Shown.{oneValue, twoValue};
-use crate::Line;
 use crate::SPACE;
 use crate::WIDTH;
 use meaning::Value;
+use replies::Line;
 
 // Puts one byte at a position.
 fn put(out: &mut [u8], at: usize, b: u8) -> usize
