@@ -36,7 +36,7 @@ fn writes_at(k: u64, p: u64, l: Lock) -> bool
     if !owns_write(k, l) {
         return false;
     }
-    meaning::covers(p, l)
+    locks::covers(p, l)
 }
 
 pub fn write_on(w: &[u64], c: Counts, k: u64, r: usize, p: u64) -> bool

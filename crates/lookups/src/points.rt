@@ -41,7 +41,7 @@ pub fn counts(mine: bool, mode: u64, k: u64, l: Lock) -> bool
     if mine {
         return l.owner == k;
     }
-    meaning::blocks(mode, k, l)
+    locks::blocks(mode, k, l)
 }
 
 fn further(mine: bool, mode: u64, k: u64, p: u64, high: u64, best: u64, l: Lock) -> u64
@@ -51,7 +51,7 @@ fn further(mine: bool, mode: u64, k: u64, p: u64, high: u64, best: u64, l: Lock)
     if !counts(mine, mode, k, l) {
         return best;
     }
-    if !meaning::covers(p, l) {
+    if !locks::covers(p, l) {
         return best;
     }
     larger(best, smaller(high, l.high) + 1)
@@ -130,7 +130,7 @@ fn joined(best: Blocked, q: u64, o: u64) -> Blocked
 fn nearer(mode: u64, k: u64, low: u64, high: u64, best: Blocked, l: Lock) -> Blocked
     ensures { λ q. ⌜ q ≡ nearer mode k low high best l ⌝ }
 {
-    if !meaning::blocks(mode, k, l) {
+    if !locks::blocks(mode, k, l) {
         return best;
     }
     if !meets(low, high, l) {

@@ -2,10 +2,8 @@
 // tables. Each function is proved against the definitions in specs/, which say what the store means. Nothing here
 // knows a word's place. Rests on nothing.
 ghost use mathlib.Core.Path.{_≡_};
-ghost use Rattle.meaning.specs.Points.{covers, conflicts, blocks};
 ghost use Rattle.meaning.specs.Replies.{ofPoint, number};
 ghost use Rattle.meaning.specs.Records.{pointing};
-ghost use Rattle.meaning.specs.Sound.{agree, startsRead};
 ghost use Rattle.meaning.specs.Store.{handle, slotOf, generationOf, nextGeneration};
 
 // The numbers of document 01, each named once for all crates; specs/Limits has the same names.
@@ -319,63 +317,4 @@ pub fn refusal_number(r: Refusal) -> u64
         Refusal::LockedBelow => 15,
         Refusal::BadFormat => 16,
     }
-}
-
-// Tests on locks: the point lies in the lock.
-pub fn covers(p: u64, l: Lock) -> bool
-    ensures { λ q. ⌜ q ≡ covers p l ⌝ }
-{
-    if p < l.low {
-        return false;
-    }
-    p <= l.high
-}
-
-// A lock of another owner would stand in the way of this mode.
-pub fn conflicts(mode: u64, l: Lock) -> bool
-    ensures { λ q. ⌜ q ≡ conflicts mode l ⌝ }
-{
-    if mode == WRITE {
-        return true;
-    }
-    l.mode == WRITE
-}
-
-// The lock stands in the way of slot k: another owner has it, and it conflicts.
-pub fn blocks(mode: u64, k: u64, l: Lock) -> bool
-    ensures { λ q. ⌜ q ≡ blocks mode k l ⌝ }
-{
-    if l.owner == k {
-        return false;
-    }
-    conflicts(mode, l)
-}
-
-// No write lock shares a point with a lock of another owner.
-pub fn agree(l: Lock, m: Lock) -> bool
-    ensures { λ q. ⌜ q ≡ agree l m ⌝ }
-{
-    if m.owner == l.owner {
-        return true;
-    }
-    if !conflicts(l.mode, m) {
-        return true;
-    }
-    if l.high < m.low {
-        return true;
-    }
-    m.high < l.low
-}
-
-// A read lock of slot k that starts at from.
-pub fn starts_read(k: u64, from: u64, l: Lock) -> bool
-    ensures { λ q. ⌜ q ≡ startsRead k from l ⌝ }
-{
-    if l.owner != k {
-        return false;
-    }
-    if l.mode == WRITE {
-        return false;
-    }
-    l.low == from
 }

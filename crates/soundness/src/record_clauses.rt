@@ -157,7 +157,7 @@ fn rows_agree(w: &[u64], c: Counts, l: Lock, i: usize) -> bool
     requires { ⌜ Fits c (now w) × IsRow (c .locks) i ⌝ }
     ensures { λ q. ⌜ q ≡ agree l (lockAt c (now (w .entry)) i) ⌝ }
 {
-    meaning::agree(l, tables::lock_at(w, c, i))
+    locks::agree(l, tables::lock_at(w, c, i))
 }
 
 fn agrees_after(w: &[u64], c: Counts, l: Lock, head: usize, fuel: usize) -> bool
@@ -232,7 +232,7 @@ fn row_backs(w: &[u64], c: Counts, r: usize, p: u64, i: usize, marks: &[u8; 4096
     if l.mode != WRITE {
         return false;
     }
-    if !meaning::covers(p, l) {
+    if !locks::covers(p, l) {
         return false;
     }
     if l.owner == SETTLED {

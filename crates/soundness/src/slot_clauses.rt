@@ -25,7 +25,7 @@ fn row_starts(w: &[u64], c: Counts, k: u64, from: u64, i: usize) -> bool
     requires { ⌜ Fits c (now w) × IsRow (c .locks) i ⌝ }
     ensures { λ q. ⌜ q ≡ startsRead k from (lockAt c (now (w .entry)) i) ⌝ }
 {
-    meaning::starts_read(k, from, tables::lock_at(w, c, i))
+    locks::starts_read(k, from, tables::lock_at(w, c, i))
 }
 
 fn has_read_lock(w: &[u64], c: Counts, r: usize, k: u64, from: u64) -> bool

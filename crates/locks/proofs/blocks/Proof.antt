@@ -1,9 +1,9 @@
 -- `blocks` meets its contract. Assumes nothing.
 use mathlib.Core.Path.{_∙_}
 use Rattle.meaning.proofs.Values.{blocks-own, blocks-other}
 use borrow.Author.Needs.{needs}
-use Rattle.meaning.proofs.blocks.Statement.{statement}
-use Rattle.meaning.proofs.blocks.Tie as tie
+use Rattle.locks.proofs.blocks.Statement.{statement}
+use Rattle.locks.proofs.blocks.Tie as tie
 
 returns : tie.Need-returns
 returns c =

@@ -1,7 +1,7 @@
 -- `conflicts` meets its contract. Assumes nothing.
 use Rattle.meaning.proofs.Values.{conflicts-write, conflicts-read}
-use Rattle.meaning.proofs.conflicts.Statement.{statement}
-use Rattle.meaning.proofs.conflicts.Tie as tie
+use Rattle.locks.proofs.conflicts.Statement.{statement}
+use Rattle.locks.proofs.conflicts.Tie as tie
 
 returns : tie.Need-returns
 returns c = conflicts-write (c .before .args .mode) 0 (c .before .args .l) (c .if1 .taken)

@@ -1,9 +1,9 @@
 -- `starts_read` meets its contract. Assumes nothing.
 use native.Mathlib.Decide.{ℕ-discrete}
 use Rattle.meaning.proofs.Values.{reads-other, reads-write, reads-own}
 use borrow.Author.Needs.{needs}
-use Rattle.meaning.proofs.starts_read.Statement.{statement}
-use Rattle.meaning.proofs.starts_read.Tie as tie
+use Rattle.locks.proofs.starts_read.Statement.{statement}
+use Rattle.locks.proofs.starts_read.Tie as tie
 
 returns : tie.Need-returns
 returns c =

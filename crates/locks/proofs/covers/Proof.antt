@@ -1,7 +1,7 @@
 -- `covers` meets its contract. Assumes nothing.
 use Rattle.meaning.proofs.Values.{covers-low, covers-high}
-use Rattle.meaning.proofs.covers.Statement.{statement}
-use Rattle.meaning.proofs.covers.Tie as tie
+use Rattle.locks.proofs.covers.Statement.{statement}
+use Rattle.locks.proofs.covers.Tie as tie
 
 returns : tie.Need-returns
 returns c = covers-low (c .before .before .args .p) (c .before .before .args .l) (c .if1 .taken)

@@ -2,10 +2,10 @@
 use mathlib.Core.Path.{sym, _∙_}
 use native.Mathlib.Omega.{arith}
 use borrow.Author.Tests.{not-true, not-false}
 use Rattle.meaning.proofs.Values.{agree-own, agree-reads, agree-above, agree-below}
 use borrow.Author.Needs.{needs}
-use Rattle.meaning.proofs.agree.Statement.{statement}
-use Rattle.meaning.proofs.agree.Tie as tie
+use Rattle.locks.proofs.agree.Statement.{statement}
+use Rattle.locks.proofs.agree.Tie as tie
 
 returns : tie.Need-returns
 returns c = agree-own (c .before .before .before .args .l) (c .before .before .before .args .m) (c .if1 .taken)
