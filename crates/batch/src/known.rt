@@ -14,7 +14,7 @@ pub fn perform(words: &mut [u64], call: Call) -> Answer
     match call {
         Call::Begin => Answer::Begin(calls::begin(words)),
         Call::Write(h, rec, value) => Answer::Write(calls::write(words, h, rec, value)),
-        Call::Lock(h, rec, low, high, extent) => Answer::Lock(calls::lock(
+        Call::Lock(h, rec, low, high, extent) => Answer::Lock(locking::lock(
             words,
             h,
             rec,
@@ -22,7 +22,7 @@ pub fn perform(words: &mut [u64], call: Call) -> Answer
             high,
             extent,
         )),
-        Call::Read(h, rec, m, extent) => Answer::Read(calls::read(words, h, rec, m, extent)),
+        Call::Read(h, rec, m, extent) => Answer::Read(reading::read(words, h, rec, m, extent)),
         Call::Commit(h, pick, finish) => Answer::Commit(endings::commit(words, h, pick, finish)),
         Call::Abort(h, finish) => Answer::Abort(endings::abort(words, h, finish)),
         Call::Settle(h) => Answer::Settle(endings::settle(words, h)),

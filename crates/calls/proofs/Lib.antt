@@ -10,7 +10,3 @@ pub mod Rooms
 pub mod Writing
 pub mod Judged
 pub mod Granting
-pub mod LockExits
-pub mod Locking
-pub mod ReadExits
-pub mod Reading

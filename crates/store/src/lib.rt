@@ -94,7 +94,7 @@ pub fn lock(
         ⌝ }
 {
     if soundness::check(words) {
-        calls::lock(words, h, rec, low, high, extent)
+        locking::lock(words, h, rec, low, high, extent)
     } else {
         LockReply::Refused(Refusal::Unsound)
     }
@@ -104,7 +104,7 @@ pub fn read(words: &mut [u64], h: Handle, rec: u64, m: Point, extent: Extent) ->
     ensures { λ r. ⌜ Does (reading (h .0) rec (m .0) extent) (now (words .entry)) (now (words .exit)) (ofRead r) ⌝ }
 {
     if soundness::check(words) {
-        calls::read(words, h, rec, m, extent)
+        reading::read(words, h, rec, m, extent)
     } else {
         ReadReply::Refused(Refusal::Unsound)
     }

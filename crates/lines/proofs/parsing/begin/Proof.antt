@@ -1,4 +1,4 @@
--- `lines::calls::begin` meets its contract: B has no field after it.
+-- `lines::parsing::begin` meets its contract: B has no field after it.
 -- Assumes nothing.
 use mathlib.Core.Path.{sym}
 use Rattle.lines.specs.Calls.{beginning}

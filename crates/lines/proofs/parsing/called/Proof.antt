@@ -1,4 +1,4 @@
--- `lines::calls::called` meets its contract: the tests that led to each return pick the case of `called`.
+-- `lines::parsing::called` meets its contract: the tests that led to each return pick the case of `called`.
 -- Assumes nothing.
 use borrow.Author.Needs.{needs}
 use borrow.Author.Tests.{eq-eqb, ne-eqb}

@@ -1,4 +1,4 @@
--- `lines::calls::lock` meets its contract: the fields are found one after another, and none is left; each missing one
+-- `lines::parsing::lock` meets its contract: the fields are found one after another, and none is left; each missing one
 -- ends in `Malformed`. Assumes nothing.
 use borrow.Author.Needs.{needs}
 use mathlib.Core.Path.{sym, _∙_}

@@ -1,4 +1,4 @@
--- `lines::calls::parse` meets its contract: the letter is the line's first field, and the fields after it are the
+-- `lines::parsing::parse` meets its contract: the letter is the line's first field, and the fields after it are the
 -- call's. Assumes nothing.
 use borrow.Author.Needs.{needs}
 use mathlib.Core.Path.{sym, _∙_}

@@ -1,9 +1,9 @@
--- `calls::read_new` meets its contract: below the floor, blocked, or what `read_taken` makes. Rests on Reading.
+-- `reading::read_new` meets its contract: below the floor, blocked, or what `read_taken` makes. Rests on Reading.
 use native.Mathlib.Omega.{arith}
-use Rattle.calls.proofs.Reading.{new-below, version-below, new-by-small, new-blocked, new-taken}
+use Rattle.reading.proofs.Reading.{new-below, version-below, new-by-small, new-blocked, new-taken}
 use borrow.Author.Needs.{needs}
-use Rattle.calls.proofs.read_new.Statement.{statement}
-use Rattle.calls.proofs.read_new.Tie as tie
+use Rattle.reading.proofs.read_new.Statement.{statement}
+use Rattle.reading.proofs.read_new.Tie as tie
 
 floor-of-requires : tie.Need-floor-of-requires
 floor-of-requires c κs = (c .before .before .pre .0 .well .fits, c .before .before .pre .2)

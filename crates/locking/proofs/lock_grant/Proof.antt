@@ -1,10 +1,10 @@
--- `calls::lock_grant` meets its contract: all points or none, or the run from the first free point. Rests on Granting.
+-- `locking::lock_grant` meets its contract: all points or none, or the run from the first free point. Rests on Granting.
 use native.Mathlib.Omega.{arith}
 use Rattle.meaning.proofs.JudgeLocking.{proper}
 use Rattle.calls.proofs.Granting.{lock-all-taken, lock-all-judged, lock-part-low}
 use borrow.Author.Needs.{needs}
-use Rattle.calls.proofs.lock_grant.Statement.{statement}
-use Rattle.calls.proofs.lock_grant.Tie as tie
+use Rattle.locking.proofs.lock_grant.Statement.{statement}
+use Rattle.locking.proofs.lock_grant.Tie as tie
 
 first-blocked-requires : tie.Need-first-blocked-requires
 first-blocked-requires c κs =

@@ -1,10 +1,10 @@
--- `calls::read_grant` meets its contract: all points or none, or those up to the first blocked one. Rests on Granting.
+-- `reading::read_grant` meets its contract: all points or none, or those up to the first blocked one. Rests on Granting.
 use native.Mathlib.Omega.{arith}
 use Rattle.meaning.proofs.JudgeLocking.{proper}
 use Rattle.calls.proofs.Granting.{read-all-taken, read-all-judged, read-part-taken, read-part-judged}
 use borrow.Author.Needs.{needs}
-use Rattle.calls.proofs.read_grant.Statement.{statement}
-use Rattle.calls.proofs.read_grant.Tie as tie
+use Rattle.reading.proofs.read_grant.Statement.{statement}
+use Rattle.reading.proofs.read_grant.Tie as tie
 
 first-blocked-requires : tie.Need-first-blocked-requires
 first-blocked-requires c κs =

@@ -1,9 +1,9 @@
--- `calls::read_open` meets its contract: an own value, the version read before, or what `read_new` makes. Rests on Reading.
+-- `reading::read_open` meets its contract: an own value, the version read before, or what `read_new` makes. Rests on Reading.
 use Rattle.lookups.proofs.Found.{access-within}
-use Rattle.calls.proofs.Reading.{opened-own, opened-again, opened-new}
+use Rattle.reading.proofs.Reading.{opened-own, opened-again, opened-new}
 use borrow.Author.Needs.{needs}
-use Rattle.calls.proofs.read_open.Statement.{statement}
-use Rattle.calls.proofs.read_open.Tie as tie
+use Rattle.reading.proofs.read_open.Statement.{statement}
+use Rattle.reading.proofs.read_open.Tie as tie
 
 access-row-requires : tie.Need-access-row-requires
 access-row-requires c κs = (c .before .before .pre .0 .well .fits, c .before .before .pre .1)

@@ -23,14 +23,14 @@ use Rattle.tables.specs.Words.{lent, soundWords}
 use Rattle.tables.proofs.Decoded.{rec-at}
 use Rattle.changes.specs.Becomes.{Becomes, onLocks}
 use Rattle.lookups.specs.declared.Blocked.{Blocked}
 use Rattle.calls.specs.Contract.{Acts, Ready, Makes}
 use Rattle.calls.specs.Grants.{lockGrant, refusalBy}
 use Rattle.calls.specs.declared.Grant.{Grant}
 use Rattle.calls.specs.declared.Grant.the-variants.{Taken, Judged}
 use Rattle.calls.proofs.Acting.{ready, makes-refused, makes-done, makes-as, acts}
 use Rattle.calls.proofs.Handles.{has-record-is}
-use Rattle.calls.proofs.LockExits.{lock-no-edit, lock-ended, lock-no-record, lock-bad-point}
-use Rattle.calls.proofs.LockExits.{lock-below, lock-passes, lock-by-small, lock-blocked, lock-no-room, lock-done}
+use Rattle.locking.proofs.LockExits.{lock-no-edit, lock-ended, lock-no-record, lock-bad-point}
+use Rattle.locking.proofs.LockExits.{lock-below, lock-passes, lock-by-small, lock-blocked, lock-no-room, lock-done}
 
 -- the points wanted, by the open edit of slot k
 module _ (c : Counts) (w : List ℕ) (R : Ready c w) (k r low high : ℕ) (x : Extent) (g : Grant)

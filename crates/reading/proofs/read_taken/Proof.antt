@@ -1,11 +1,11 @@
--- `calls::read_taken` meets its contract: no access row, no lock row, or the access and the lock stored. Rests on Reading.
+-- `reading::read_taken` meets its contract: no access row, no lock row, or the access and the lock stored. Rests on Reading.
 use native.Mathlib.Omega.{arith}
 use Rattle.calls.proofs.Answers.{off, on}
 use Rattle.calls.proofs.Rooms.{once, owner-small}
-use Rattle.calls.proofs.Reading.{taken-no-access, taken-no-lock, taken-room, taken-done}
+use Rattle.reading.proofs.Reading.{taken-no-access, taken-no-lock, taken-room, taken-done}
 use borrow.Author.Needs.{needs}
-use Rattle.calls.proofs.read_taken.Statement.{statement}
-use Rattle.calls.proofs.read_taken.Tie as tie
+use Rattle.reading.proofs.read_taken.Statement.{statement}
+use Rattle.reading.proofs.read_taken.Tie as tie
 
 access-room-requires : tie.Need-access-room-requires
 access-room-requires c κs = c .before .before .pre .0 .well

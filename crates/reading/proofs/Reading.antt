@@ -27,17 +27,17 @@ use Rattle.tables.specs.Words.{lent, soundWords, Well}
 use Rattle.tables.proofs.Decoded.{rec-at, edit-at}
 use Rattle.changes.specs.Becomes.{Becomes, onLocks, onEdit}
 use Rattle.lookups.specs.declared.Blocked.{Blocked}
 use Rattle.calls.specs.Contract.{Acts, Ready, Makes}
 use Rattle.calls.specs.Grants.{readGrant, refusalBy}
 use Rattle.calls.specs.Parts.{readTaken}
 use Rattle.calls.specs.declared.Grant.{Grant}
 use Rattle.calls.specs.declared.Grant.the-variants.{Taken, Judged}
 use Rattle.calls.proofs.Acting.{ready, facts, makes-refused, makes-done, makes-as, acts}
 use Rattle.calls.proofs.Handles.{has-record-is}
 use Rattle.calls.proofs.Rooms.{lock-free, edit-leaves-room, edit-then-lock}
-use Rattle.calls.proofs.ReadExits.{read-no-edit, read-ended, read-no-record, read-bad-point, read-passes}
-use Rattle.calls.proofs.ReadExits.{read-own, read-again, read-first, read-below, read-by-small}
-use Rattle.calls.proofs.ReadExits.{read-blocked, read-granted-is, read-no-access, read-no-lock, read-done}
+use Rattle.reading.proofs.ReadExits.{read-no-edit, read-ended, read-no-record, read-bad-point, read-passes}
+use Rattle.reading.proofs.ReadExits.{read-own, read-again, read-first, read-below, read-by-small}
+use Rattle.reading.proofs.ReadExits.{read-blocked, read-granted-is, read-no-access, read-no-lock, read-done}
 
 -- the lock and the access of a read, of the version v
 module _ (c : Counts) (w : List ℕ) (R : Ready c w) (k r from end : ℕ) (v : Version) where

@@ -1,11 +1,11 @@
--- `calls::lock_wanted` meets its contract: blocked, no lock row, or the points locked. Rests on Locking.
+-- `locking::lock_wanted` meets its contract: blocked, no lock row, or the points locked. Rests on Locking.
 use Rattle.calls.proofs.Answers.{off, on}
 use Rattle.calls.proofs.Rooms.{lock-free, owner-small}
-use Rattle.calls.proofs.Locking.{wanted-by-small, wanted-blocked, wanted-no-room, wanted-done}
+use Rattle.locking.proofs.Locking.{wanted-by-small, wanted-blocked, wanted-no-room, wanted-done}
 use native.Mathlib.Omega.{arith}
 use borrow.Author.Needs.{needs}
-use Rattle.calls.proofs.lock_wanted.Statement.{statement}
-use Rattle.calls.proofs.lock_wanted.Tie as tie
+use Rattle.locking.proofs.lock_wanted.Statement.{statement}
+use Rattle.locking.proofs.lock_wanted.Tie as tie
 
 lock-grant-requires : tie.Need-lock-grant-requires
 lock-grant-requires c κs =

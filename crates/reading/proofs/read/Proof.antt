@@ -1,11 +1,11 @@
--- `calls::read` meets its contract: each refusal, and what `read_open` makes. Rests on Reading.
+-- `reading::read` meets its contract: each refusal, and what `read_open` makes. Rests on Reading.
 use Rattle.calls.proofs.Answers.{off, on}
 use Rattle.calls.proofs.Acting.{has-header, ready, slot-row}
 use Rattle.calls.proofs.Handles.{row-there}
-use Rattle.calls.proofs.Reading.{reads-no-edit, reads-ended, reads-no-record, reads-zero, reads-too-large, read-acts}
+use Rattle.reading.proofs.Reading.{reads-no-edit, reads-ended, reads-no-record, reads-zero, reads-too-large, read-acts}
 use borrow.Author.Needs.{needs}
-use Rattle.calls.proofs.read.Statement.{statement}
-use Rattle.calls.proofs.read.Tie as tie
+use Rattle.reading.proofs.read.Statement.{statement}
+use Rattle.reading.proofs.read.Tie as tie
 
 counts-of-requires : tie.Need-counts-of-requires
 counts-of-requires c κs = has-header _ (c .before .before .pre)

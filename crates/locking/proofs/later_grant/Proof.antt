@@ -1,11 +1,11 @@
--- `calls::later_grant` meets its contract: the run from the first free point, or the judgement of low. Rests on
+-- `locking::later_grant` meets its contract: the run from the first free point, or the judgement of low. Rests on
 -- Granting.
 use denote.Ref.{now}
 use native.Mathlib.Omega.{arith}
 use Rattle.meaning.proofs.JudgeLocking.{proper}
 use Rattle.calls.proofs.Granting.{later-judged, later-taken, later-above}
-use Rattle.calls.proofs.later_grant.Statement.{statement}
-use Rattle.calls.proofs.later_grant.Tie as tie
+use Rattle.locking.proofs.later_grant.Statement.{statement}
+use Rattle.locking.proofs.later_grant.Tie as tie
 
 first-free-requires : tie.Need-first-free-requires
 first-free-requires c κs = let s = c .before in (s .pre .0 .well .fits, s .pre .1, s .pre .3, s .pre .4)

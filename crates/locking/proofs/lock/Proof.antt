@@ -1,12 +1,12 @@
--- `calls::lock` meets its contract: each refusal, and what `lock_wanted` makes. Rests on Locking.
+-- `locking::lock` meets its contract: each refusal, and what `lock_wanted` makes. Rests on Locking.
 use Rattle.calls.proofs.Answers.{off, on}
 use Rattle.calls.proofs.Acting.{has-header, ready, slot-row}
 use Rattle.calls.proofs.Handles.{row-there}
-use Rattle.calls.proofs.Locking.{locked-no-edit, locked-ended, locked-no-record, locked-crossed, locked-too-large, locked-below, lock-acts}
+use Rattle.locking.proofs.Locking.{locked-no-edit, locked-ended, locked-no-record, locked-crossed, locked-too-large, locked-below, lock-acts}
 use native.Mathlib.Omega.{arith}
 use borrow.Author.Needs.{needs}
-use Rattle.calls.proofs.lock.Statement.{statement}
-use Rattle.calls.proofs.lock.Tie as tie
+use Rattle.locking.proofs.lock.Statement.{statement}
+use Rattle.locking.proofs.lock.Tie as tie
 
 counts-of-requires : tie.Need-counts-of-requires
 counts-of-requires c κs = has-header _ (c .before .before .pre)

@@ -1,0 +1,2 @@
+pub mod LockExits
+pub mod Locking

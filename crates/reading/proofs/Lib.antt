@@ -1,0 +1,2 @@
+pub mod ReadExits
+pub mod Reading
