@@ -1,2 +1,2 @@
--- Proofs of the chart reader.
+-- Laws of the chart reader. Rests on specs/Seen.
 pub mod Seen
