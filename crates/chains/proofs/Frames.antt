@@ -5,8 +5,9 @@ use mathlib.Core.Path.{_≡_, refl, sym, ap, _∙_}
 use mathlib.Core.Bool.{Bool, true, false}
 use mathlib.Core.List.{List, _∷_}
 use native.Mathlib.Omega.{arith}
+use native.Mathlib.Decide.{ℕ-discrete}
 use lib.ListN.{length, getD, set, length-set}
-use lib.Seq.{getD-set-other}
+use lib.Seq.{getD-set-same, getD-set-other}
 use lib.Dec.{eqb}
 use Rattle.chains.specs.declared.Table.{Table}
 use Rattle.chains.specs.declared.Heads.{Heads}
@@ -93,6 +94,16 @@ else-refl t h w = record { size = refl; kept = λ c p q. refl }
 
 pub else-trans : {t : Table} {h : Heads} {w u v : List ℕ} → Elsewhere t h w u → Elsewhere t h u v → Elsewhere t h w v
 else-trans e f = record { size = f .size ∙ e .size; kept = λ c p q. f .kept c p q ∙ e .kept c p q }
+
+pub else-put : {t : Table} {h : Heads} {w u : List ℕ} → Elsewhere t h w u → (c v : ℕ) → c < length w
+    → Elsewhere t h (set w c v) (set u c v)
+else-put {t} {h} {w} {u} e c v l = record {
+  size = length-set u c v ∙ e .size ∙ sym (length-set w c v);
+  kept = λ x p q. elim (ℕ-discrete x c) [
+    | yes z ↦ rw z (getD-set-same u c v 0 (rw (e .size) l) ∙ sym (getD-set-same w c v 0 l))
+    | no z ↦ getD-set-other u c x v 0 z ∙ e .kept x p q ∙ sym (getD-set-other w c x v 0 z)
+  ];
+}
 
 -- only head words and rows' words of the table differ
 pub record OnlyTable (t : Table) (h : Heads) (w w′ : List ℕ) : Type 0 where

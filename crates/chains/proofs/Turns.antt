@@ -6,21 +6,21 @@ use mathlib.Core.Path.{_≡_, refl, sym, ap, _∙_}
 use mathlib.Core.Bool.{Bool, true, false, cond, false≢true}
 use mathlib.Core.List.{List, [], _∷_, _++_, append-nil, reverseAux}
 use native.Mathlib.Omega.{arith}
-use lib.ListN.{length, getD, length-append}
+use lib.ListN.{length, getD, set, length-append}
 use Rattle.chains.specs.declared.Table.{Table}
 use Rattle.chains.specs.declared.Heads.{Heads}
 use Rattle.chains.specs.Lists.{occ, first, lastOr, dropIf, pushIf}
-use Rattle.chains.specs.Walk.{more}
-use Rattle.chains.specs.Table.{field, link, headOf, rowsOf, afterCell}
+use Rattle.chains.specs.Walk.{IsRow, more}
+use Rattle.chains.specs.Table.{place, field, link, headOf, rowsOf, afterCell, Laid}
 use Rattle.chains.specs.Partition.{partition}
 use Rattle.chains.specs.Change.{Ready, Elsewhere, Changed, Split, Follows, Unlinked, Turned, UnlinkedBy}
 use Rattle.chains.proofs.Occurs.{occ-here, occ-append, last-snoc, snoc, cons-of}
 use Rattle.chains.proofs.Walks.{more-out, more-in}
-use Rattle.chains.proofs.Segments.{seg-split, seg-first}
-use Rattle.chains.proofs.Cells.{after-head}
+use Rattle.chains.proofs.Segments.{Seg, seg-split, seg-first, seg-in, seg-frame}
+use Rattle.chains.proofs.Cells.{after-head, lies, place-lt, field-other}
 use Rattle.chains.proofs.Words.{rep-of, on-chain, on-short, after-first}
 use Rattle.chains.proofs.Steps.{ready-after}
-use Rattle.chains.proofs.Frames.{field-kept, else-refl, else-trans}
+use Rattle.chains.proofs.Frames.{put-same, put-ready, field-kept, else-refl, else-trans, else-put}
 
 drop-hit : (p : ℕ → Bool) (x : ℕ) (xs : List ℕ) → p x ≡ true → dropIf p (x ∷ xs) ≡ dropIf p xs
 unfolding dropIf
@@ -39,7 +39,7 @@ unfolding pushIf
 push-miss p x xs acc e = rw (e, pushIf)
 
 -- From words w₀, where chain a was ks before the loop's first place and ys after it: `kept` is what chain a has up to
--- the place, `ahead` what follows
+-- the place, `ahead` what follows, linked as in w₀
 pub record TurnInv (t : Table) (h : Heads) (test : ℕ → Bool) (w₀ : List ℕ) (a b : ℕ) (ks ys : List ℕ) (w : List ℕ)
     (place cur left : ℕ) : Type 0 where
   pub ready : Ready t h w a b
@@ -54,10 +54,18 @@ pub record TurnInv (t : Table) (h : Heads) (test : ℕ → Bool) (w₀ : List �
   pub sofar-b : pushIf test ys (rowsOf t h w₀ b) ≡ pushIf test ahead (rowsOf t h w b)
   pub others : (j : ℕ) → j ≤ h .owners → (j ≡ a → ⊥) → (j ≡ b → ⊥) → rowsOf t h w j ≡ rowsOf t h w₀ j
   pub elsewhere : Elsewhere t h w₀ w
+  pub walk : Seg (link t w₀) (t .count) cur ahead 0
 
 ahead-fits : (t : Table) (h : Heads) (w : List ℕ) (a p : ℕ) (ks ys : List ℕ) → partition t h w ≡ true → a ≤ h .owners
     → Split t h w a p ks ys → length ys ≤ t .count
 ahead-fits t h w a p ks ys s ha sp = omega (arith, on-short t h w s a ha, ap length (sp .parts) ∙ length-append ks ys)
+
+ahead-seg : (t : Table) (h : Heads) (w : List ℕ) (a p : ℕ) (ks ys : List ℕ) → partition t h w ≡ true → a ≤ h .owners
+    → Split t h w a p ks ys → Seg (link t w) (t .count) (first ys) ys 0
+ahead-seg t h w a p ks ys s ha sp =
+    let q = seg-split (link t w) (t .count) ks ys (headOf h w a) 0
+    (rw (sp .parts) at (rep-of t h w s .segs a (omega arith))) in
+    rw (sym (seg-first (link t w) (t .count) ys (q .0) (q .2))) (q .2)
 
 -- the start at a place, and at the head
 pub turn-start-at : {t : Table} {h : Heads} (test : ℕ → Bool) {w : List ℕ} {a b p cur : ℕ} {ks ys : List ℕ}
@@ -76,6 +84,7 @@ turn-start-at {t} {h} test {w} {a} {b} {p} {cur} {ks} {ys} rd sp e = record {
   sofar-b = refl;
   others = λ j p q z. refl;
   elsewhere = else-refl t h w;
+  walk = rw (e ∙ after-first (rd .parted) (rd .a-in) sp) (ahead-seg t h w a p ks ys (rd .parted) (rd .a-in) sp);
 }
 
 pub turn-start : {t : Table} {h : Heads} (test : ℕ → Bool) {w : List ℕ} {a b cur : ℕ} → Ready t h w a b
@@ -115,6 +124,16 @@ module _ {t : Table} {h : Heads} {test : ℕ → Bool} {w₀ : List ℕ} {a b : 
       (rw (i .here .parts, e) at (R .segs a (omega (arith, i .ready .a-in)))) in
       seg-first (link t w) (t .count) zs (link t w cur) (q .2 .3)
 
+  walk-on : (zs : List ℕ) → i .ahead ≡ cur ∷ zs → Seg (link t w₀) (t .count) (link t w₀ cur) zs 0
+  walk-on zs e = let q : Seg (link t w₀) (t .count) cur (cur ∷ zs) 0 = rw e at (i .walk) in q .3
+
+  next-kept : (zs : List ℕ) → i .ahead ≡ cur ∷ zs → link t w cur ≡ link t w₀ cur
+  next-kept zs e = next-first zs e ∙ sym (seg-first (link t w₀) (t .count) zs (link t w₀ cur) (walk-on zs e))
+
+  -- a row ahead is linked as before the loop
+  pub turn-link : r ≡ true → link t w cur ≡ link t w₀ cur
+  turn-link e = let q = split-cur e in next-kept (q .0) (q .1)
+
   -- the row passes
   pub turn-hit : {w′ : List ℕ} {nxt : ℕ} → r ≡ true → nxt ≡ link t w cur → test cur ≡ true
       → Unlinked t h w w′ a b place cur → TurnInv t h test w₀ a b ks ys w′ place nxt (left - 1)
@@ -140,6 +159,7 @@ module _ {t : Table} {h : Heads} {test : ℕ → Bool} {w₀ : List ℕ} {a b : 
             ∙ ap (pushIf test zs) (sym (c .at-b));
         others = λ j p x y. c .others j p x y ∙ i .others j p x y;
         elsewhere = else-trans (i .elsewhere) (c .elsewhere);
+        walk = rw (en ∙ next-kept zs eq) (walk-on zs eq);
       }
 
   -- the row does not pass
@@ -167,6 +187,7 @@ module _ {t : Table} {h : Heads} {test : ℕ → Bool} {w₀ : List ℕ} {a b : 
         sofar-b = i .sofar-b ∙ ap (λ y. pushIf test y (rowsOf t h w b)) eq ∙ push-miss test cur zs (rowsOf t h w b) k;
         others = i .others;
         elsewhere = i .elsewhere;
+        walk = rw (en ∙ next-kept zs eq) (walk-on zs eq);
       }
 
   -- a turn of `unlink_turn`, whose verdict is the test's
@@ -217,6 +238,33 @@ module _ {t : Table} {h : Heads} {test : ℕ → Bool} {w₀ : List ℕ} {a b : 
         others = i .others;
         elsewhere = i .elsewhere;
       }
+
+-- a word of a row that is no link word stored beside the turns: it is as if the loop had begun with it
+pub turn-put : {t : Table} {h : Heads} {test : ℕ → Bool} {w₀ : List ℕ} {a b : ℕ} {ks ys : List ℕ} {w : List ℕ}
+    {place′ cur left : ℕ} → TurnInv t h test w₀ a b ks ys w place′ cur left → Laid t h w₀
+    → (x o v : ℕ) → IsRow (t .count) x → o < t .stride → (o ≡ t .off → ⊥)
+    → TurnInv t h test (set w₀ (place t x o) v) a b ks ys (set w (place t x o) v) place′ cur left
+turn-put {t} {h} {test} {w₀} {a} {b} {ks} {ys} {w} {place′} {cur} {left} i l x o v q k n =
+    let s₀ = put-same t h w₀ x o v l (q .low) k n in
+    let s = put-same t h w x o v (i .ready .laid) (q .low) k n in
+    record {
+      ready = put-ready x o v (i .ready) (q .low) k n;
+      kept = i .kept;
+      ahead = i .ahead;
+      here = record { parts = s .rows-kept a (i .ready .a-in) ∙ i .here .parts; last = i .here .last };
+      at-cur = i .at-cur;
+      fit = i .fit;
+      fuel = i .fuel;
+      met = i .met;
+      sofar-a = i .sofar-a;
+      sofar-b = ap (pushIf test ys) (s₀ .rows-kept b (i .ready .b-in)) ∙ i .sofar-b
+          ∙ ap (pushIf test (i .ahead)) (sym (s .rows-kept b (i .ready .b-in)));
+      others = λ j p y z. s .rows-kept j p ∙ i .others j p y z ∙ sym (s₀ .rows-kept j p);
+      elsewhere = else-put (i .elsewhere) (place t x o) v (place-lt t w₀ x o (lies l) q k);
+      walk = seg-frame (link t w₀) (t .count) (link t (set w₀ (place t x o) v)) (i .ahead) cur 0 (i .walk)
+          (λ y p. field-other t w₀ x y o (t .off) v (q .low)
+          (seg-in (link t w₀) (t .count) (i .ahead) cur 0 y (i .walk) p .low) k (l .within) (λ z. n (sym (z .1))));
+    }
 
 -- the loop from the head: chain a has lost the rows that pass, and chain b has gained them
 pub turn-done : {t : Table} {h : Heads} {test : ℕ → Bool} {w₀ : List ℕ} {a b : ℕ} {w : List ℕ} {place cur left : ℕ}

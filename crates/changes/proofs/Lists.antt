@@ -133,9 +133,9 @@ map-map f g [] = refl
 map-map f g (r ∷ rs) = ap (λ y. g (f r) ∷ y) (map-map f g rs)
 
 -- a lock that trimming empties, as the code tests it
-module _ (v : ℕ) {l l′ : Lock} (h : l ≡ l′) where
-  pub emptied-other : (l .owner ≡ SETTLED → ⊥) → false ≡ emptied v l′
-  emptied-other n = let z : emptied v l ≡ false = rw (ne-eqb (l .owner) SETTLED n) refl in sym z ∙ ap (emptied v) h
+module _ (v : ℕ) (l : Lock) where
+  pub emptied-other : (l .owner ≡ SETTLED → ⊥) → emptied v l ≡ false
+  emptied-other n = rw (ne-eqb (l .owner) SETTLED n) refl
 
-  pub emptied-settled : l .owner ≡ SETTLED → leb (l .high) v ≡ emptied v l′
-  emptied-settled e = let z : emptied v l ≡ leb (l .high) v = rw (eq-eqb (l .owner) SETTLED e) refl in sym z ∙ ap (emptied v) h
+  pub emptied-settled : l .owner ≡ SETTLED → emptied v l ≡ leb (l .high) v
+  emptied-settled e = rw (eq-eqb (l .owner) SETTLED e) refl

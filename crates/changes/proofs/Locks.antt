@@ -38,6 +38,24 @@ pub locks-at : (c : Counts) (w : List ℕ) (r : ℕ) → r < c .records → recA
 unfolding recordAt
 locks-at c w r l = ap (λ x. x .locks) (rec-at c w r l)
 
+-- and with those gone that pass a test
+pub locks-dropped : (c : Counts) (w : List ℕ) (r : ℕ) → r < c .records → (p : Lock → Bool)
+    → map (lockAt c w) (dropIf (λ i. p (lockAt c w i)) (lockRows c w r)) ≡ dropIf p (recAt (decodeAt c w) r .locks)
+unfolding locksOf
+locks-dropped c w r l p = entries-drop (lockAt c w) p (lockRows c w r) ∙ ap (dropIf p) (sym (locks-at c w r l))
+
+-- where only head and link words differ, the locks are as before
+pub lock-kept : {c : Counts} {w w′ : List ℕ} → Fits c w → Elsewhere (lockTable c) (lockHeads c) w w′ → (x : ℕ)
+    → IsRow (c .locks) x
+    → (lockAt c w′ x ≡ lockAt c w x) × ((j : ℕ) → namesRecord c w′ j x ≡ namesRecord c w j x)
+unfolding lockAt lockTable
+lock-kept {c} {w} {w′} f e x q =
+    let kept : (o : ℕ) → o < 4 → field (lockTable c) w′ x o ≡ field (lockTable c) w x o =
+    λ o b. field-kept (locks-laid f) e x o (q .low) (omega arith) (λ z. omega arith) in (
+      rw (kept L-LOW (omega arith), kept L-HIGH (omega arith), kept L-MODE (omega arith)) refl,
+      λ j. ap (λ y. eqb y j) (kept L-RECORD (omega arith)),
+    )
+
 module _ {c : Counts} {w : List ℕ} (W : Well c w) {r : ℕ} (l : r < c .records) where
   -- the free chain and record r's, either way
   pub lock-ready : Ready (lockTable c) (lockHeads c) w 0 (suc r)
@@ -104,14 +122,12 @@ module _ {c : Counts} {w : List ℕ} (W : Well c w) {r : ℕ} (l : r < c .record
       pub add-lock-kept : {w₂ : List ℕ} → w₂ ≡ lockStored c w₁ i r x → AccessesKept c w w₂
       add-lock-kept e = rw e (accesses-kept (apart-kept (locks-accesses c) (pushed .only)))
 
-  -- rows that pass a test of their entry were sent to the free chain
-  module _ {w′ : List ℕ} (p : Lock → Bool) (unlinked : Changed (lockTable c) (lockHeads c) w w′ (suc r) 0 (dropIf (λ i. p (lockAt c w i)) (rowsOf (lockTable c) (lockHeads c) w (suc r)))
-      (pushIf (λ i. p (lockAt c w i)) (rowsOf (lockTable c) (lockHeads c) w (suc r)) (rowsOf (lockTable c) (lockHeads c) w 0))) where
+  -- rows that pass a test were sent to the free chain
+  module _ {w′ : List ℕ} (test : ℕ → Bool) (unlinked : Changed (lockTable c) (lockHeads c) w w′ (suc r) 0
+      (dropIf test (rowsOf (lockTable c) (lockHeads c) w (suc r)))
+      (pushIf test (rowsOf (lockTable c) (lockHeads c) w (suc r)) (rowsOf (lockTable c) (lockHeads c) w 0))) where
     unlinked-rest : (x : ℕ) → IsRow (c .locks) x → (lockAt c w′ x ≡ lockAt c w x) × ((j : ℕ) → namesRecord c w′ j x ≡ namesRecord c w j x)
-    unfolding lockAt lockTable
-    unlinked-rest x q =
-        let kept : (o : ℕ) → o < 4 → field (lockTable c) w′ x o ≡ field (lockTable c) w x o = λ o b. field-kept (locks-laid (W .fits)) (unlinked .elsewhere) x o (q .low) (omega arith) (λ e. omega arith) in
-        (rw (kept L-LOW (omega arith), kept L-HIGH (omega arith), kept L-MODE (omega arith)) refl, λ j. ap (λ y. eqb y j) (kept L-RECORD (omega arith)))
+    unlinked-rest x q = lock-kept (W .fits) (unlinked .elsewhere) x q
 
     row-of : (j : ℕ) → j < c .records → (x : ℕ) → 1 ≤ occ x (rowsOf (lockTable c) (lockHeads c) w (suc j)) → IsRow (c .locks) x
     unfolding lockTable lockHeads
@@ -122,22 +138,28 @@ module _ {c : Counts} {w : List ℕ} (W : Well c w) {r : ℕ} (l : r < c .record
     unlinked-others f g e j q n = ap (map f) (unlinked .others (suc j) (omega arith) (λ z. n (omega arith)) (λ z. omega arith))
         ∙ entries-kept f g (rowsOf (lockTable c) (lockHeads c) w (suc j)) (λ x o. e x (row-of j q x o))
 
-    unlinked-here : {A : Type 0} (f g : ℕ → A) → ((x : ℕ) → IsRow (c .locks) x → f x ≡ g x) → map f (lockRows c w′ r) ≡ map g (dropIf (λ i. p (lockAt c w i)) (lockRows c w r))
+    unlinked-here : {A : Type 0} (f g : ℕ → A) → ((x : ℕ) → IsRow (c .locks) x → f x ≡ g x)
+        → map f (lockRows c w′ r) ≡ map g (dropIf test (lockRows c w r))
     unfolding lockRows
-    unlinked-here f g e = ap (map f) (unlinked .at-a) ∙ entries-kept f g (dropIf (λ i. p (lockAt c w i)) (rowsOf (lockTable c) (lockHeads c) w (suc r))) (λ x o. e x (row-of r l x (dropped-in x o)))
+    unlinked-here f g e = ap (map f) (unlinked .at-a)
+        ∙ entries-kept f g (dropIf test (rowsOf (lockTable c) (lockHeads c) w (suc r)))
+        (λ x o. e x (row-of r l x (dropped-in x o)))
       where
-        dropped-in : (x : ℕ) → 1 ≤ occ x (dropIf (λ i. p (lockAt c w i)) (rowsOf (lockTable c) (lockHeads c) w (suc r))) → 1 ≤ occ x (rowsOf (lockTable c) (lockHeads c) w (suc r))
-        dropped-in x o = omega (arith, occ-drop x (λ i. p (lockAt c w i)) (rowsOf (lockTable c) (lockHeads c) w (suc r)))
+        dropped-in : (x : ℕ) → 1 ≤ occ x (dropIf test (rowsOf (lockTable c) (lockHeads c) w (suc r)))
+            → 1 ≤ occ x (rowsOf (lockTable c) (lockHeads c) w (suc r))
+        dropped-in x o = omega (arith, occ-drop x test (rowsOf (lockTable c) (lockHeads c) w (suc r)))
 
     unlinked-named : (j : ℕ) → j < c .records → allOf (namesRecord c w′ j) (lockRows c w′ j) ≡ true
     unlinked-named j q = elim (ℕ-discrete j r) [
-      | yes z ↦ rw z (all-same (namesRecord c w′ r) (namesRecord c w r) (dropIf (λ i. p (lockAt c w i)) (lockRows c w r)) (lockRows c w′ r)
-          (unlinked-here (namesRecord c w′ r) (namesRecord c w r) (λ x q. unlinked-rest x q .1 r)) (all-dropped (namesRecord c w r) (λ i. p (lockAt c w i)) (lockRows c w r) (W .named r l)))
+      | yes z ↦ rw z (all-same (namesRecord c w′ r) (namesRecord c w r) (dropIf test (lockRows c w r)) (lockRows c w′ r)
+          (unlinked-here (namesRecord c w′ r) (namesRecord c w r) (λ x q. unlinked-rest x q .1 r))
+          (all-dropped (namesRecord c w r) test (lockRows c w r) (W .named r l)))
       | no z ↦ all-same (namesRecord c w′ j) (namesRecord c w j) (lockRows c w j) (lockRows c w′ j) (unlinked-others (namesRecord c w′ j) (namesRecord c w j) (λ x q. unlinked-rest x q .1 j) j q z) (W .named j q)
     ]
 
-    pub drop-locks-law : {ls : List Lock} → dropIf p (recAt (decodeAt c w) r .locks) ≡ ls → Becomes c w′ (withRec (decodeAt c w) r (withLocks (recAt (decodeAt c w) r) ls))
+    pub drop-locks-law : {ls : List Lock} → map (lockAt c w) (dropIf test (lockRows c w r)) ≡ ls
+        → Becomes c w′ (withRec (decodeAt c w) r (withLocks (recAt (decodeAt c w) r) ls))
     unfolding locksOf lockTable
     drop-locks-law e = locks-become W (only-elsewhere (omega arith) (unlinked .elsewhere)) r l (unlinked .parted) unlinked-named
         (unlinked-others (lockAt c w′) (lockAt c w) (λ x q. unlinked-rest x q .0))
-        (unlinked-here (lockAt c w′) (lockAt c w) (λ x q. unlinked-rest x q .0) ∙ entries-drop (lockAt c w) p (lockRows c w r) ∙ ap (dropIf p) (sym (locks-at c w r l)) ∙ e)
+        (unlinked-here (lockAt c w′) (lockAt c w) (λ x q. unlinked-rest x q .0) ∙ e)

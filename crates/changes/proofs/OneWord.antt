@@ -147,7 +147,7 @@ edit-there : (c : Counts) (w : List ℕ) (k : ℕ) (e : Edit) → IsRow (c .edit
 unfolding withEdit decodeAt
 edit-there c w k e l = edit-same (editsOf c w) k e (record { from = l .low; upto = rw (edits-length c w) (l .high) })
 
-rec-there : (c : Counts) (w : List ℕ) (r : ℕ) (x : Rec) → r < c .records → recAt (withRec (decodeAt c w) r x) r ≡ x
+pub rec-there : (c : Counts) (w : List ℕ) (r : ℕ) (x : Rec) → r < c .records → recAt (withRec (decodeAt c w) r x) r ≡ x
 unfolding withRecords decodeAt
 rec-there c w r x l = rec-same (recordsOf c w) r x (rw (records-length c w) l)
 

@@ -109,9 +109,13 @@ module _ {c : Counts} {v : ℕ} {w₀ : List ℕ} {r : ℕ} {w : List ℕ} {cur 
       unfolding lockHeads
       fresh = omega (arith, on-once (lockTable c) (lockHeads c) w₀ (i .well .locks-parted) (suc r) (i .within) cur, ap (occ cur) parts ∙ occ-append cur (i .done) (cur ∷ rest), occ-same cur rest)
 
-      entry : lockAt c w cur ≡ lockAt c w₀ cur
+      pub raises-entry : lockAt c w cur ≡ lockAt c w₀ cur
       unfolding lockAt
-      entry = rw (i .later cur row fresh, i .kept cur L-HIGH row (omega arith) (λ z. omega arith), i .kept cur L-MODE row (omega arith) (λ z. omega arith)) refl
+      raises-entry = rw (
+        i .later cur row fresh,
+        i .kept cur L-HIGH row (omega arith) (λ z. omega arith),
+        i .kept cur L-MODE row (omega arith) (λ z. omega arith),
+      ) refl
 
       next : link (lockTable c) w cur ≡ link (lockTable c) w₀ cur
       unfolding lockTable
@@ -154,7 +158,7 @@ module _ {c : Counts} {v : ℕ} {w₀ : List ℕ} {r : ℕ} {w : List ℕ} {cur 
       unfolding rest
       raises-again en ew =
           let u = trimmed v (lockAt c w cur) .low in
-          let h : u ≡ trimmed v (lockAt c w₀ cur) .low = ap (λ l. trimmed v l .low) entry in
+          let h : u ≡ trimmed v (lockAt c w₀ cur) .low = ap (λ l. trimmed v l .low) raises-entry in
           rw (ew, en, next) (record {
             well = i .well;
             within = i .within;
@@ -172,13 +176,15 @@ module _ {c : Counts} {v : ℕ} {w₀ : List ℕ} {r : ℕ} {w : List ℕ} {cur 
       all-passed : i .done ≡ rowsOf (lockTable c) (lockHeads c) w₀ (suc r)
       all-passed = sym (i .split ∙ ap (λ y. i .done ++ y) (stop (link (lockTable c) w₀) (c .locks) left cur d e .row) ∙ append-nil (i .done))
 
-      same : Same (lockTable c) (lockHeads c) w₀ w
+      pub raises-same : Same (lockTable c) (lockHeads c) w₀ w
       unfolding lockTable lockHeads
-      same = same-chains (lockTable c) (lockHeads c) w₀ w (λ x q. i .kept x L-NEXT q (omega arith) (λ z. omega arith)) (i .heads)
+      raises-same = same-chains (lockTable c) (lockHeads c) w₀ w
+          (λ x q. i .kept x L-NEXT q (omega arith) (λ z. omega arith)) (i .heads)
 
-      here : (x : ℕ) → 1 ≤ occ x (rowsOf (lockTable c) (lockHeads c) w₀ (suc r)) → lockAt c w x ≡ trimmed v (lockAt c w₀ x)
+      pub raises-here : (x : ℕ) → 1 ≤ occ x (rowsOf (lockTable c) (lockHeads c) w₀ (suc r))
+          → lockAt c w x ≡ trimmed v (lockAt c w₀ x)
       unfolding lockAt
-      here x o =
+      raises-here x o =
           let q = chain-row x o in
           rw (i .earlier x (rw all-passed o), i .kept x L-HIGH q (omega arith) (λ z. omega arith), i .kept x L-MODE q (omega arith) (λ z. omega arith)) (sym (trimmed-parts v (lockAt c w₀ x)))
 
@@ -192,13 +198,18 @@ module _ {c : Counts} {v : ℕ} {w₀ : List ℕ} {r : ℕ} {w : List ℕ} {cur 
       named : (j : ℕ) → j < c .records → allOf (namesRecord c w j) (lockRows c w j) ≡ true
       unfolding lockRows lockTable lockHeads
       named j q = all-same (namesRecord c w j) (namesRecord c w₀ j) (lockRows c w₀ j) (lockRows c w j)
-          (ap (map (namesRecord c w j)) (same .rows-kept (suc j) q) ∙ entries-kept (namesRecord c w j) (namesRecord c w₀ j) (rowsOf (lockTable c) (lockHeads c) w₀ (suc j))
+          (ap (map (namesRecord c w j)) (raises-same .rows-kept (suc j) q)
+          ∙ entries-kept (namesRecord c w j) (namesRecord c w₀ j) (rowsOf (lockTable c) (lockHeads c) w₀ (suc j))
           (λ x o. ap (λ y. eqb y j) (i .kept x L-RECORD (on-chain (lockTable c) (lockHeads c) w₀ (i .well .locks-parted) (suc j) q x o) (omega arith) (λ z. omega arith))))
           (i .well .named j q)
 
       pub raise-lows-law : Becomes c w (withRec (decodeAt c w₀) r (withLocks (recAt (decodeAt c w₀) r) (map (trimmed v) (recAt (decodeAt c w₀) r .locks))))
       unfolding locksOf lockRows lockHeads
-      raise-lows-law = locks-become (i .well) (i .only) r (i .within) (same .parted-kept ∙ i .well .locks-parted) named
-          (λ j q n. ap (map (lockAt c w)) (same .rows-kept (suc j) q) ∙ entries-kept (lockAt c w) (lockAt c w₀) (rowsOf (lockTable c) (lockHeads c) w₀ (suc j)) (there j q n))
-          (ap (map (lockAt c w)) (same .rows-kept (suc r) (i .within)) ∙ entries-kept (lockAt c w) (λ x. trimmed v (lockAt c w₀ x)) (rowsOf (lockTable c) (lockHeads c) w₀ (suc r)) here
+      raise-lows-law = locks-become (i .well) (i .only) r (i .within)
+          (raises-same .parted-kept ∙ i .well .locks-parted) named
+          (λ j q n. ap (map (lockAt c w)) (raises-same .rows-kept (suc j) q)
+          ∙ entries-kept (lockAt c w) (lockAt c w₀) (rowsOf (lockTable c) (lockHeads c) w₀ (suc j)) (there j q n))
+          (ap (map (lockAt c w)) (raises-same .rows-kept (suc r) (i .within))
+          ∙ entries-kept (lockAt c w) (λ x. trimmed v (lockAt c w₀ x))
+          (rowsOf (lockTable c) (lockHeads c) w₀ (suc r)) raises-here
           ∙ sym (map-map (lockAt c w₀) (trimmed v) (rowsOf (lockTable c) (lockHeads c) w₀ (suc r))) ∙ ap (map (trimmed v)) (sym (locks-at c w₀ r (i .within))))

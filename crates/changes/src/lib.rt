@@ -1,15 +1,13 @@
 // The changes that the calls are made of. Each leaves the words well formed and equals a function of the decoded store; the callers prove that
 // the words are well formed (`Well`), that slots and records are in range, and that there is room, in the words of the meaning.
 ghost use mathlib.Core.Path.{_≡_};
-ghost use mathlib.Core.Bool.{true, false, not};
-ghost use mathlib.Core.List.{[], map};
-ghost use Prim.Native.Nat.{suc, _≤_, _<_};
+ghost use mathlib.Core.Bool.{true, false, cond};
+ghost use mathlib.Core.List.{[]};
+ghost use Prim.Native.Nat.{suc, _+_, _≤_, _<_};
 ghost use Rattle.chains.specs.Lists.{occ};
 ghost use Rattle.chains.specs.Walk.{IsRow};
-ghost use Rattle.chains.specs.Table.{place};
-ghost use lib.ListN.{set};
 ghost use Rattle.chains.specs.Change.{Ready, Follows, Taken, Moved, Turned};
-ghost use Rattle.meaning.specs.Limits.{MAX-EDITS, GENERATIONS, FREE, LAST};
+ghost use Rattle.meaning.specs.Limits.{MAX-EDITS, MAX-ROWS, GENERATIONS, FREE, LAST};
 ghost use Rattle.meaning.specs.Store.{withRec, recAt, editAt, names, versionsUsed, locksUsed, accessesUsed};
 ghost use Rattle.meaning.specs.Outcomes.{accessRoom};
 ghost use Rattle.meaning.specs.Points.{isOwned, addLock, leaveSettled, dropOwner, emptied, trimmed, trimTo};
@@ -18,10 +16,13 @@ ghost use Rattle.meaning.specs.Edits.{begun, withAccess};
 ghost use Rattle.meaning.specs.Ending.{ended, freed, insert};
 ghost use Rattle.meaning.specs.Lists.{keep};
 ghost use lib.Dec.{leb, ltb};
-ghost use Rattle.tables.specs.Layout.{MODES, L-LOW, Fits, lockTable, lockHeads, versionTable, versionHeads, accessTable, accessHeads};
+ghost use Rattle.tables.specs.Layout.{MODES, Fits, lockTable, lockHeads};
+ghost use Rattle.tables.specs.Layout.{versionTable, versionHeads, accessTable, accessHeads};
 ghost use Rattle.tables.specs.Decode.{lockAt, versionAt, accessAt, accessRows, decodeAt, AccessRow};
 ghost use Rattle.tables.specs.Words.{Well};
-ghost use Rattle.changes.specs.Becomes.{Becomes, Beside, versionOf, withFloor, withGeneration, withAccesses, onVersions, onLocks, onEdit};
+ghost use Rattle.changes.specs.Becomes.{Becomes, Beside, FreesVersions, FreesLocks, TrimsRow};
+ghost use Rattle.changes.specs.Becomes.{versionOf, withFloor, withGeneration};
+ghost use Rattle.changes.specs.Becomes.{withAccesses, onVersions, onLocks, onEdit};
 use meaning::Access;
 use meaning::Counts;
 use meaning::FREE;
@@ -152,36 +153,24 @@ pub fn drop_owner(w: &mut [u64], c: Counts, r: usize, k: u64)
     }
 }
 
-// Purge: settled locks lose their points up to v. First the locks go that would be left empty, then the others' low ends rise.
+// Purge: settled locks lose their points up to v, and rows left empty go. Rows are counted in the walk that frees them.
 
-// Whether lock row i would be left empty.
-fn is_emptied(w: &[u64], c: Counts, i: usize, v: u64) -> bool
-    requires { ⌜ Fits c (now w) × IsRow (c .locks) i ⌝ }
-    ensures { λ q. ⌜ q ≡ emptied v (lockAt c (now (w .entry)) i) ⌝ }
+// The number of rows freed, after a turn that frees a row or not.
+fn with_turn(freed: u64, hit: bool) -> u64
+    requires { ⌜ freed ≤ MAX-ROWS ⌝ }
+    ensures { λ q. ⌜ q ≡ cond hit 1 0 + freed ⌝ }
 {
-    let l = tables::lock_at(w, c, i);
+    if hit { freed + 1 } else { freed }
+}
+
+// Whether a lock would be left empty.
+fn is_emptied(l: Lock, v: u64) -> bool
+    ensures { λ q. ⌜ q ≡ emptied v l ⌝ }
+{
     if l.owner != SETTLED {
         return false;
     }
     l.high <= v
-}
-
-// Those rows go.
-fn drop_emptied(w: &mut [u64], c: Counts, r: usize, v: u64)
-    requires { ⌜ Well c (now w) × (r < c .records) ⌝ }
-    ensures { λ _. ⌜ Becomes c (now (w .exit)) (onLocks (decodeAt c (now (w .entry))) r (keep (λ l. not (emptied v l)))) ⌝ }
-{
-    let n = c.locks;
-    let mut place = 0;
-    let mut cur = tables::first_lock(w, c, r);
-    let mut left = n;
-    while chains::more(n, left, cur) {
-        let nxt = tables::next_lock(w, c, cur);
-        let hit = is_emptied(w, c, cur, v);
-        place = unlink_lock(w, c, r, place, cur, hit);
-        cur = nxt;
-        left -= 1;
-    }
 }
 
 // The low end that a lock is left with.
@@ -198,38 +187,35 @@ fn raised_low(l: Lock, v: u64) -> u64
     v + 1
 }
 
-// The same of lock row i, and of every row of record r's chain.
-fn raise_low(w: &mut [u64], c: Counts, i: usize, v: u64)
+// The low end of lock row i rises; replies whether the row is to go. (A row that goes may hold anything.)
+fn trim_row(w: &mut [u64], c: Counts, i: usize, v: u64) -> bool
     requires { ⌜ Fits c (now w) × IsRow (c .locks) i × (v ≤ LAST) ⌝ }
-    ensures { λ _. ⌜ now (w .exit) ≡ set (now (w .entry)) (place (lockTable c) i L-LOW) (trimmed v (lockAt c (now (w .entry)) i) .low) ⌝ }
+    ensures { λ q. ⌜ TrimsRow c (now (w .entry)) (now (w .exit)) i v q ⌝ }
 {
     let l = tables::lock_at(w, c, i);
-    let low = raised_low(l, v);
-    tables::put_low(w, c, i, low);
+    tables::put_low(w, c, i, raised_low(l, v));
+    is_emptied(l, v)
 }
 
-fn raise_lows(w: &mut [u64], c: Counts, r: usize, v: u64)
+// Settled locks of record r lose their points up to v; replies how many rows were freed.
+pub fn trim_locks(w: &mut [u64], c: Counts, r: usize, v: u64) -> u64
     requires { ⌜ Well c (now w) × (r < c .records) × (v ≤ LAST) ⌝ }
-    ensures { λ _. ⌜ Becomes c (now (w .exit)) (onLocks (decodeAt c (now (w .entry))) r (map (trimmed v))) ⌝ }
+    ensures { λ q. ⌜ FreesLocks c (now (w .entry)) (now (w .exit)) r (trimTo v) q ⌝ }
 {
     let n = c.locks;
+    let mut freed = 0;
+    let mut place = 0;
     let mut cur = tables::first_lock(w, c, r);
     let mut left = n;
     while chains::more(n, left, cur) {
         let nxt = tables::next_lock(w, c, cur);
-        raise_low(w, c, cur, v);
+        let empty = trim_row(w, c, cur, v);
+        place = unlink_lock(w, c, r, place, cur, empty);
+        freed = with_turn(freed, empty);
         cur = nxt;
         left -= 1;
     }
-}
-
-// Settled locks of record r lose their points up to v.
-pub fn trim_locks(w: &mut [u64], c: Counts, r: usize, v: u64)
-    requires { ⌜ Well c (now w) × (r < c .records) × (v ≤ LAST) ⌝ }
-    ensures { λ _. ⌜ Becomes c (now (w .exit)) (onLocks (decodeAt c (now (w .entry))) r (trimTo v)) ⌝ }
-{
-    drop_emptied(w, c, r, v);
-    raise_lows(w, c, r, v);
+    freed
 }
 
 // Versions.
@@ -269,22 +255,25 @@ fn is_below(w: &[u64], c: Counts, i: usize, v: u64) -> bool
     x.point < v
 }
 
-// The versions of record r below v go.
-pub fn cut_versions(w: &mut [u64], c: Counts, r: usize, v: u64)
+// The versions of record r below v go; replies how many.
+pub fn cut_versions(w: &mut [u64], c: Counts, r: usize, v: u64) -> u64
     requires { ⌜ Well c (now w) × (r < c .records) ⌝ }
-    ensures { λ _. ⌜ Becomes c (now (w .exit)) (onVersions (decodeAt c (now (w .entry))) r (keep (λ x. leb v (x .point)))) ⌝ }
+    ensures { λ q. ⌜ FreesVersions c (now (w .entry)) (now (w .exit)) r (keep (λ x. leb v (x .point))) q ⌝ }
 {
     let n = c.versions;
+    let mut freed = 0;
     let mut place = 0;
     let mut cur = tables::first_version(w, c, r);
     let mut left = n;
     while chains::more(n, left, cur) {
         let nxt = tables::next_version(w, c, cur);
-        let hit = is_below(w, c, cur, v);
-        place = unlink_version(w, c, r, place, cur, hit);
+        let below = is_below(w, c, cur, v);
+        place = unlink_version(w, c, r, place, cur, below);
+        freed = with_turn(freed, below);
         cur = nxt;
         left -= 1;
     }
+    freed
 }
 
 // Accesses.

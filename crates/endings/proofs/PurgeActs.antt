@@ -1,46 +1,36 @@
--- Purge meets its contract: versions are cut, locks trimmed and the floor set, and the rows are counted before and after. Rests on PurgeExits,
--- Besides and Acting of `calls`.
-use Prim.Native.Nat.{ℕ, zero, _-_, _≤_, _<_}
+-- Purge meets its contract: versions are cut, locks trimmed and the floor set, and the rows freed are the difference.
+-- Rests on PurgeExits, OneWord of `changes` and Acting of `calls`.
+use Prim.Native.Nat.{ℕ, _≤_, _<_}
 use native.Mathlib.Omega.{arith}
 use mathlib.Core.Path.{_≡_, refl, sym, ap, _∙_}
 use mathlib.Core.Logic.{_⊎_, inl, inr}
-use mathlib.Core.Bool.{Bool, true, false, not}
-use mathlib.Core.List.{List, [], map}
+use mathlib.Core.Bool.{Bool, true, false}
+use mathlib.Core.List.{List, []}
 use lib.Dec.{leb, ltb}
-use lib.ListN.{length, length-map}
 use borrow.Author.Tests.{leb-true, ltb-true}
 use Rattle.meaning.specs.Lists.{_∈_, any, keep, find}
 use Rattle.meaning.specs.Limits.{LAST}
 use Rattle.meaning.specs.declared.Counts.{Counts}
 use Rattle.meaning.specs.declared.Version.{Version}
-use Rattle.meaning.specs.declared.Lock.{Lock}
 use Rattle.meaning.specs.Store.{Rec, Store, first, recAt, withRec, withLocks, newestAt}
-use Rattle.meaning.specs.Points.{emptied, trimmed, trimTo}
+use Rattle.meaning.specs.Points.{trimTo}
 use Rattle.meaning.specs.Replies.{Reply, purged, refusing}
-use Rattle.meaning.specs.Outcomes.{Outcome, replies, hasRecord}
+use Rattle.meaning.specs.Outcomes.{hasRecord}
 use Rattle.meaning.specs.Records.{purgedRec, purgeTo, purging}
-use Rattle.meaning.proofs.Lists.{length-keep, find-out}
+use Rattle.meaning.proofs.Lists.{find-out}
 use Rattle.meaning.proofs.EndingSound.{purge-keeps}
 use Rattle.tables.specs.Layout.{countsOf}
 use Rattle.tables.specs.Decode.{recordAt, decodeAt}
 use Rattle.tables.specs.Words.{lent, soundWords, Well}
 use Rattle.tables.proofs.Decoded.{rec-at}
-use Rattle.changes.specs.Becomes.{Becomes, withVersions, withFloor, onVersions, onLocks}
+use Rattle.changes.specs.Becomes.{Becomes, FreesVersions, FreesLocks, withVersions, withFloor}
+use Rattle.changes.proofs.OneWord.{rec-there, then-rec}
 use Rattle.calls.specs.Contract.{Acts, Makes}
 use Rattle.calls.proofs.Acting.{ready, makes-refused, makes-done, makes-as, acts}
 use Rattle.endings.specs.Parts.{lockedBelow, purgedTo, purgeAll}
-use Rattle.endings.proofs.Besides.{records-count, rec-twice, rec-changed}
+use Rattle.endings.proofs.Besides.{records-count}
 use Rattle.endings.proofs.PurgeExits
 use Rattle.endings.proofs.EndActs.{acts-refused}
-
--- one record changed, and changed again
-again : (s : Store) (r : ℕ) (x : Rec) (g : Rec → Rec) → r < length (s .records) → withRec (withRec s r x) r (g (recAt (withRec s r x) r)) ≡ withRec s r (g x)
-again s r x g h = rw (rec-changed s r x h) (rec-twice s r x (g x))
-
-trim-few : (v : ℕ) (ls : List Lock) → length (trimTo v ls) ≤ length ls
-unfolding trimTo
-trim-few v ls =
-    omega (arith, length-map (keep (λ l. not (emptied v l)) ls) (trimmed v), length-keep (λ l. not (emptied v l)) ls)
 
 module _ (c : Counts) (w : List ℕ) (r v : ℕ) (W : Well c w) (here : r < c .records) where
   abbrev s : Store
@@ -49,11 +39,9 @@ module _ (c : Counts) (w : List ℕ) (r v : ℕ) (W : Well c w) (here : r < c .r
   abbrev x : Rec
   x = recAt s r
 
-  inside : r < length (s .records)
-  inside = omega (arith, records-count c w)
-
   -- the record is cut, trimmed and gets its floor
-  module _ (w₁ w₂ w₃ : List ℕ) (A : Becomes c w₁ (onVersions s r (keep (λ y. leb v (y .point))))) (B : Becomes c w₂ (onLocks (decodeAt c w₁) r (trimTo v)))
+  module _ (w₁ w₂ w₃ : List ℕ) (n m : ℕ) (A : FreesVersions c w w₁ r (keep (λ y. leb v (y .point))) n)
+      (B : FreesLocks c w₁ w₂ r (trimTo v) m)
       (D : Becomes c w₃ (withRec (decodeAt c w₂) r (withFloor (recAt (decodeAt c w₂) r) v))) where
     abbrev x₁ : Rec
     x₁ = withVersions x (keep (λ y. leb v (y .point)) (x .versions))
@@ -61,47 +49,22 @@ module _ (c : Counts) (w : List ℕ) (r v : ℕ) (W : Well c w) (here : r < c .r
     abbrev x₂ : Rec
     x₂ = withLocks x₁ (trimTo v (x₁ .locks))
 
-    trimmed-means : decodeAt c w₂ ≡ withRec s r x₂
-    trimmed-means =
-        B .means ∙ ap (λ (y : Store). onLocks y r (trimTo v)) (A .means) ∙ again s r x₁ (λ y. withLocks y (trimTo v (y .locks))) inside
-
-    purged-means : decodeAt c w₃ ≡ purgedTo s r v
+    becomes : Becomes c w₃ (purgedTo s r v)
     unfolding purgedTo purgedRec
-    purged-means =
-        D .means ∙ ap (λ (y : Store). withRec y r (withFloor (recAt y r) v)) trimmed-means ∙ again s r x₂ (λ y. withFloor y v) inside
+    becomes =
+        then-rec w r x₂ (λ y. withFloor y v) here
+        (then-rec w r x₁ (λ y. withLocks y (trimTo v (y .locks))) here (A .becomes) (B .becomes)) D
 
-    record-after : recordAt c w₃ r ≡ purgedRec x v
-    unfolding purgedTo
-    record-after = sym (rec-at c w₃ r here) ∙ ap (λ (y : Store). recAt y r) purged-means ∙ rec-changed s r (purgedRec x v) inside
+    -- cutting versions leaves the locks
+    locks-kept : recAt (decodeAt c w₁) r .locks ≡ x .locks
+    locks-kept = ap (λ (y : Store). recAt y r .locks) (A .becomes .means)
+        ∙ ap (λ (y : Rec). y .locks) (rec-there c w r x₁ here)
 
-    -- the rows counted
-    module _ (n m : ℕ) (en : n ≡ length (recordAt c w r .versions)) (em : m ≡ length (recordAt c w₃ r .versions)) where
-      versions-before : n ≡ length (x .versions)
-      versions-before = en ∙ ap (λ (y : Rec). length (y .versions)) (sym (rec-at c w r here))
-
-      versions-after : m ≡ length (purgedRec x v .versions)
-      versions-after = em ∙ ap (λ (y : Rec). length (y .versions)) record-after
-
-      pub versions-fewer : m ≤ n
-      unfolding purgedRec
-      versions-fewer = omega (arith, versions-before, versions-after, length-keep (λ y. leb v (y .point)) (x .versions))
-
-      module _ (i j : ℕ) (ei : i ≡ length (recordAt c w r .locks)) (ej : j ≡ length (recordAt c w₃ r .locks)) where
-        locks-before : i ≡ length (x .locks)
-        locks-before = ei ∙ ap (λ (y : Rec). length (y .locks)) (sym (rec-at c w r here))
-
-        locks-after : j ≡ length (purgedRec x v .locks)
-        locks-after = ej ∙ ap (λ (y : Rec). length (y .locks)) record-after
-
-        pub locks-fewer : j ≤ i
-        unfolding purgedRec
-        locks-fewer = omega (arith, locks-before, locks-after, trim-few v (x .locks))
-
-        pub record-purged : (a b : ℕ) → a ≡ n - m → b ≡ i - j → Makes c (purgeAll s r v) w w₃ (purged a b)
-        unfolding purgeAll
-        record-purged a b ea eb =
-            makes-done c w (purgeAll s r v) w₃ (purgedTo s r v) (purged a b) (D .well) purged-means
-            (rw (ea, eb, versions-before, versions-after, locks-before, locks-after) refl) refl
+    pub record-purged : Makes c (purgeAll s r v) w w₃ (purged n m)
+    unfolding purgeAll purgedRec
+    record-purged =
+        makes-done c w (purgeAll s r v) w₃ (purgedTo s r v) (purged n m) (becomes .well) (becomes .means)
+        (rw (A .number, B .number, locks-kept) refl) refl
 
   -- before that
   module _ (f : ℕ) (ef : f ≡ recordAt c w r .floor) where

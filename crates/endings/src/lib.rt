@@ -330,22 +330,15 @@ fn locked_below(w: &[u64], c: Counts, r: usize, v: u64) -> bool
     false
 }
 
-// The rows of record r freed are those that it has before and not after.
+// Versions are cut, locks trimmed and the floor set, with no lock in the way.
 fn purge_record(w: &mut [u64], c: Counts, r: usize, v: u64) -> PurgeReply
     requires { ⌜ Well c (now w) × (r < c .records) × (v ≤ LAST) ⌝ }
     ensures { λ q. ⌜ Makes c (purgeAll (decodeAt c (now (w .entry))) r v) (now (w .entry)) (now (w .exit)) (ofPurge q) ⌝ }
 {
-    let versions = tables::count_versions(w, c, r);
-    let locks = tables::count_locks(w, c, r);
-    changes::cut_versions(w, c, r, v);
-    changes::trim_locks(w, c, r, v);
+    let versions = changes::cut_versions(w, c, r, v);
+    let locks = changes::trim_locks(w, c, r, v);
     changes::set_floor(w, c, r, v);
-    let versions_left = tables::count_versions(w, c, r);
-    let locks_left = tables::count_locks(w, c, r);
-    PurgeReply::Purged(
-        chains::word(versions - versions_left),
-        chains::word(locks - locks_left),
-    )
+    PurgeReply::Purged(versions, locks)
 }
 
 fn purge_to(w: &mut [u64], c: Counts, r: usize, v: u64) -> PurgeReply

@@ -6,5 +6,4 @@ pub mod Builds
 pub mod Decoded
 pub mod Loops
 pub mod Bridge
-pub mod Lengths
 pub mod Rooms

@@ -1,11 +1,8 @@
--- The words that a row is filled with, all but its link; and the number of rows that a length stands for. Rests on
--- Layout.
+-- The words that a row is filled with, all but its link. Rests on Layout.
 use Prim.Native.Nat.{ℕ, suc, _+_, _*_}
 use mathlib.Core.Bool.{Bool, true, false, cond}
 use mathlib.Core.List.{List}
 use lib.ListN.{set}
-use Rattle.chains.specs.declared.Len.{Len}
-use Rattle.chains.specs.declared.Len.the-variants.{Broken, Rows}
 use Rattle.chains.specs.Table.{place}
 use Rattle.meaning.specs.declared.Lock.{Lock}
 use Rattle.meaning.specs.declared.Access.{Access}
@@ -52,8 +49,3 @@ module _ (c : Counts) (w : List ℕ) (i : ℕ) where
       (writtenMark (a .written)))
       (place (Layout.accessTable c) i Layout.A-VALUE)
       (a .value)
-
--- a chain that does not end counts as empty
-abbrev pub rowsIn : Len → ℕ
-rowsIn Broken = 0
-rowsIn (Rows n) = n

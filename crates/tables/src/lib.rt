@@ -11,8 +11,6 @@ mod writes;
 
 pub use reads::access_at;
 pub use reads::access_mark;
-pub use reads::count_locks;
-pub use reads::count_versions;
 pub use reads::first_access;
 pub use reads::first_lock;
 pub use reads::first_version;

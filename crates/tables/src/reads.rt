@@ -2,14 +2,11 @@
 // with these counts. Rests on lib.rt and on the crates `meaning` and `chains`.
 ghost use mathlib.Core.Path.{_≡_};
 ghost use Prim.Native.Nat.{suc, _<_};
-ghost use lib.ListN.{length};
 ghost use Rattle.chains.specs.Table.{headOf, link, field};
 ghost use Rattle.chains.specs.Walk.{IsRow};
 ghost use Rattle.tables.specs.Layout.{RECORD, SLOT, VERSION, LOCK, ACCESS, recordTable, slotTable, versionTable};
 ghost use Rattle.tables.specs.Layout.{lockTable, accessTable, versionHeads, lockHeads, accessHeads, Fits};
 ghost use Rattle.tables.specs.Layout.{L-RECORD, A-WRITTEN};
-ghost use Rattle.tables.specs.Rows.{rowsIn};
-ghost use Rattle.tables.specs.Words.{Well};
 ghost use Rattle.tables.specs.Decode.{versionAt, lockAt, accessAt, recordAt, slotAt};
 use crate::A_FROM;
 use crate::A_RECORD;
@@ -35,7 +32,6 @@ use crate::record_table;
 use crate::slot_table;
 use crate::version_heads;
 use crate::version_table;
-use chains::Len;
 use meaning::Access;
 use meaning::Counts;
 use meaning::Lock;
@@ -215,31 +211,4 @@ pub fn next_access(w: &[u64], c: Counts, i: usize) -> usize
     ensures { λ q. ⌜ q ≡ link (accessTable c) (now (w .entry)) i ⌝ }
 {
     chains::next_of(w, access_table(c), i)
-}
-
-// The numbers of record r's versions and locks, on well-formed words.
-
-fn rows_in(n: Len) -> usize
-    ensures { λ q. ⌜ q ≡ rowsIn n ⌝ }
-{
-    match n {
-        Len::Broken => 0,
-        Len::Rows(k) => k,
-    }
-}
-
-pub fn count_versions(w: &[u64], c: Counts, r: usize) -> usize
-    requires { ⌜ Well c (now w) × (r < c .records) ⌝ }
-    ensures { λ q. ⌜ q ≡ length (recordAt c (now (w .entry)) r .versions) ⌝ }
-{
-    let head = first_version(w, c, r);
-    rows_in(chains::chain_length(w, version_table(c), head))
-}
-
-pub fn count_locks(w: &[u64], c: Counts, r: usize) -> usize
-    requires { ⌜ Well c (now w) × (r < c .records) ⌝ }
-    ensures { λ q. ⌜ q ≡ length (recordAt c (now (w .entry)) r .locks) ⌝ }
-{
-    let head = first_lock(w, c, r);
-    rows_in(chains::chain_length(w, lock_table(c), head))
 }

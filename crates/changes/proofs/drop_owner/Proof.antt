@@ -1,9 +1,10 @@
 -- `changes::drop_owner` meets its contract. The loop's invariant: record r's locks up to the place have lost those of owner k.
-use mathlib.Core.Path.{refl}
+use mathlib.Core.Path.{refl, _∙_}
 use native.Mathlib.Omega.{arith}
 use Rattle.meaning.specs.Points.{isOwned, dropOwner}
 use Rattle.chains.proofs.Walks.{fuel-of}
-use Rattle.changes.proofs.Locks.{drop-locks-law}
+use Rattle.tables.specs.Decode.{lockAt}
+use Rattle.changes.proofs.Locks.{drop-locks-law, locks-dropped}
 use Rattle.changes.proofs.Lists.{drop-keep}
 use Rattle.changes.proofs.Turns.{LockTurns, lock-turns-start, lock-turns-row, lock-turns-ready, lock-turns-again, lock-turns-end}
 use borrow.Author.Needs.{needs}
@@ -48,7 +49,11 @@ same-length c = c .before .before .loop .inv .turns .elsewhere .size
 
 returns : tie.Need-returns Inv-loop μ-loop
 unfolding dropOwner
-returns c = drop-locks-law (c .before .before .before .before .before .before .pre .0) (c .before .before .before .before .before .before .pre .1) (isOwned _) (lock-turns-end (c .before .before .loop .inv) (c .before .more .ensures) (c .if1 .left)) (drop-keep (isOwned _) _ (λ x. refl) _)
+returns c =
+    let s = c .before .before .before .before .before .before in
+    drop-locks-law (s .pre .0) (s .pre .1) (λ i. isOwned _ (lockAt _ _ i))
+    (lock-turns-end (c .before .before .loop .inv) (c .before .more .ensures) (c .if1 .left))
+    (locks-dropped _ _ _ (s .pre .1) (isOwned _) ∙ drop-keep (isOwned _) _ (λ x. refl) _)
 
 pub drop-owner-spec : {M : Type 1} → statement M
 drop-owner-spec =
