@@ -23,10 +23,10 @@ pub fn perform(words: &mut [u64], call: Call) -> Answer
             extent,
         )),
         Call::Read(h, rec, m, extent) => Answer::Read(reading::read(words, h, rec, m, extent)),
-        Call::Commit(h, pick, finish) => Answer::Commit(endings::commit(words, h, pick, finish)),
+        Call::Commit(h, pick, finish) => Answer::Commit(commits::commit(words, h, pick, finish)),
         Call::Abort(h, finish) => Answer::Abort(endings::abort(words, h, finish)),
         Call::Settle(h) => Answer::Settle(endings::settle(words, h)),
-        Call::Purge(rec, b) => Answer::Purge(endings::purge(words, rec, b)),
+        Call::Purge(rec, b) => Answer::Purge(purges::purge(words, rec, b)),
         Call::View(rec, p) => Answer::View(calls::view(words, rec, p)),
     }
 }

@@ -1,14 +1,10 @@
 pub mod Folds
 pub mod Saving
 pub mod Leaving
-pub mod CommitExits
 pub mod EndExits
-pub mod PurgeExits
 pub mod AccessLoop
 pub mod Besides
 pub mod FreeLoop
 pub mod Settling
 pub mod Ended
 pub mod EndActs
-pub mod CommitActs
-pub mod PurgeActs

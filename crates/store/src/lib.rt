@@ -114,7 +114,7 @@ pub fn commit(words: &mut [u64], h: Handle, pick: Pick, finish: Finish) -> Commi
     ensures { λ r. ⌜ Does (committing (h .0) pick finish) (now (words .entry)) (now (words .exit)) (ofCommit r) ⌝ }
 {
     if soundness::check(words) {
-        endings::commit(words, h, pick, finish)
+        commits::commit(words, h, pick, finish)
     } else {
         CommitReply::Refused(Refusal::Unsound)
     }
@@ -144,7 +144,7 @@ pub fn purge(words: &mut [u64], rec: u64, b: Point) -> PurgeReply
     ensures { λ r. ⌜ Does (purging rec (b .0)) (now (words .entry)) (now (words .exit)) (ofPurge r) ⌝ }
 {
     if soundness::check(words) {
-        endings::purge(words, rec, b)
+        purges::purge(words, rec, b)
     } else {
         PurgeReply::Refused(Refusal::Unsound)
     }

@@ -1,0 +1,2 @@
+pub mod CommitActs
+pub mod CommitExits

@@ -1,0 +1,2 @@
+pub mod PurgeActs
+pub mod PurgeExits
