@@ -1,5 +1,5 @@
--- How a call's contract is met: what sound words say at its start, what a refusal and a change make, and the contract from what was made.
--- Rests on the bridge between `formed` and `Well` of `tables`, and on Verdicts of `meaning`.
+-- How a call's contract is met: what sound words say at its start, what a refusal and a change make, and the contract
+-- from what was made. Rests on the bridge between `formed` and `Well` of `tables`, and on Verdicts of `meaning`.
 use Prim.Native.Nat.{ℕ, _≤_, _<_}
 use mathlib.Core.Path.{_≡_, refl, sym, ap, _∙_}
 use mathlib.Core.Bool.{Bool, true, false, true≢false}
@@ -56,7 +56,9 @@ module _ (c : Counts) (w : List ℕ) where
 
   -- a known handle names a slot, and an open edit's state is known
   pub slot-row : (h : ℕ) → knows (decodeAt c w) h ≡ true → IsRow (c .edits) (slotOf h)
-  slot-row h e = let k = knows-out (decodeAt c w) h e in let n = slots-counted in record { low = k .range .from; high = omega (arith, k .range .upto) }
+  slot-row h e =
+      let k = knows-out (decodeAt c w) h e in
+      let n = slots-counted in record { low = k .range .from; high = omega (arith, k .range .upto) }
 
   pub record-row : (r : ℕ) → hasRecord (decodeAt c w) r ≡ true → r < c .records
   record-row r e = let l = hasRecord-out (decodeAt c w) r e in let n = records-counted in omega arith
@@ -69,9 +71,15 @@ module _ (c : Counts) (w : List ℕ) where
   pub makes-refused : (o : Outcome) (n : ℕ) (more : List ℕ) → Well c w → o ≡ replies (decodeAt c w) (refusing n more)
       → Makes c o w w (refusing n more)
   makes-refused o n more W e =
-      record { reply = ap (λ (x : Outcome). x .reply) (sym e); store = ap (λ (x : Outcome). x .store) (sym e); well = W; unchanged = λ _. refl }
+      record {
+        reply = ap (λ (x : Outcome). x .reply) (sym e);
+        store = ap (λ (x : Outcome). x .store) (sym e);
+        well = W;
+        unchanged = λ _. refl;
+      }
 
-  pub makes-done : (o : Outcome) (w′ : List ℕ) (s : Store) (r : Reply) → Well c w′ → decodeAt c w′ ≡ s → o ≡ replies s r → refused r ≡ false
+  pub makes-done : (o : Outcome) (w′ : List ℕ) (s : Store) (r : Reply) → Well c w′ → decodeAt c w′ ≡ s → o ≡ replies s r
+      → refused r ≡ false
       → Makes c o w w′ r
   makes-done o w′ s r W d e f =
       record {
@@ -93,7 +101,8 @@ module _ (c : Counts) (w : List ℕ) where
 
 -- The contract, of a call that keeps a sound store sound.
 pub acts : (call : Store → Outcome) → ((s : Store) → soundStore s ≡ true → soundStore (call s .store) ≡ true)
-    → (c : Counts) (w w′ : List ℕ) (r : Reply) → soundWords (lent w) ≡ true → c ≡ countsOf w → Makes c (call (decodeAt c w)) w w′ r
+    → (c : Counts) (w w′ : List ℕ) (r : Reply) → soundWords (lent w) ≡ true → c ≡ countsOf w
+    → Makes c (call (decodeAt c w)) w w′ r
     → Acts call (lent w) (lent w′) r
 unfolding soundWords
 acts call keeps c w w′ r h e M =
@@ -102,6 +111,7 @@ acts call keeps c w w′ r h e M =
     record {
       reply = M .reply ∙ ap (λ (s : Store). call s .reply) (sym d);
       store = d′ ∙ M .store ∙ ap (λ (s : Store). call s .store) (sym d);
-      stays = and-in (well-in c w′ (M .well)) (ap soundStore (d′ ∙ M .store) ∙ keeps (decodeAt c w) (ready w h c e .store));
+      stays =
+          and-in (well-in c w′ (M .well)) (ap soundStore (d′ ∙ M .store) ∙ keeps (decodeAt c w) (ready w h c e .store));
       unchanged = λ t. ap lent (M .unchanged t);
     }

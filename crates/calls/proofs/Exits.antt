@@ -20,14 +20,17 @@ use Rattle.calls.proofs.Verdicts.{needs-fails, needs-holds, no-edit, ed
 pub begin-full : (s : Store) → length (s .edits) < freeSlot s → beginning s ≡ replies s (refusing 13 [])
 unfolding beginning beginChecks
 begin-full s l =
-    needs-fails s (replies (begun s (freeSlot s)) (edit (handle (nextGeneration (editAt s (freeSlot s) .generation)) (freeSlot s))))
+    needs-fails s
+    (replies (begun s (freeSlot s)) (edit (handle (nextGeneration (editAt s (freeSlot s) .generation)) (freeSlot s))))
     (leb (freeSlot s) (length (s .edits))) 13 pass (lt-leb (freeSlot s) (length (s .edits)) l)
 
 pub begin-done : (s : Store) → freeSlot s ≤ length (s .edits)
-    → beginning s ≡ replies (begun s (freeSlot s)) (edit (handle (nextGeneration (editAt s (freeSlot s) .generation)) (freeSlot s)))
+    → beginning s
+    ≡ replies (begun s (freeSlot s)) (edit (handle (nextGeneration (editAt s (freeSlot s) .generation)) (freeSlot s)))
 unfolding beginning beginChecks
 begin-done s l =
-    needs-holds s (replies (begun s (freeSlot s)) (edit (handle (nextGeneration (editAt s (freeSlot s) .generation)) (freeSlot s))))
+    needs-holds s
+    (replies (begun s (freeSlot s)) (edit (handle (nextGeneration (editAt s (freeSlot s) .generation)) (freeSlot s))))
     (leb (freeSlot s) (length (s .edits))) 13 pass (le-leb (freeSlot s) (length (s .edits)) l)
 
 -- Write
@@ -47,13 +50,19 @@ module _ (s : Store) (h r : ℕ) (v : Val) where
   unfolding writing writeChecks
   write-ended e f = edit-ended s write-end h (needs (hasRecord s r) 5 write-rest) e f
 
-  pub write-no-record : knows s h ≡ true → isOpen s h ≡ true → hasRecord s r ≡ false → writing h r v s ≡ replies s (refusing 5 [])
+  pub write-no-record : knows s h ≡ true → isOpen s h ≡ true → hasRecord s r ≡ false
+      → writing h r v s ≡ replies s (refusing 5 [])
   unfolding writing writeChecks
-  write-no-record e f g = edit-open s write-end h (needs (hasRecord s r) 5 write-rest) e f ∙ needs-fails s write-end (hasRecord s r) 5 write-rest g
+  write-no-record e f g =
+      edit-open s write-end h (needs (hasRecord s r) 5 write-rest) e f
+      ∙ needs-fails s write-end (hasRecord s r) 5 write-rest g
 
-  pub write-passes : knows s h ≡ true → isOpen s h ≡ true → hasRecord s r ≡ true → writing h r v s ≡ writeOpen s (slotOf h) r v
+  pub write-passes : knows s h ≡ true → isOpen s h ≡ true → hasRecord s r ≡ true
+      → writing h r v s ≡ writeOpen s (slotOf h) r v
   unfolding writing writeChecks writeOpen
-  write-passes e f g = edit-open s write-end h (needs (hasRecord s r) 5 write-rest) e f ∙ needs-holds s write-end (hasRecord s r) 5 write-rest g
+  write-passes e f g =
+      edit-open s write-end h (needs (hasRecord s r) 5 write-rest) e f
+      ∙ needs-holds s write-end (hasRecord s r) 5 write-rest g
 
 module _ (s : Store) (k r : ℕ) (v : Val) where
   pub write-no-room : accessRoom s k r ≡ false → writeOpen s k r v ≡ replies s (refusing 10 [])
@@ -86,7 +95,11 @@ module _ (s : Store) (r p : ℕ) where
     view-bad-point f = view-there ∙ needs-fails s view-end (leb p LAST) 6 view-above f
 
     pub view-below : leb p LAST ≡ true → leb (recAt s r .floor) p ≡ false → viewing r p s ≡ replies s (refusing 7 [])
-    view-below f g = view-there ∙ needs-holds s view-end (leb p LAST) 6 view-above f ∙ needs-fails s view-end (leb (recAt s r .floor) p) 7 pass g
+    view-below f g =
+        view-there ∙ needs-holds s view-end (leb p LAST) 6 view-above f
+        ∙ needs-fails s view-end (leb (recAt s r .floor) p) 7 pass g
 
     pub view-done : leb p LAST ≡ true → leb (recAt s r .floor) p ≡ true → viewing r p s ≡ view-end
-    view-done f g = view-there ∙ needs-holds s view-end (leb p LAST) 6 view-above f ∙ needs-holds s view-end (leb (recAt s r .floor) p) 7 pass g
+    view-done f g =
+        view-there ∙ needs-holds s view-end (leb p LAST) 6 view-above f
+        ∙ needs-holds s view-end (leb (recAt s r .floor) p) 7 pass g

@@ -1,4 +1,5 @@
--- Rooms, and parts of the store before and after an edit is changed: a changed edit leaves the locks as they are. Rests on Acting.
+-- Rooms, and parts of the store before and after an edit is changed: a changed edit leaves the locks as they are. Rests
+-- on Acting.
 use Prim.Native.Nat.{ℕ, _≤_, _<_}
 use mathlib.Core.Path.{_≡_, refl, sym, ap, _∙_}
 use mathlib.Core.Bool.{true}
@@ -36,6 +37,7 @@ module _ (s : Store) (k : ℕ) (e : Edit) where
   unfolding withEdit lockRoom locksUsed
   edit-leaves-room = refl
 
-  pub edit-then-lock : (r mode o low high : ℕ) → withLock (withEdit s k e) r mode o low high ≡ withEdit (withLock s r mode o low high) k e
+  pub edit-then-lock : (r mode o low high : ℕ)
+      → withLock (withEdit s k e) r mode o low high ≡ withEdit (withLock s r mode o low high) k e
   unfolding withLock withEdit withRecords
   edit-then-lock r mode o low high = refl

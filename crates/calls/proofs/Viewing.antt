@@ -52,7 +52,8 @@ module _ (c : Counts) (w : List ℕ) (e : c ≡ countsOf w) (r p : ℕ) where
         pub viewed-below : q < floor → refusing 7 [] ≡ viewing r p (decode (lent w)) .reply
         viewed-below m =
             let i = floor-is in
-            seen (view-below (decodeAt c w) r p there (le-leb p LAST (omega arith)) (lt-leb (recAt (decodeAt c w) r .floor) p (omega arith)))
+            seen (view-below (decodeAt c w) r p there (le-leb p LAST (omega arith))
+            (lt-leb (recAt (decodeAt c w) r .floor) p (omega arith)))
 
         pub viewed : (v : Version) (t : ℕ) → floor ≤ q → v ≡ newestAt (recordAt c w r .versions) q → t ≡ v .point
             → at t (v .value) ≡ viewing r p (decode (lent w)) .reply
@@ -62,4 +63,5 @@ module _ (c : Counts) (w : List ℕ) (e : c ≡ countsOf w) (r p : ℕ) where
             let n′ : v ≡ newestAt (recAt (decodeAt c w) r .versions) p = cc in
             ap (λ (y : ℕ). at y (v .value)) o
             ∙ ap (λ (y : Version). at (y .point) (y .value)) n′
-            ∙ seen (view-done (decodeAt c w) r p there (le-leb p LAST (omega arith)) (le-leb (recAt (decodeAt c w) r .floor) p (omega arith)))
+            ∙ seen (view-done (decodeAt c w) r p there (le-leb p LAST (omega arith))
+            (le-leb (recAt (decodeAt c w) r .floor) p (omega arith)))

@@ -1,5 +1,6 @@
--- What a call on sound words does: its reply and the store that the words then mean are those of its definition, the words are sound again,
--- and a refusal changes not one word. Rests on `Words` of the crate `tables` and the definitions of `meaning`.
+-- What a call on sound words does: its reply and the store that the words then mean are those of its definition, the
+-- words are sound again, and a refusal changes not one word. Rests on `Words` of the crate `tables` and the definitions
+-- of `meaning`.
 use Prim.Native.Nat.{ℕ}
 use mathlib.Core.Path.{_≡_}
 use mathlib.Core.Bool.{true}

@@ -14,4 +14,5 @@ writeOpen s k r v = unless s (needs (accessRoom s k r) 10 pass) (replies (writte
 -- Read, of the version v, with the points from..end free to lock: 10, 11
 unfoldable pub readTaken : Store → ℕ → ℕ → ℕ → ℕ → Version → Outcome
 readTaken s k r from end v =
-    unless s (needs (accessRoom s k r) 10 (needs (lockRoom s) 11 pass)) (replies (readStore s k r from end) (read (v .point) end (v .value)))
+    unless s (needs (accessRoom s k r) 10 (needs (lockRoom s) 11 pass))
+    (replies (readStore s k r from end) (read (v .point) end (v .value)))

@@ -1,7 +1,8 @@
-// The calls of document 01 on sound words: each equal to its definition in the crate `meaning`, and each leaving sound words.
+// The calls of document 01 on sound words: each equal to its definition in the crate `meaning`, and each leaving sound
+// words.
 //
-// They are for callers who prove the words sound (`requires soundWords`), once for many calls: no call here looks at more than the chains it
-// touches. The crate `store` has the same calls for everybody, with the check first.
+// They are for callers who prove the words sound (`requires soundWords`), once for many calls: no call here looks at
+// more than the chains it touches. The crate `store` has the same calls for everybody, with the check first.
 ghost use mathlib.Core.Path.{_≡_};
 ghost use mathlib.Core.Bool.{true};
 ghost use Prim.Native.Nat.{_≤_, _<_};
@@ -96,7 +97,9 @@ pub fn begin(w: &mut [u64]) -> BeginReply
 // Write, once the edit is open and the record there: one access row for a record new to the edit.
 fn write_open(w: &mut [u64], c: Counts, k: usize, rec: u64, pending: u64) -> WriteReply
     requires { ⌜ Ready c (now w) × IsRow (c .edits) k ⌝ }
-    ensures { λ r. ⌜ Makes c (writeOpen (decodeAt c (now (w .entry))) k rec pending) (now (w .entry)) (now (w .exit)) (ofWrite r) ⌝ }
+    ensures { λ r. ⌜
+        Makes c (writeOpen (decodeAt c (now (w .entry))) k rec pending) (now (w .entry)) (now (w .exit)) (ofWrite r)
+        ⌝ }
 {
     let i = lookups::access_row(w, c, k, rec);
     if !lookups::access_room(w, c, i) {

@@ -1,5 +1,5 @@
--- Lists of entries as the meaning changes them, against rows as the chains do: a test of all rows after one was added or some were dropped,
--- dropping against keeping, and insertion of a version. Rests on Entries of `chains`.
+-- Lists of entries as the meaning changes them, against rows as the chains do: a test of all rows after one was added
+-- or some were dropped, dropping against keeping, and insertion of a version. Rests on Entries of `chains`.
 use Prim.Native.Nat.{ℕ, suc, _-_, _≤_, _<_}
 use mathlib.Core.Path.{_≡_, refl, sym, ap, _∙_}
 use mathlib.Core.Bool.{Bool, true, false, not, cond, false≢true}
@@ -21,9 +21,11 @@ use Rattle.meaning.specs.declared.Lock.{Lock}
 use Rattle.meaning.specs.declared.Version.{Version}
 
 -- tests of all rows
-pub all-pushed : (f g : ℕ → Bool) (rs rs′ : List ℕ) (b : Bool) → map f rs′ ≡ b ∷ map g rs → b ≡ true → allOf g rs ≡ true → allOf f rs′ ≡ true
+pub all-pushed : (f g : ℕ → Bool) (rs rs′ : List ℕ) (b : Bool) → map f rs′ ≡ b ∷ map g rs → b ≡ true → allOf g rs ≡ true
+    → allOf f rs′ ≡ true
 unfolding allOf
-all-pushed f g rs rs′ b e z h = entries-all f (λ x. x) rs′ ∙ ap (allOf (λ x. x)) e ∙ one b z ∙ sym (entries-all g (λ x. x) rs) ∙ h
+all-pushed f g rs rs′ b e z h =
+    entries-all f (λ x. x) rs′ ∙ ap (allOf (λ x. x)) e ∙ one b z ∙ sym (entries-all g (λ x. x) rs) ∙ h
   where
     one : (b : Bool) → b ≡ true → allOf (λ x. x) (b ∷ map g rs) ≡ allOf (λ x. x) (map g rs)
     one b z = rw (z, allOf)
@@ -33,7 +35,8 @@ unfolding allOf dropIf
 all-dropped f p [] h = refl
 all-dropped f p (r ∷ rs) h = go (f r) (p r) refl refl (all-dropped f p rs)
   where
-    go : (a b : Bool) → f r ≡ a → p r ≡ b → (allOf f rs ≡ true → allOf f (dropIf p rs) ≡ true) → allOf f (dropIf p (r ∷ rs)) ≡ true
+    go : (a b : Bool) → f r ≡ a → p r ≡ b → (allOf f rs ≡ true → allOf f (dropIf p rs) ≡ true)
+        → allOf f (dropIf p (r ∷ rs)) ≡ true
     go true true e d ih = rw (d, dropIf) (ih (rw (e, allOf) at h))
     go true false e d ih = rw (d, dropIf) (rw (e, allOf) (ih (rw (e, allOf) at h)))
     go false b e d ih = absurd (false≢true (rw (e, allOf) at h))
@@ -63,8 +66,10 @@ unfolding takeWhile dropWhile
 insert-after q v h [] = refl
 insert-after q v h (x ∷ vs) = go (ltb (x .point) (v .point)) refl (insert-after q v h vs)
   where
-    go : (b : Bool) → ltb (x .point) (v .point) ≡ b → takeWhile (λ x. ltb q (x .point)) vs ++ v ∷ dropWhile (λ x. ltb q (x .point)) vs ≡ insert v vs
-        → takeWhile (λ x. ltb q (x .point)) (x ∷ vs) ++ v ∷ dropWhile (λ x. ltb q (x .point)) (x ∷ vs) ≡ cond (ltb (x .point) (v .point)) (v ∷ x ∷ vs) (x ∷ insert v vs)
+    go : (b : Bool) → ltb (x .point) (v .point) ≡ b
+        → takeWhile (λ x. ltb q (x .point)) vs ++ v ∷ dropWhile (λ x. ltb q (x .point)) vs ≡ insert v vs
+        → takeWhile (λ x. ltb q (x .point)) (x ∷ vs) ++ v ∷ dropWhile (λ x. ltb q (x .point)) (x ∷ vs)
+        ≡ cond (ltb (x .point) (v .point)) (v ∷ x ∷ vs) (x ∷ insert v vs)
     go true e ih =
         let l : ltb q (x .point) ≡ false = le-ltb q (x .point) (omega (arith, ltb-true (x .point) (v .point) e)) in
         rw e (rw (l, takeWhile, dropWhile) refl)
@@ -80,7 +85,8 @@ occ-drop x p (r ∷ rs) = go (p r) refl (occ-drop x p rs)
   where
     go : (b : Bool) → p r ≡ b → occ x (dropIf p rs) ≤ occ x rs → occ x (dropIf p (r ∷ rs)) ≤ occ x (r ∷ rs)
     go true e ih = rw (e, dropIf) (omega (arith, occ-there x r rs))
-    go false e ih = rw (e, dropIf) (omega (arith, occ-swap x r (dropIf p rs) rs, occ-there x r (dropIf p rs), occ-there x r rs))
+    go false e ih =
+        rw (e, dropIf) (omega (arith, occ-swap x r (dropIf p rs) rs, occ-there x r (dropIf p rs), occ-there x r rs))
 
 -- a test of all rows and the test of one
 pub all-row : (f : ℕ → Bool) (rs : List ℕ) → allOf f rs ≡ true → (x : ℕ) → 1 ≤ occ x rs → f x ≡ true
@@ -114,19 +120,26 @@ module _ {A : Type 0} (f : ℕ → A) where
   ]
 
   -- two rows of a list whose entries stand pairwise in a relation
-  pub pair-rows : (q : A → A → Bool) (rs : List ℕ) → pairwise q (map f rs) ≡ true → (i x : ℕ) → 1 ≤ occ i rs → 1 ≤ occ x rs → (x ≡ i → ⊥) → (q (f i) (f x) ≡ true) ⊎ (q (f x) (f i) ≡ true)
+  pub pair-rows : (q : A → A → Bool) (rs : List ℕ) → pairwise q (map f rs) ≡ true → (i x : ℕ) → 1 ≤ occ i rs
+      → 1 ≤ occ x rs → (x ≡ i → ⊥) → (q (f i) (f x) ≡ true) ⊎ (q (f x) (f i) ≡ true)
   pair-rows q [] h i x oi ox n = absurd (omega (arith, occ-nil x))
   pair-rows q (r ∷ rs) h i x oi ox n = go (ℕ-discrete i r) (ℕ-discrete x r) (pair-rows q rs)
     where
       first : all (q (f r)) (map f rs) ≡ true
       first = and-left (all (q (f r)) (map f rs)) (pairwise q (map f rs)) h
 
-      go : Dec (i ≡ r) → Dec (x ≡ r) → (pairwise q (map f rs) ≡ true → (i x : ℕ) → 1 ≤ occ i rs → 1 ≤ occ x rs → (x ≡ i → ⊥) → (q (f i) (f x) ≡ true) ⊎ (q (f x) (f i) ≡ true))
+      go : Dec (i ≡ r) → Dec (x ≡ r)
+          → (pairwise q (map f rs) ≡ true → (i x : ℕ) → 1 ≤ occ i rs → 1 ≤ occ x rs → (x ≡ i → ⊥)
+          → (q (f i) (f x) ≡ true) ⊎ (q (f x) (f i) ≡ true))
           → (q (f i) (f x) ≡ true) ⊎ (q (f x) (f i) ≡ true)
       go (yes a) (yes b) ih = absurd (n (b ∙ sym a))
-      go (yes a) (no b) ih = inl (ap (λ y. q (f y) (f x)) a ∙ all-entry (q (f r)) rs first x (omega (arith, occ-other x r rs b)))
-      go (no a) (yes b) ih = inr (ap (λ y. q (f y) (f i)) b ∙ all-entry (q (f r)) rs first i (omega (arith, occ-other i r rs a)))
-      go (no a) (no b) ih = ih (and-right (all (q (f r)) (map f rs)) (pairwise q (map f rs)) h) i x (omega (arith, occ-other i r rs a)) (omega (arith, occ-other x r rs b)) n
+      go (yes a) (no b) ih =
+          inl (ap (λ y. q (f y) (f x)) a ∙ all-entry (q (f r)) rs first x (omega (arith, occ-other x r rs b)))
+      go (no a) (yes b) ih =
+          inr (ap (λ y. q (f y) (f i)) b ∙ all-entry (q (f r)) rs first i (omega (arith, occ-other i r rs a)))
+      go (no a) (no b) ih =
+          ih (and-right (all (q (f r)) (map f rs)) (pairwise q (map f rs)) h) i x (omega (arith, occ-other i r rs a))
+          (omega (arith, occ-other x r rs b)) n
 
 pub map-map : {A B : Type 0} (f : ℕ → A) (g : A → B) (rs : List ℕ) → map g (map f rs) ≡ map (λ i. g (f i)) rs
 map-map f g [] = refl

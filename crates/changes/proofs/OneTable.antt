@@ -1,5 +1,6 @@
--- What a change of one table leaves alone, and what it makes of the store: `but-versions`, `but-locks`, `but-accesses` are the frames of every
--- mutator; `versions-become` and its like are what a mutator shows to be done. Rests on Apart and Parts.
+-- What a change of one table leaves alone, and what it makes of the store: `but-versions`, `but-locks`, `but-accesses`
+-- are the frames of every mutator; `versions-become` and its like are what a mutator shows to be done. Rests on Apart
+-- and Parts.
 use Prim.Native.Nat.{ℕ, suc, _≤_, _<_}
 use mathlib.Core.Path.{_≡_, refl, sym, ap, _∙_}
 use mathlib.Core.Bool.{true}
@@ -15,8 +16,10 @@ use Rattle.meaning.specs.declared.Version.{Version}
 use Rattle.meaning.specs.declared.Lock.{Lock}
 use Rattle.meaning.specs.declared.Access.{Access}
 use Rattle.meaning.specs.declared.Counts.{Counts}
-use Rattle.tables.specs.Layout.{recordTable, slotTable, lockTable, lockHeads, versionTable, versionHeads, accessTable, accessHeads, Fits, R-FLOOR, S-STATE, S-GENERATION, S-POINT}
-use Rattle.tables.specs.Decode.{lockRows, accessRows, versionsOf, locksOf, accessesOf, floorOf, recordAt, slotAt, decodeAt}
+use Rattle.tables.specs.Layout.{recordTable, slotTable, lockTable, lockHeads, versionTable, versionHeads, accessTable}
+use Rattle.tables.specs.Layout.{accessHeads, Fits, R-FLOOR, S-STATE, S-GENERATION, S-POINT}
+use Rattle.tables.specs.Decode.{lockRows, accessRows, versionsOf, locksOf, accessesOf, floorOf, recordAt, slotAt}
+use Rattle.tables.specs.Decode.{decodeAt}
 use Rattle.tables.specs.Words.{Well, namesRecord, marked}
 use Rattle.tables.proofs.Places.{fits-same}
 use Rattle.tables.proofs.Decoded.{rec-at, edit-at}
@@ -46,7 +49,8 @@ pub record ButAccesses (c : Counts) (w w′ : List ℕ) : Type 0 where
   pub slots : Parts.SlotsSame c w w′
 
 -- the counts are as before
-pub versions-fit : {c : Counts} {w w′ : List ℕ} → Fits c w → OnlyTable (versionTable c) (versionHeads c) w w′ → Fits c w′
+pub versions-fit : {c : Counts} {w w′ : List ℕ} → Fits c w → OnlyTable (versionTable c) (versionHeads c) w w′
+    → Fits c w′
 versions-fit {c} f o = fits-same f (o .size) (λ p q. Apart.off-same (Apart.count-versions c p q) o)
 
 pub locks-fit : {c : Counts} {w w′ : List ℕ} → Fits c w → OnlyTable (lockTable c) (lockHeads c) w w′ → Fits c w′
@@ -88,34 +92,59 @@ module _ {c : Counts} {w w′ : List ℕ} (W : Well c w) where
 
 -- Record r's versions have become vs, its locks ls; slot k's accesses as′
 module _ {c : Counts} {w w′ : List ℕ} (W : Well c w) where
-  pub versions-become : OnlyTable (versionTable c) (versionHeads c) w w′ → (r : ℕ) → r < c .records → {vs : List Version} → partition (versionTable c) (versionHeads c) w′ ≡ true
+  pub versions-become : OnlyTable (versionTable c) (versionHeads c) w w′ → (r : ℕ) → r < c .records
+      → {vs : List Version} → partition (versionTable c) (versionHeads c) w′ ≡ true
       → ((j : ℕ) → j < c .records → (j ≡ r → ⊥) → versionsOf c w′ j ≡ versionsOf c w j) → versionsOf c w′ r ≡ vs
       → Becomes c w′ (withRec (decodeAt c w) r (withVersions (recAt (decodeAt c w) r) vs))
   unfolding recordAt
   versions-become o r l {vs} p others here =
       let B = but-versions W o in
-      let e : recordAt c w′ r ≡ withVersions (recordAt c w r) vs = rw (here, B .locks .entries r l, B .floors r l) refl in
+      let e : recordAt c w′ r ≡ withVersions (recordAt c w r) vs =
+      rw (here, B .locks .entries r l, B .floors r l) refl in
       record {
-        well = record { fits = B .fits; versions-parted = p; locks-parted = B .locks .parted; accesses-parted = B .accesses .parted; named = B .locks .named; marks = B .accesses .marks };
-        means = Parts.record-decoded c w w′ r l (λ j q n. Parts.record-same c w w′ j (others j q n) (B .locks .entries j q) (B .floors j q)) (Parts.edits-same c w w′ (B .accesses) (B .slots))
+        well = record {
+          fits = B .fits;
+          versions-parted = p;
+          locks-parted = B .locks .parted;
+          accesses-parted = B .accesses .parted;
+          named = B .locks .named;
+          marks = B .accesses .marks;
+        };
+        means =
+            Parts.record-decoded c w w′ r l
+            (λ j q n. Parts.record-same c w w′ j (others j q n) (B .locks .entries j q) (B .floors j q))
+            (Parts.edits-same c w w′ (B .accesses) (B .slots))
             ∙ ap (withRec (decodeAt c w) r) (e ∙ ap (λ x. withVersions x vs) (sym (rec-at c w r l)));
       }
 
-  pub locks-become : OnlyTable (lockTable c) (lockHeads c) w w′ → (r : ℕ) → r < c .records → {ls : List Lock} → partition (lockTable c) (lockHeads c) w′ ≡ true
+  pub locks-become : OnlyTable (lockTable c) (lockHeads c) w w′ → (r : ℕ) → r < c .records → {ls : List Lock}
+      → partition (lockTable c) (lockHeads c) w′ ≡ true
       → ((j : ℕ) → j < c .records → allOf (namesRecord c w′ j) (lockRows c w′ j) ≡ true)
       → ((j : ℕ) → j < c .records → (j ≡ r → ⊥) → locksOf c w′ j ≡ locksOf c w j) → locksOf c w′ r ≡ ls
       → Becomes c w′ (withRec (decodeAt c w) r (withLocks (recAt (decodeAt c w) r) ls))
   unfolding recordAt
   locks-become o r l {ls} p named others here =
       let B = but-locks W o in
-      let e : recordAt c w′ r ≡ withLocks (recordAt c w r) ls = rw (here, B .versions .entries r l, B .floors r l) refl in
+      let e : recordAt c w′ r ≡ withLocks (recordAt c w r) ls =
+      rw (here, B .versions .entries r l, B .floors r l) refl in
       record {
-        well = record { fits = B .fits; versions-parted = B .versions .parted; locks-parted = p; accesses-parted = B .accesses .parted; named = named; marks = B .accesses .marks };
-        means = Parts.record-decoded c w w′ r l (λ j q n. Parts.record-same c w w′ j (B .versions .entries j q) (others j q n) (B .floors j q)) (Parts.edits-same c w w′ (B .accesses) (B .slots))
+        well = record {
+          fits = B .fits;
+          versions-parted = B .versions .parted;
+          locks-parted = p;
+          accesses-parted = B .accesses .parted;
+          named = named;
+          marks = B .accesses .marks;
+        };
+        means =
+            Parts.record-decoded c w w′ r l
+            (λ j q n. Parts.record-same c w w′ j (B .versions .entries j q) (others j q n) (B .floors j q))
+            (Parts.edits-same c w w′ (B .accesses) (B .slots))
             ∙ ap (withRec (decodeAt c w) r) (e ∙ ap (λ x. withLocks x ls) (sym (rec-at c w r l)));
       }
 
-  pub accesses-become : OnlyTable (accessTable c) (accessHeads c) w w′ → (k : ℕ) → IsRow (c .edits) k → {as′ : List Access} → partition (accessTable c) (accessHeads c) w′ ≡ true
+  pub accesses-become : OnlyTable (accessTable c) (accessHeads c) w w′ → (k : ℕ) → IsRow (c .edits) k
+      → {as′ : List Access} → partition (accessTable c) (accessHeads c) w′ ≡ true
       → ((j : ℕ) → 1 ≤ j → j ≤ c .edits → allOf (marked c w′) (accessRows c w′ j) ≡ true)
       → ((j : ℕ) → IsRow (c .edits) j → (j ≡ k → ⊥) → accessesOf c w′ j ≡ accessesOf c w j) → accessesOf c w′ k ≡ as′
       → Becomes c w′ (withEdit (decodeAt c w) k (withAccesses (editAt (decodeAt c w) k) as′))
@@ -123,9 +152,23 @@ module _ {c : Counts} {w w′ : List ℕ} (W : Well c w) where
   accesses-become o k l {as′} p marks others here =
       let B = but-accesses W o in
       let e : slotAt c w′ k ≡ withAccesses (slotAt c w k) as′ =
-      rw (here, B .slots k S-STATE l (omega arith) (λ z. omega arith), B .slots k S-GENERATION l (omega arith) (λ z. omega arith), B .slots k S-POINT l (omega arith) (λ z. omega arith)) refl in
+      rw (
+        here,
+        B .slots k S-STATE l (omega arith) (λ z. omega arith),
+        B .slots k S-GENERATION l (omega arith) (λ z. omega arith),
+        B .slots k S-POINT l (omega arith) (λ z. omega arith),
+      ) refl in
       record {
-        well = record { fits = B .fits; versions-parted = B .versions .parted; locks-parted = B .locks .parted; accesses-parted = p; named = B .locks .named; marks = marks };
-        means = Parts.slot-decoded c w w′ k l (λ j q n. Parts.slot-same c w w′ j q (others j q n) (λ o. B .slots j o q)) (Parts.records-same c w w′ (B .versions) (B .locks) (B .floors))
+        well = record {
+          fits = B .fits;
+          versions-parted = B .versions .parted;
+          locks-parted = B .locks .parted;
+          accesses-parted = p;
+          named = B .locks .named;
+          marks = marks;
+        };
+        means =
+            Parts.slot-decoded c w w′ k l (λ j q n. Parts.slot-same c w w′ j q (others j q n) (λ o. B .slots j o q))
+            (Parts.records-same c w w′ (B .versions) (B .locks) (B .floors))
             ∙ ap (withEdit (decodeAt c w) k) (e ∙ ap (λ x. withAccesses x as′) (sym (edit-at c w k l)));
       }

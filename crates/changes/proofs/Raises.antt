@@ -1,5 +1,6 @@
--- The loop that raises the low ends of a record's settled locks: the chains stay, and row by row the low end becomes that of the trimmed lock.
--- In each, `d` is what the code's test `more` ensures and `e` how it went. Rests on OneTable, Locks and Frames of `chains`.
+-- The loop that raises the low ends of a record's settled locks: the chains stay, and row by row the low end becomes
+-- that of the trimmed lock. In each, `d` is what the code's test `more` ensures and `e` how it went. Rests on OneTable,
+-- Locks and Frames of `chains`.
 use Prim.Native.Nat.{ℕ, suc, _+_, _-_, _≤_, _<_, max}
 use mathlib.Core.Path.{_≡_, refl, sym, ap, _∙_}
 use mathlib.Core.Bool.{Bool, true, false, cond}
@@ -35,11 +36,18 @@ use Rattle.changes.proofs.Locks.{locks-at}
 use Rattle.changes.proofs.Lists.{map-map}
 
 -- trimming changes the low end alone
-trimmed-parts : (v : ℕ) (l : Lock) → trimmed v l ≡ record { low = trimmed v l .low; high = l .high; mode = l .mode; owner = l .owner }
+trimmed-parts : (v : ℕ) (l : Lock)
+    → trimmed v l ≡ record { low = trimmed v l .low; high = l .high; mode = l .mode; owner = l .owner }
 trimmed-parts v l = go (isOwned SETTLED l)
   where
     go : (b : Bool) → cond b (record { low = max (l .low) (suc v); high = l .high; mode = l .mode; owner = l .owner }) l
-        ≡ record { low = cond b (record { low = max (l .low) (suc v); high = l .high; mode = l .mode; owner = l .owner }) l .low; high = l .high; mode = l .mode; owner = l .owner }
+        ≡ record {
+          low = cond b (record { low = max (l .low) (suc v); high = l .high; mode = l .mode; owner = l .owner })
+              l .low;
+          high = l .high;
+          mode = l .mode;
+          owner = l .owner;
+        }
     go true = refl
     go false = refl
 
@@ -62,11 +70,14 @@ pub record Raises (c : Counts) (v : ℕ) (w₀ : List ℕ) (r : ℕ) (w : List �
   pub split : rowsOf (lockTable c) (lockHeads c) w₀ (suc r) ≡ done ++ rows (link (lockTable c) w₀) (c .locks) left cur
   pub only : OnlyTable (lockTable c) (lockHeads c) w₀ w
   pub heads : (j : ℕ) → j ≤ c .records → headOf (lockHeads c) w j ≡ headOf (lockHeads c) w₀ j
-  pub kept : (x o : ℕ) → IsRow (c .locks) x → o < LOCK → (o ≡ L-LOW → ⊥) → field (lockTable c) w x o ≡ field (lockTable c) w₀ x o
-  pub later : (x : ℕ) → IsRow (c .locks) x → occ x done ≡ 0 → field (lockTable c) w x L-LOW ≡ field (lockTable c) w₀ x L-LOW
+  pub kept : (x o : ℕ) → IsRow (c .locks) x → o < LOCK → (o ≡ L-LOW → ⊥)
+      → field (lockTable c) w x o ≡ field (lockTable c) w₀ x o
+  pub later : (x : ℕ) → IsRow (c .locks) x → occ x done ≡ 0
+      → field (lockTable c) w x L-LOW ≡ field (lockTable c) w₀ x L-LOW
   pub earlier : (x : ℕ) → 1 ≤ occ x done → field (lockTable c) w x L-LOW ≡ trimmed v (lockAt c w₀ x) .low
 
-pub raises-start : {c : Counts} {w : List ℕ} {r cur : ℕ} (v : ℕ) → Well c w → r < c .records → cur ≡ headOf (lockHeads c) w (suc r) → Raises c v w r w cur (c .locks)
+pub raises-start : {c : Counts} {w : List ℕ} {r cur : ℕ} (v : ℕ) → Well c w → r < c .records
+    → cur ≡ headOf (lockHeads c) w (suc r) → Raises c v w r w cur (c .locks)
 unfolding rowsOf chain lockTable
 raises-start {c} {w} v W l e = record {
   well = W;
@@ -107,7 +118,13 @@ module _ {c : Counts} {v : ℕ} {w₀ : List ℕ} {r : ℕ} {w : List ℕ} {cur 
       -- the row is not among those passed
       fresh : occ cur (i .done) ≡ 0
       unfolding lockHeads
-      fresh = omega (arith, on-once (lockTable c) (lockHeads c) w₀ (i .well .locks-parted) (suc r) (i .within) cur, ap (occ cur) parts ∙ occ-append cur (i .done) (cur ∷ rest), occ-same cur rest)
+      fresh =
+          omega (
+            arith,
+            on-once (lockTable c) (lockHeads c) w₀ (i .well .locks-parted) (suc r) (i .within) cur,
+            ap (occ cur) parts ∙ occ-append cur (i .done) (cur ∷ rest),
+            occ-same cur rest,
+          )
 
       pub raises-entry : lockAt c w cur ≡ lockAt c w₀ cur
       unfolding lockAt
@@ -125,7 +142,8 @@ module _ {c : Counts} {v : ℕ} {w₀ : List ℕ} {r : ℕ} {w : List ℕ} {cur 
       passed x = occ-append x (i .done) (cur ∷ [])
 
       module _ (u : ℕ) where
-        after-other : (x o : ℕ) → 1 ≤ x → o < LOCK → ((x ≡ cur) × (o ≡ L-LOW) → ⊥) → field (lockTable c) (set w (place (lockTable c) cur L-LOW) u) x o ≡ field (lockTable c) w x o
+        after-other : (x o : ℕ) → 1 ≤ x → o < LOCK → ((x ≡ cur) × (o ≡ L-LOW) → ⊥)
+            → field (lockTable c) (set w (place (lockTable c) cur L-LOW) u) x o ≡ field (lockTable c) w x o
         unfolding lockTable
         after-other x o p q n = field-other (lockTable c) w cur x L-LOW o u (row .low) p (omega arith) q n
 
@@ -137,16 +155,19 @@ module _ {c : Counts} {v : ℕ} {w₀ : List ℕ} {r : ℕ} {w : List ℕ} {cur 
         unfolding lockTable
         after-only = only-trans (i .only) (only-put (lockTable c) (lockHeads c) w cur L-LOW u row (omega arith))
 
-        after-heads : (j : ℕ) → j ≤ c .records → headOf (lockHeads c) (set w (place (lockTable c) cur L-LOW) u) j ≡ headOf (lockHeads c) w₀ j
+        after-heads : (j : ℕ) → j ≤ c .records
+            → headOf (lockHeads c) (set w (place (lockTable c) cur L-LOW) u) j ≡ headOf (lockHeads c) w₀ j
         unfolding lockHeads
         after-heads j q = head-place (locks-laid raises-fits) cur L-LOW u j q ∙ i .heads j q
 
-        after-later : (x : ℕ) → IsRow (c .locks) x → occ x (i .done ++ (cur ∷ [])) ≡ 0 → field (lockTable c) (set w (place (lockTable c) cur L-LOW) u) x L-LOW ≡ field (lockTable c) w₀ x L-LOW
+        after-later : (x : ℕ) → IsRow (c .locks) x → occ x (i .done ++ (cur ∷ [])) ≡ 0
+            → field (lockTable c) (set w (place (lockTable c) cur L-LOW) u) x L-LOW ≡ field (lockTable c) w₀ x L-LOW
         after-later x q z =
             let n : x ≡ cur → ⊥ = λ y. omega (arith, passed x, ap (λ k. occ k (cur ∷ [])) y, occ-same cur []) in
             after-other x L-LOW (q .low) (omega arith) (λ y. n (y .0)) ∙ i .later x q (omega (arith, passed x))
 
-        after-earlier : u ≡ trimmed v (lockAt c w₀ cur) .low → (x : ℕ) → 1 ≤ occ x (i .done ++ (cur ∷ [])) → field (lockTable c) (set w (place (lockTable c) cur L-LOW) u) x L-LOW ≡ trimmed v (lockAt c w₀ x) .low
+        after-earlier : u ≡ trimmed v (lockAt c w₀ cur) .low → (x : ℕ) → 1 ≤ occ x (i .done ++ (cur ∷ []))
+            → field (lockTable c) (set w (place (lockTable c) cur L-LOW) u) x L-LOW ≡ trimmed v (lockAt c w₀ x) .low
         after-earlier h x o = elim (ℕ-discrete x cur) [
           | yes z ↦ rw z (after-here ∙ h)
           | no z ↦ (let p : 1 ≤ occ x (i .done) = omega (arith, passed x, occ-other x cur [] z, occ-nil x) in
@@ -154,7 +175,9 @@ module _ {c : Counts} {v : ℕ} {w₀ : List ℕ} {r : ℕ} {w : List ℕ} {cur 
               after-other x L-LOW (q .low) (omega arith) (λ y. z (y .0)) ∙ i .earlier x p)
         ]
 
-      pub raises-again : {w′ : List ℕ} {nxt : ℕ} → nxt ≡ link (lockTable c) w cur → w′ ≡ set w (place (lockTable c) cur L-LOW) (trimmed v (lockAt c w cur) .low) → Raises c v w₀ r w′ nxt (left - 1)
+      pub raises-again : {w′ : List ℕ} {nxt : ℕ} → nxt ≡ link (lockTable c) w cur
+          → w′ ≡ set w (place (lockTable c) cur L-LOW) (trimmed v (lockAt c w cur) .low)
+          → Raises c v w₀ r w′ nxt (left - 1)
       unfolding rest
       raises-again en ew =
           let u = trimmed v (lockAt c w cur) .low in
@@ -174,7 +197,9 @@ module _ {c : Counts} {v : ℕ} {w₀ : List ℕ} {r : ℕ} {w : List ℕ} {cur 
     -- the end of the chain
     module _ (e : b ≡ false) where
       all-passed : i .done ≡ rowsOf (lockTable c) (lockHeads c) w₀ (suc r)
-      all-passed = sym (i .split ∙ ap (λ y. i .done ++ y) (stop (link (lockTable c) w₀) (c .locks) left cur d e .row) ∙ append-nil (i .done))
+      all-passed =
+          sym (i .split ∙ ap (λ y. i .done ++ y) (stop (link (lockTable c) w₀) (c .locks) left cur d e .row)
+          ∙ append-nil (i .done))
 
       pub raises-same : Same (lockTable c) (lockHeads c) w₀ w
       unfolding lockTable lockHeads
@@ -186,24 +211,39 @@ module _ {c : Counts} {v : ℕ} {w₀ : List ℕ} {r : ℕ} {w : List ℕ} {cur 
       unfolding lockAt
       raises-here x o =
           let q = chain-row x o in
-          rw (i .earlier x (rw all-passed o), i .kept x L-HIGH q (omega arith) (λ z. omega arith), i .kept x L-MODE q (omega arith) (λ z. omega arith)) (sym (trimmed-parts v (lockAt c w₀ x)))
+          rw (
+            i .earlier x (rw all-passed o),
+            i .kept x L-HIGH q (omega arith) (λ z. omega arith),
+            i .kept x L-MODE q (omega arith) (λ z. omega arith),
+          ) (sym (trimmed-parts v (lockAt c w₀ x)))
 
-      there : (j : ℕ) → j < c .records → (j ≡ r → ⊥) → (x : ℕ) → 1 ≤ occ x (rowsOf (lockTable c) (lockHeads c) w₀ (suc j)) → lockAt c w x ≡ lockAt c w₀ x
+      there : (j : ℕ) → j < c .records → (j ≡ r → ⊥) → (x : ℕ)
+          → 1 ≤ occ x (rowsOf (lockTable c) (lockHeads c) w₀ (suc j)) → lockAt c w x ≡ lockAt c w₀ x
       unfolding lockAt lockTable lockHeads
       there j q n x o =
           let p = on-chain (lockTable c) (lockHeads c) w₀ (i .well .locks-parted) (suc j) q x o in
-          let z = on-one (lockTable c) (lockHeads c) w₀ (i .well .locks-parted) (suc j) (suc r) q (i .within) (λ y. n (omega arith)) x o in
-          rw (i .later x p (rw all-passed z), i .kept x L-HIGH p (omega arith) (λ z. omega arith), i .kept x L-MODE p (omega arith) (λ z. omega arith)) refl
+          let z =
+          on-one (lockTable c) (lockHeads c) w₀ (i .well .locks-parted) (suc j) (suc r) q (i .within)
+          (λ y. n (omega arith)) x o in
+          rw (
+            i .later x p (rw all-passed z),
+            i .kept x L-HIGH p (omega arith) (λ z. omega arith),
+            i .kept x L-MODE p (omega arith) (λ z. omega arith),
+          ) refl
 
       named : (j : ℕ) → j < c .records → allOf (namesRecord c w j) (lockRows c w j) ≡ true
       unfolding lockRows lockTable lockHeads
       named j q = all-same (namesRecord c w j) (namesRecord c w₀ j) (lockRows c w₀ j) (lockRows c w j)
           (ap (map (namesRecord c w j)) (raises-same .rows-kept (suc j) q)
           ∙ entries-kept (namesRecord c w j) (namesRecord c w₀ j) (rowsOf (lockTable c) (lockHeads c) w₀ (suc j))
-          (λ x o. ap (λ y. eqb y j) (i .kept x L-RECORD (on-chain (lockTable c) (lockHeads c) w₀ (i .well .locks-parted) (suc j) q x o) (omega arith) (λ z. omega arith))))
+          (λ x o. ap (λ y. eqb y j)
+          (i .kept x L-RECORD (on-chain (lockTable c) (lockHeads c) w₀ (i .well .locks-parted) (suc j) q x o)
+          (omega arith) (λ z. omega arith))))
           (i .well .named j q)
 
-      pub raise-lows-law : Becomes c w (withRec (decodeAt c w₀) r (withLocks (recAt (decodeAt c w₀) r) (map (trimmed v) (recAt (decodeAt c w₀) r .locks))))
+      pub raise-lows-law : Becomes c w
+          (withRec (decodeAt c w₀) r
+          (withLocks (recAt (decodeAt c w₀) r) (map (trimmed v) (recAt (decodeAt c w₀) r .locks))))
       unfolding locksOf lockRows lockHeads
       raise-lows-law = locks-become (i .well) (i .only) r (i .within)
           (raises-same .parted-kept ∙ i .well .locks-parted) named
@@ -212,4 +252,5 @@ module _ {c : Counts} {v : ℕ} {w₀ : List ℕ} {r : ℕ} {w : List ℕ} {cur 
           (ap (map (lockAt c w)) (raises-same .rows-kept (suc r) (i .within))
           ∙ entries-kept (lockAt c w) (λ x. trimmed v (lockAt c w₀ x))
           (rowsOf (lockTable c) (lockHeads c) w₀ (suc r)) raises-here
-          ∙ sym (map-map (lockAt c w₀) (trimmed v) (rowsOf (lockTable c) (lockHeads c) w₀ (suc r))) ∙ ap (map (trimmed v)) (sym (locks-at c w₀ r (i .within))))
+          ∙ sym (map-map (lockAt c w₀) (trimmed v) (rowsOf (lockTable c) (lockHeads c) w₀ (suc r)))
+          ∙ ap (map (trimmed v)) (sym (locks-at c w₀ r (i .within))))

@@ -1,5 +1,5 @@
--- The loops that drop a record's rows by a test of their entry: the invariant of `unlink_turn`'s loop, over the tables. In each, `d` is what the
--- code's test `more` ensures and `e` how it went. Rests on Turns of `chains`.
+-- The loops that drop a record's rows by a test of their entry: the invariant of `unlink_turn`'s loop, over the tables.
+-- In each, `d` is what the code's test `more` ensures and `e` how it went. Rests on Turns of `chains`.
 use Prim.Native.Nat.{ℕ, suc, _+_, _-_, _≤_, _<_}
 use mathlib.Core.Path.{_≡_, refl, ap, _∙_}
 use mathlib.Core.Bool.{Bool, true, false, cond}
@@ -27,16 +27,21 @@ use Rattle.changes.proofs.Versions.{version-ready}
 use Rattle.changes.proofs.Freed.{Lost}
 
 -- Record r's locks
-pub record LockTurns (c : Counts) (p : Lock → Bool) (w₀ : List ℕ) (r : ℕ) (w : List ℕ) (place cur left : ℕ) : Type 0 where
-  pub turns : TurnInv (lockTable c) (lockHeads c) (λ i. p (lockAt c w₀ i)) w₀ (suc r) 0 [] (rowsOf (lockTable c) (lockHeads c) w₀ (suc r)) w place cur left
+pub record LockTurns (c : Counts) (p : Lock → Bool) (w₀ : List ℕ) (r : ℕ) (w : List ℕ) (place cur left : ℕ) : Type
+    0 where
+  pub turns : TurnInv (lockTable c) (lockHeads c) (λ i. p (lockAt c w₀ i)) w₀ (suc r) 0 []
+      (rowsOf (lockTable c) (lockHeads c) w₀ (suc r)) w place cur left
   pub well : Well c w₀
   pub within : r < c .records
 
-pub lock-turns-start : {c : Counts} {w : List ℕ} {r cur : ℕ} (p : Lock → Bool) → Well c w → r < c .records → cur ≡ headOf (lockHeads c) w (suc r) → LockTurns c p w r w 0 cur (c .locks)
+pub lock-turns-start : {c : Counts} {w : List ℕ} {r cur : ℕ} (p : Lock → Bool) → Well c w → r < c .records
+    → cur ≡ headOf (lockHeads c) w (suc r) → LockTurns c p w r w 0 cur (c .locks)
 unfolding lockTable
-lock-turns-start p W l e = record { turns = turn-start (λ i. p (lockAt _ _ i)) (lock-ready-back W l) e; well = W; within = l }
+lock-turns-start p W l e =
+    record { turns = turn-start (λ i. p (lockAt _ _ i)) (lock-ready-back W l) e; well = W; within = l }
 
-module _ {c : Counts} {p : Lock → Bool} {w₀ : List ℕ} {r : ℕ} {w : List ℕ} {place cur left : ℕ} (i : LockTurns c p w₀ r w place cur left) where
+module _ {c : Counts} {p : Lock → Bool} {w₀ : List ℕ} {r : ℕ} {w : List ℕ} {place cur left : ℕ}
+    (i : LockTurns c p w₀ r w place cur left) where
   pub lock-turns-fits : Fits c w
   unfolding lockTable
   lock-turns-fits = locks-fit (i .well .fits) (only-elsewhere (omega arith) (i .turns .elsewhere))
@@ -45,7 +50,9 @@ module _ {c : Counts} {p : Lock → Bool} {w₀ : List ℕ} {r : ℕ} {w : List 
     pub lock-turns-row : b ≡ true → Fits c w × IsRow (c .locks) cur
     lock-turns-row e = (lock-turns-fits, more-out (c .locks) left cur d e .row)
 
-    pub lock-turns-ready : b ≡ true → Fits c w × (r < c .records) × Ready (lockTable c) (lockHeads c) w (suc r) 0 × Follows (lockTable c) (lockHeads c) w (suc r) place cur
+    pub lock-turns-ready : b ≡ true
+        → Fits c w × (r < c .records) × Ready (lockTable c) (lockHeads c) w (suc r) 0
+        × Follows (lockTable c) (lockHeads c) w (suc r) place cur
     unfolding lockTable
     lock-turns-ready e = let q = turn-ready (i .turns) d e in (lock-turns-fits, i .within, q .0, q .1)
 
@@ -53,20 +60,29 @@ module _ {c : Counts} {p : Lock → Bool} {w₀ : List ℕ} {r : ℕ} {w : List 
     lock-turns-entry : b ≡ true → lockAt c w cur ≡ lockAt c w₀ cur
     lock-turns-entry e = lock-kept (i .well .fits) (i .turns .elsewhere) cur (more-out (c .locks) left cur d e .row) .0
 
-    pub lock-turns-again : {w′ : List ℕ} {nxt place′ : ℕ} {hit : Bool} → b ≡ true → nxt ≡ link (lockTable c) w cur → hit ≡ p (lockAt c w cur) → Turned (lockTable c) (lockHeads c) w w′ (suc r) 0 place cur hit place′
+    pub lock-turns-again : {w′ : List ℕ} {nxt place′ : ℕ} {hit : Bool} → b ≡ true → nxt ≡ link (lockTable c) w cur
+        → hit ≡ p (lockAt c w cur) → Turned (lockTable c) (lockHeads c) w w′ (suc r) 0 place cur hit place′
         → LockTurns c p w₀ r w′ place′ nxt (left - 1)
     unfolding lockTable
-    lock-turns-again {hit = hit} e en k u = record { turns = turn-again (i .turns) d hit e en (k ∙ ap p (lock-turns-entry e)) u; well = i .well; within = i .within }
+    lock-turns-again {hit = hit} e en k u = record {
+      turns = turn-again (i .turns) d hit e en (k ∙ ap p (lock-turns-entry e)) u;
+      well = i .well;
+      within = i .within;
+    }
 
-    pub lock-turns-end : b ≡ false → Changed (lockTable c) (lockHeads c) w₀ w (suc r) 0 (dropIf (λ i. p (lockAt c w₀ i)) (rowsOf (lockTable c) (lockHeads c) w₀ (suc r)))
-        (pushIf (λ i. p (lockAt c w₀ i)) (rowsOf (lockTable c) (lockHeads c) w₀ (suc r)) (rowsOf (lockTable c) (lockHeads c) w₀ 0))
+    pub lock-turns-end : b ≡ false
+        → Changed (lockTable c) (lockHeads c) w₀ w (suc r) 0
+        (dropIf (λ i. p (lockAt c w₀ i)) (rowsOf (lockTable c) (lockHeads c) w₀ (suc r)))
+        (pushIf (λ i. p (lockAt c w₀ i)) (rowsOf (lockTable c) (lockHeads c) w₀ (suc r))
+        (rowsOf (lockTable c) (lockHeads c) w₀ 0))
     unfolding lockTable
     lock-turns-end e = turn-end (i .turns) d e
 
 -- Record r's versions
 pub record VersionTurns (c : Counts) (p : Version → Bool) (w₀ : List ℕ) (r : ℕ) (w : List ℕ)
     (place cur left freed : ℕ) : Type 0 where
-  pub turns : TurnInv (versionTable c) (versionHeads c) (λ i. p (versionAt c w₀ i)) w₀ (suc r) 0 [] (rowsOf (versionTable c) (versionHeads c) w₀ (suc r)) w place cur left
+  pub turns : TurnInv (versionTable c) (versionHeads c) (λ i. p (versionAt c w₀ i)) w₀ (suc r) 0 []
+      (rowsOf (versionTable c) (versionHeads c) w₀ (suc r)) w place cur left
   pub well : Well c w₀
   pub within : r < c .records
   pub lost : Lost (versionTable c) (versionHeads c) w₀ (suc r) w freed
@@ -102,14 +118,18 @@ module _ {c : Counts} {p : Version → Bool} {w₀ : List ℕ} {r : ℕ} {w : Li
     pub version-turns-row : b ≡ true → Fits c w × IsRow (c .versions) cur
     version-turns-row e = (version-turns-fits, more-out (c .versions) left cur d e .row)
 
-    pub version-turns-ready : b ≡ true → Fits c w × (r < c .records) × Ready (versionTable c) (versionHeads c) w (suc r) 0 × Follows (versionTable c) (versionHeads c) w (suc r) place cur
+    pub version-turns-ready : b ≡ true
+        → Fits c w × (r < c .records) × Ready (versionTable c) (versionHeads c) w (suc r) 0
+        × Follows (versionTable c) (versionHeads c) w (suc r) place cur
     unfolding versionTable
     version-turns-ready e = let q = turn-ready (i .turns) d e in (version-turns-fits, i .within, q .0, q .1)
 
     version-turns-entry : b ≡ true → versionAt c w cur ≡ versionAt c w₀ cur
     unfolding versionAt versionTable
     version-turns-entry e =
-        let kept : (o : ℕ) → o < 3 → field (versionTable c) w cur o ≡ field (versionTable c) w₀ cur o = λ o h. field-kept (versions-laid (i .well .fits)) (i .turns .elsewhere) cur o (more-out (c .versions) left cur d e .row .low) (omega arith) (λ z. omega arith) in
+        let kept : (o : ℕ) → o < 3 → field (versionTable c) w cur o ≡ field (versionTable c) w₀ cur o =
+        λ o h. field-kept (versions-laid (i .well .fits)) (i .turns .elsewhere) cur o
+        (more-out (c .versions) left cur d e .row .low) (omega arith) (λ z. omega arith) in
         rw (kept V-POINT (omega arith), kept V-VALUE (omega arith), kept V-SPARE (omega arith)) refl
 
     pub version-turns-again : {w′ : List ℕ} {nxt place′ freed′ : ℕ} {hit : Bool} → b ≡ true
@@ -124,7 +144,10 @@ module _ {c : Counts} {p : Version → Bool} {w₀ : List ℕ} {r : ℕ} {w : Li
       lost = omega (arith, i .lost, f, turn-count (i .turns) d hit e u);
     }
 
-    pub version-turns-end : b ≡ false → Changed (versionTable c) (versionHeads c) w₀ w (suc r) 0 (dropIf (λ i. p (versionAt c w₀ i)) (rowsOf (versionTable c) (versionHeads c) w₀ (suc r)))
-        (pushIf (λ i. p (versionAt c w₀ i)) (rowsOf (versionTable c) (versionHeads c) w₀ (suc r)) (rowsOf (versionTable c) (versionHeads c) w₀ 0))
+    pub version-turns-end : b ≡ false
+        → Changed (versionTable c) (versionHeads c) w₀ w (suc r) 0
+        (dropIf (λ i. p (versionAt c w₀ i)) (rowsOf (versionTable c) (versionHeads c) w₀ (suc r)))
+        (pushIf (λ i. p (versionAt c w₀ i)) (rowsOf (versionTable c) (versionHeads c) w₀ (suc r))
+        (rowsOf (versionTable c) (versionHeads c) w₀ 0))
     unfolding versionTable
     version-turns-end e = turn-end (i .turns) d e

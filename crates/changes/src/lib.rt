@@ -1,5 +1,6 @@
-// The changes that the calls are made of. Each leaves the words well formed and equals a function of the decoded store; the callers prove that
-// the words are well formed (`Well`), that slots and records are in range, and that there is room, in the words of the meaning.
+// The changes that the calls are made of. Each leaves the words well formed and equals a function of the decoded store;
+// the callers prove that the words are well formed (`Well`), that slots and records are in range, and that there is
+// room, in the words of the meaning.
 ghost use mathlib.Core.Path.{_≡_};
 ghost use mathlib.Core.Bool.{true, false, cond};
 ghost use mathlib.Core.List.{[]};
@@ -51,7 +52,10 @@ fn set_generation(w: &mut [u64], c: Counts, k: usize, g: u64)
 
 // Begin: a free slot is opened, with the next generation.
 pub fn open_slot(w: &mut [u64], c: Counts, k: usize)
-    requires { ⌜ Well c (now w) × IsRow (c .edits) k × (editAt (decodeAt c (now w)) k .generation < GENERATIONS) × (editAt (decodeAt c (now w)) k .accesses ≡ []) ⌝ }
+    requires { ⌜
+        Well c (now w) × IsRow (c .edits) k × (editAt (decodeAt c (now w)) k .generation < GENERATIONS)
+        × (editAt (decodeAt c (now w)) k .accesses ≡ [])
+        ⌝ }
     ensures { λ _. ⌜ Becomes c (now (w .exit)) (begun (decodeAt c (now (w .entry))) k) ⌝ }
 {
     let g = tables::generation_of(w, c, k);
@@ -65,7 +69,10 @@ pub fn open_slot(w: &mut [u64], c: Counts, k: usize)
 // The record's floor.
 pub fn set_floor(w: &mut [u64], c: Counts, r: usize, v: u64)
     requires { ⌜ Well c (now w) × (r < c .records) ⌝ }
-    ensures { λ _. ⌜ Becomes c (now (w .exit)) (withRec (decodeAt c (now (w .entry))) r (withFloor (recAt (decodeAt c (now (w .entry))) r) v)) ⌝ }
+    ensures { λ _. ⌜
+        Becomes c (now (w .exit))
+        (withRec (decodeAt c (now (w .entry))) r (withFloor (recAt (decodeAt c (now (w .entry))) r) v))
+        ⌝ }
 {
     tables::put_floor(w, c, r, v);
 }
@@ -75,14 +82,20 @@ pub fn set_floor(w: &mut [u64], c: Counts, r: usize, v: u64)
 // The first free row becomes the first of record r's locks.
 fn take_lock(w: &mut [u64], c: Counts, r: usize) -> usize
     requires { ⌜ Well c (now w) × (r < c .records) ⌝ }
-    ensures { λ q. ⌜ Taken (lockHeads c) (now (w .entry)) (now (w .exit)) 0 q (Moved (lockTable c) (lockHeads c) (now (w .entry)) (now (w .exit)) 0 (suc r) q) ⌝ }
+    ensures { λ q. ⌜
+        Taken (lockHeads c) (now (w .entry)) (now (w .exit)) 0 q
+        (Moved (lockTable c) (lockHeads c) (now (w .entry)) (now (w .exit)) 0 (suc r) q)
+        ⌝ }
 {
     chains::move_first(w, tables::lock_table(c), tables::lock_heads(c), 0, r + 1)
 }
 
 // A lock more on record r, the first of its chain.
 pub fn add_lock(w: &mut [u64], c: Counts, r: usize, l: Lock)
-    requires { ⌜ Well c (now w) × (r < c .records) × (l .mode < MODES) × (l .owner ≤ MAX-EDITS) × (locksUsed (decodeAt c (now w)) < c .locks) ⌝ }
+    requires { ⌜
+        Well c (now w) × (r < c .records) × (l .mode < MODES) × (l .owner ≤ MAX-EDITS)
+        × (locksUsed (decodeAt c (now w)) < c .locks)
+        ⌝ }
     ensures { λ _. ⌜ Becomes c (now (w .exit)) (onLocks (decodeAt c (now (w .entry))) r (addLock l)) ⌝ }
 {
     let i = take_lock(w, c, r);
@@ -92,7 +105,10 @@ pub fn add_lock(w: &mut [u64], c: Counts, r: usize, l: Lock)
 // A settled lock more on record r.
 pub fn leave_settled(w: &mut [u64], c: Counts, r: usize, mode: u64, low: u64, high: u64)
     requires { ⌜ Well c (now w) × (r < c .records) × (mode < MODES) × (locksUsed (decodeAt c (now w)) < c .locks) ⌝ }
-    ensures { λ _. ⌜ Beside c (now (w .entry)) (now (w .exit)) (onLocks (decodeAt c (now (w .entry))) r (leaveSettled true mode low high)) ⌝ }
+    ensures { λ _. ⌜
+        Beside c (now (w .entry)) (now (w .exit))
+        (onLocks (decodeAt c (now (w .entry))) r (leaveSettled true mode low high))
+        ⌝ }
 {
     let i = take_lock(w, c, r);
     tables::put_lock(
@@ -109,9 +125,13 @@ pub fn leave_settled(w: &mut [u64], c: Counts, r: usize, mode: u64, low: u64, hi
     );
 }
 
-// One turn along record r's locks, at row i after `place`: a row that is to go is sent to the free chain. Replies the place for the next turn.
+// One turn along record r's locks, at row i after `place`: a row that is to go is sent to the free chain. Replies the
+// place for the next turn.
 fn unlink_lock(w: &mut [u64], c: Counts, r: usize, place: usize, i: usize, hit: bool) -> usize
-    requires { ⌜ Fits c (now w) × (r < c .records) × Ready (lockTable c) (lockHeads c) (now w) (suc r) 0 × Follows (lockTable c) (lockHeads c) (now w) (suc r) place i ⌝ }
+    requires { ⌜
+        Fits c (now w) × (r < c .records) × Ready (lockTable c) (lockHeads c) (now w) (suc r) 0
+        × Follows (lockTable c) (lockHeads c) (now w) (suc r) place i
+        ⌝ }
     ensures { λ q. ⌜ Turned (lockTable c) (lockHeads c) (now (w .entry)) (now (w .exit)) (suc r) 0 place i hit q ⌝ }
 {
     chains::unlink_turn(
@@ -223,7 +243,10 @@ pub fn trim_locks(w: &mut [u64], c: Counts, r: usize, v: u64) -> u64
 // A version more on record r, where its point belongs.
 pub fn add_version(w: &mut [u64], c: Counts, r: usize, point: u64, value: u64)
     requires { ⌜ Well c (now w) × (r < c .records) × (1 ≤ point) × (versionsUsed (decodeAt c (now w)) < c .versions) ⌝ }
-    ensures { λ _. ⌜ Beside c (now (w .entry)) (now (w .exit)) (onVersions (decodeAt c (now (w .entry))) r (insert (versionOf point value))) ⌝ }
+    ensures { λ _. ⌜
+        Beside c (now (w .entry)) (now (w .exit))
+        (onVersions (decodeAt c (now (w .entry))) r (insert (versionOf point value)))
+        ⌝ }
 {
     let i = tables::insert_version(w, c, r, point - 1);
     tables::put_version(w, c, i, point, value);
@@ -231,8 +254,13 @@ pub fn add_version(w: &mut [u64], c: Counts, r: usize, point: u64, value: u64)
 
 // One turn along record r's versions, as `unlink_lock`.
 fn unlink_version(w: &mut [u64], c: Counts, r: usize, place: usize, i: usize, hit: bool) -> usize
-    requires { ⌜ Fits c (now w) × (r < c .records) × Ready (versionTable c) (versionHeads c) (now w) (suc r) 0 × Follows (versionTable c) (versionHeads c) (now w) (suc r) place i ⌝ }
-    ensures { λ q. ⌜ Turned (versionTable c) (versionHeads c) (now (w .entry)) (now (w .exit)) (suc r) 0 place i hit q ⌝ }
+    requires { ⌜
+        Fits c (now w) × (r < c .records) × Ready (versionTable c) (versionHeads c) (now w) (suc r) 0
+        × Follows (versionTable c) (versionHeads c) (now w) (suc r) place i
+        ⌝ }
+    ensures { λ q. ⌜
+        Turned (versionTable c) (versionHeads c) (now (w .entry)) (now (w .exit)) (suc r) 0 place i hit q
+        ⌝ }
 {
     chains::unlink_turn(
         w,
@@ -281,14 +309,20 @@ pub fn cut_versions(w: &mut [u64], c: Counts, r: usize, v: u64) -> u64
 // The first free row becomes the first of slot k's accesses.
 fn take_access(w: &mut [u64], c: Counts, k: usize) -> usize
     requires { ⌜ Well c (now w) × IsRow (c .edits) k ⌝ }
-    ensures { λ q. ⌜ Taken (accessHeads c) (now (w .entry)) (now (w .exit)) 0 q (Moved (accessTable c) (accessHeads c) (now (w .entry)) (now (w .exit)) 0 k q) ⌝ }
+    ensures { λ q. ⌜
+        Taken (accessHeads c) (now (w .entry)) (now (w .exit)) 0 q
+        (Moved (accessTable c) (accessHeads c) (now (w .entry)) (now (w .exit)) 0 k q)
+        ⌝ }
 {
     chains::move_first(w, tables::access_table(c), tables::access_heads(c), 0, k)
 }
 
 // An access of a record that the edit does not name.
 pub fn add_access(w: &mut [u64], c: Counts, k: usize, a: Access)
-    requires { ⌜ Well c (now w) × IsRow (c .edits) k × (names (editAt (decodeAt c (now w)) k) (a .rec) ≡ false) × (accessesUsed (decodeAt c (now w)) < c .accesses) ⌝ }
+    requires { ⌜
+        Well c (now w) × IsRow (c .edits) k × (names (editAt (decodeAt c (now w)) k) (a .rec) ≡ false)
+        × (accessesUsed (decodeAt c (now w)) < c .accesses)
+        ⌝ }
     ensures { λ _. ⌜ Becomes c (now (w .exit)) (onEdit (decodeAt c (now (w .entry))) k (λ e. withAccess e a)) ⌝ }
 {
     let i = take_access(w, c, k);
@@ -297,15 +331,22 @@ pub fn add_access(w: &mut [u64], c: Counts, k: usize, a: Access)
 
 // An access of the record that row i, one of slot k's, names.
 pub fn change_access(w: &mut [u64], c: Counts, k: usize, i: usize, a: Access)
-    requires { ⌜ Well c (now w) × IsRow (c .edits) k × (1 ≤ occ i (accessRows c (now w) k)) × (accessAt c (now w) i .rec ≡ a .rec) × (namesOnce (editAt (decodeAt c (now w)) k) ≡ true) ⌝ }
+    requires { ⌜
+        Well c (now w) × IsRow (c .edits) k × (1 ≤ occ i (accessRows c (now w) k))
+        × (accessAt c (now w) i .rec ≡ a .rec) × (namesOnce (editAt (decodeAt c (now w)) k) ≡ true)
+        ⌝ }
     ensures { λ _. ⌜ Becomes c (now (w .exit)) (onEdit (decodeAt c (now (w .entry))) k (λ e. withAccess e a)) ⌝ }
 {
     tables::put_access(w, c, i, a);
 }
 
-// The access takes the place of the edit's access of that record, which is in row i, or stands first where it has none and i is 0.
+// The access takes the place of the edit's access of that record, which is in row i, or stands first where it has none
+// and i is 0.
 pub fn set_access(w: &mut [u64], c: Counts, k: usize, i: usize, a: Access)
-    requires { ⌜ Well c (now w) × IsRow (c .edits) k × (namesOnce (editAt (decodeAt c (now w)) k) ≡ true) × (accessRoom (decodeAt c (now w)) k (a .rec) ≡ true) × AccessRow c (now w) k (a .rec) i ⌝ }
+    requires { ⌜
+        Well c (now w) × IsRow (c .edits) k × (namesOnce (editAt (decodeAt c (now w)) k) ≡ true)
+        × (accessRoom (decodeAt c (now w)) k (a .rec) ≡ true) × AccessRow c (now w) k (a .rec) i
+        ⌝ }
     ensures { λ _. ⌜ Becomes c (now (w .exit)) (onEdit (decodeAt c (now (w .entry))) k (λ e. withAccess e a)) ⌝ }
 {
     if i == 0 {

@@ -13,7 +13,8 @@ use Rattle.meaning.specs.Limits.{SLOTS, FREE, SETTLED}
 use Rattle.meaning.specs.Lists.{all}
 use Rattle.meaning.specs.declared.Counts.{Counts}
 use Rattle.meaning.specs.Store.{Store, countsOf, editOf, recAt}
-use Rattle.meaning.specs.Replies.{Reply, ok, edit, locked, read, own, again, commit, nopoint, purged, at, point, refusing, refused}
+use Rattle.meaning.specs.Replies.{Reply, ok, edit, locked, read, own, again, commit, nopoint, purged, at, point}
+use Rattle.meaning.specs.Replies.{refusing, refused}
 use Rattle.meaning.specs.Outcomes.{handleAt}
 use Rattle.meaning.specs.Records.{goodCounts}
 use Rattle.meaning.specs.Causes.{edits}
@@ -73,7 +74,8 @@ zero-is-granted c s z = (granted-at (act c s .reply) (from-1 c s) z, no-nopoint 
 -- the owner of a lock is below SLOTS, so its handle is below HANDLES
 handle-fits : (s : Store) → soundStore s ≡ true → (r : ℕ) {mode k p h : ℕ}
     → (o : ℕ) × LowestHolder mode k (recAt s r) p o × (h ≡ handleAt s o) → h < HANDLES
-handle-fits s g r {mode} {k} {p} q = omega (arith, owner-slot s g r mode k p _ (q .1 .holds), sound-out s g .edits (q .0) .generation, q .2)
+handle-fits s g r {mode} {k} {p} q =
+    omega (arith, owner-slot s g r mode k p _ (q .1 .holds), sound-out s g .edits (q .0) .generation, q .2)
 
 held-fits : (c : Call) (s : Store) (h : ℕ) → soundStore s ≡ true → HeldByLowest c s h → h < HANDLES
 held-fits C.Begin s h g z = absurd z

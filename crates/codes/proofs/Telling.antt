@@ -7,7 +7,9 @@ use denote.Enum.Declared.{tagOf}
 use Rattle.meaning.specs.Replies.{Reply, number, ofRefusal}
 use Rattle.meaning.specs.declared.Refusal.{Refusal}
 use Rattle.meaning.proofs.Refusal.{the-type}
-use Rattle.meaning.specs.declared.Refusal.the-variants.{Unsound, NoEdit, EditEnded, EditOpen, NoRecord, BadPoint, BelowFloor, Held, Frozen, NoAccessRow, NoLockRow, NoVersionRow, NoSlot, NotCommon, LockedBelow, BadFormat}
+use Rattle.meaning.specs.declared.Refusal.the-variants.{Unsound, NoEdit, EditEnded, EditOpen, NoRecord, BadPoint}
+use Rattle.meaning.specs.declared.Refusal.the-variants.{BelowFloor, Held, Frozen, NoAccessRow, NoLockRow, NoVersionRow}
+use Rattle.meaning.specs.declared.Refusal.the-variants.{NoSlot, NotCommon, LockedBelow, BadFormat}
 use Rattle.meaning.specs.Records.{pointing}
 use Rattle.meaning.specs.declared.Point.{Point}
 use Rattle.meaning.specs.declared.Pick.the-variants.{Named}

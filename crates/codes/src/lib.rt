@@ -2,7 +2,8 @@
 // meaning's number and values of its case. And what its flags say. Rests on `meaning`.
 ghost use mathlib.Core.Path.{_≡_};
 ghost use mathlib.Core.List.{[], _∷_};
-ghost use Rattle.meaning.specs.Replies.{ofRefusal, ofPoint, ofFormat, ofBegin, ofWrite, ofLock, ofRead, ofCommit, ofAbort, ofSettle, ofPurge, ofView};
+ghost use Rattle.meaning.specs.Replies.{ofRefusal, ofPoint, ofFormat, ofBegin, ofWrite, ofLock, ofRead, ofCommit};
+ghost use Rattle.meaning.specs.Replies.{ofAbort, ofSettle, ofPurge, ofView};
 ghost use Rattle.codes.specs.Codes.{codeOf, markOf, bitsOf, Tells, extentOf, finishOf};
 use meaning::AbortReply;
 use meaning::BeginReply;

@@ -1,4 +1,5 @@
--- Commit meets its contract: what the searches ask for, and one law for each return. Rests on Ended, CommitExits and Acting of `calls`.
+-- Commit meets its contract: what the searches ask for, and one law for each return. Rests on Ended, CommitExits and
+-- Acting of `calls`.
 use Prim.Native.Nat.{ℕ, _≤_, _<_}
 use native.Mathlib.Omega.{arith}
 use mathlib.Core.Path.{_≡_, refl, sym, ap, _∙_}
@@ -59,7 +60,8 @@ module _ (c : Counts) (w : List ℕ) (k : ℕ) (R : Ready c w) (st : editAt (dec
   pub last-is : {t : ℕ} → t ≡ latest (recordsOf c w) k (slotAt c w k) → t ≡ latest (s .records) k (editAt s k)
   last-is e = rw (decoded-records c w, edit-at c w k row) e
 
-  pub common-is : (p : ℕ) {q b : Bool} → q ≡ inCommon (recordsOf c w) k (slotAt c w k) p → q ≡ b → inCommon (s .records) k (editAt s k) p ≡ b
+  pub common-is : (p : ℕ) {q b : Bool} → q ≡ inCommon (recordsOf c w) k (slotAt c w k) p → q ≡ b
+      → inCommon (s .records) k (editAt s k) p ≡ b
   common-is p e f = rw (decoded-records c w, edit-at c w k row) (sym e ∙ f)
 
   -- at a point
@@ -67,8 +69,11 @@ module _ (c : Counts) (w : List ℕ) (k : ℕ) (R : Ready c w) (st : editAt (dec
     pub at-full : versionRoom s k ≡ false → Makes c (commitAt s k t f) w w (refusing 12 [])
     at-full e = makes-refused c w (commitAt s k t f) 12 [] (R .well) (CommitExits.at-full s k f t e)
 
-    pub at-done : versionRoom s k ≡ true → (w′ : List ℕ) (p : ℕ) → p ≡ t → Becomes c w′ (finished f (committed s k t) k) → Makes c (commitAt s k t f) w w′ (commit p)
-    at-done e w′ p q B = rw q (makes-done c w (commitAt s k t f) w′ (finished f (committed s k t) k) (commit t) (B .well) (B .means) (CommitExits.at-done s k f t e) refl)
+    pub at-done : versionRoom s k ≡ true → (w′ : List ℕ) (p : ℕ) → p ≡ t → Becomes c w′ (finished f (committed s k t) k)
+        → Makes c (commitAt s k t f) w w′ (commit p)
+    at-done e w′ p q B =
+        rw q (makes-done c w (commitAt s k t f) w′ (finished f (committed s k t) k) (commit t) (B .well) (B .means)
+        (CommitExits.at-done s k f t e) refl)
 
   -- nowhere
   abbrev none : Finish → Outcome
@@ -101,37 +106,49 @@ module _ (c : Counts) (w : List ℕ) (k : ℕ) (R : Ready c w) (st : editAt (dec
       latest-some n M = makes-as c w (CommitExits.latest-some s k f (λ z. n (last-is e ∙ z))) (rw (last-is e) at M)
 
   -- a named point
-  module _ (f : Finish) (p : Point) (x : ℕ) (ex : x ≡ p .0) (q : Bool) (eq : q ≡ inCommon (recordsOf c w) k (slotAt c w k) x) where
+  module _ (f : Finish) (p : Point) (x : ℕ) (ex : x ≡ p .0) (q : Bool)
+      (eq : q ≡ inCommon (recordsOf c w) k (slotAt c w k) x) where
     pub named-common : q ≡ true → inCommon (s .records) k (editAt s k) x ≡ true
     named-common z = common-is x eq z
 
-    pub named-in : q ≡ true → (w′ : List ℕ) (r : Reply) → Makes c (commitAt s k x f) w w′ r → Makes c (commitOpen s k (Named p) f) w w′ r
+    pub named-in : q ≡ true → (w′ : List ℕ) (r : Reply) → Makes c (commitAt s k x f) w w′ r
+        → Makes c (commitOpen s k (Named p) f) w w′ r
     named-in z w′ r M = makes-as c w (CommitExits.named-in s k f p (rw ex at (common-is x eq z))) (rw ex at M)
 
-    pub named-none : (t : ℕ) → t ≡ earliest (recordsOf c w) k (slotAt c w k) → LAST < t → (w′ : List ℕ) (r : Reply) → Makes c (none f) w w′ r
+    pub named-none : (t : ℕ) → t ≡ earliest (recordsOf c w) k (slotAt c w k) → LAST < t → (w′ : List ℕ) (r : Reply)
+        → Makes c (none f) w w′ r
         → Makes c (commitOpen s k (Named p) f) w w′ r
     named-none t e l w′ r M = makes-as c w (CommitExits.named-none s k f p (rw (first-is e) at l)) M
 
-    pub named-out : q ≡ false → (t : ℕ) → t ≡ earliest (recordsOf c w) k (slotAt c w k) → t ≤ LAST → Makes c (commitOpen s k (Named p) f) w w (refusing 14 [])
+    pub named-out : q ≡ false → (t : ℕ) → t ≡ earliest (recordsOf c w) k (slotAt c w k) → t ≤ LAST
+        → Makes c (commitOpen s k (Named p) f) w w (refusing 14 [])
     named-out z t e l =
-        makes-refused c w (commitOpen s k (Named p) f) 14 [] (R .well) (CommitExits.named-out s k f p (rw ex at (common-is x eq z)) (rw (first-is e) at l))
+        makes-refused c w (commitOpen s k (Named p) f) 14 [] (R .well)
+        (CommitExits.named-out s k f p (rw ex at (common-is x eq z)) (rw (first-is e) at l))
 
 -- the call
-module _ (w : List ℕ) (c : Counts) (P : soundWords (lent w) ≡ true) (E : c ≡ countsOf w) (h : ℕ) (pick : Pick) (f : Finish) where
+module _ (w : List ℕ) (c : Counts) (P : soundWords (lent w) ≡ true) (E : c ≡ countsOf w) (h : ℕ) (pick : Pick)
+    (f : Finish) where
   abbrev call : Store → Outcome
   call = committing h pick f
 
   pub commit-refused : knows (decodeAt c w) h ≡ false → Acts call (lent w) (lent w) (refusing 2 [])
-  commit-refused e = acts-refused call (commit-keeps h pick f) w c P E 2 (CommitExits.commit-no-edit (decodeAt c w) h pick f e)
+  commit-refused e =
+      acts-refused call (commit-keeps h pick f) w c P E 2 (CommitExits.commit-no-edit (decodeAt c w) h pick f e)
 
   module _ (known : knows (decodeAt c w) h ≡ true) where
     pub commit-too-late : isOpen (decodeAt c w) h ≡ false → Acts call (lent w) (lent w) (refusing 3 [])
-    commit-too-late e = acts-refused call (commit-keeps h pick f) w c P E 3 (CommitExits.commit-ended (decodeAt c w) h pick f known e)
+    commit-too-late e =
+        acts-refused call (commit-keeps h pick f) w c P E 3 (CommitExits.commit-ended (decodeAt c w) h pick f known e)
 
-    pub commit-bad-point : isOpen (decodeAt c w) h ≡ true → goodPick pick ≡ false → Acts call (lent w) (lent w) (refusing 6 [])
-    commit-bad-point e g = acts-refused call (commit-keeps h pick f) w c P E 6 (CommitExits.commit-bad-pick (decodeAt c w) h pick f known e g)
+    pub commit-bad-point : isOpen (decodeAt c w) h ≡ true → goodPick pick ≡ false
+        → Acts call (lent w) (lent w) (refusing 6 [])
+    commit-bad-point e g =
+        acts-refused call (commit-keeps h pick f) w c P E 6
+        (CommitExits.commit-bad-pick (decodeAt c w) h pick f known e g)
 
-    pub commit-acts : isOpen (decodeAt c w) h ≡ true → goodPick pick ≡ true → (k : ℕ) → k ≡ slotOf h → (w′ : List ℕ) (r : Reply)
+    pub commit-acts : isOpen (decodeAt c w) h ≡ true → goodPick pick ≡ true → (k : ℕ) → k ≡ slotOf h
+        → (w′ : List ℕ) (r : Reply)
         → Makes c (commitOpen (decodeAt c w) k pick f) w w′ r → Acts call (lent w) (lent w′) r
     commit-acts e g k q w′ r M =
         acts call (commit-keeps h pick f) c w w′ r P E

@@ -1,5 +1,6 @@
--- The ways that Commit ends, one law for each return of the code. The code asks for the earliest point, the latest, or whether a named one is
--- common: LAST + 1, 0 and a named point that is common say whether the common set is empty. Rests on Verdicts of `calls` and the laws of `meaning`.
+-- The ways that Commit ends, one law for each return of the code. The code asks for the earliest point, the latest, or
+-- whether a named one is common: LAST + 1, 0 and a named point that is common say whether the common set is empty.
+-- Rests on Verdicts of `calls` and the laws of `meaning`.
 use Prim.Native.Nat.{ℕ, suc, _≤_, _<_}
 use native.Mathlib.Omega.{arith}
 use mathlib.Core.Path.{_≡_, refl, sym, _∙_}
@@ -13,7 +14,8 @@ use Rattle.meaning.specs.Store.{Store, slotOf, editAt}
 use Rattle.meaning.specs.Points.{inCommon, earliest, latest}
 use Rattle.meaning.specs.Replies.{commit, nopoint, refusing}
 use Rattle.meaning.specs.Outcomes.{Outcome, replies, Verdict, pass, needs, unless, knows, isOpen, versionRoom}
-use Rattle.meaning.specs.Ending.{finished, committed, aborted, goodPick, noCommon, commitVerdict, commitOpen, commitChecks, committing}
+use Rattle.meaning.specs.Ending.{finished, committed, aborted, goodPick, noCommon, commitVerdict, commitOpen}
+use Rattle.meaning.specs.Ending.{commitChecks, committing}
 use Rattle.meaning.specs.Pointwise.{InCommonSet, EmptyCommonSet, LeastCommon, GreatestCommon}
 use Rattle.meaning.specs.declared.Point.{Point}
 use Rattle.meaning.specs.declared.Pick.{Pick}
@@ -38,11 +40,13 @@ module _ (s : Store) (h : ℕ) (pick : Pick) (f : Finish) where
   unfolding committing commitChecks
   commit-ended e g = edit-ended s rest h picked e g
 
-  pub commit-bad-pick : knows s h ≡ true → isOpen s h ≡ true → goodPick pick ≡ false → committing h pick f s ≡ replies s (refusing 6 [])
+  pub commit-bad-pick : knows s h ≡ true → isOpen s h ≡ true → goodPick pick ≡ false
+      → committing h pick f s ≡ replies s (refusing 6 [])
   unfolding committing commitChecks
   commit-bad-pick e g b = edit-open s rest h picked e g ∙ needs-fails s rest (goodPick pick) 6 pass b
 
-  pub commit-passes : knows s h ≡ true → isOpen s h ≡ true → goodPick pick ≡ true → committing h pick f s ≡ commitOpen s (slotOf h) pick f
+  pub commit-passes : knows s h ≡ true → isOpen s h ≡ true → goodPick pick ≡ true
+      → committing h pick f s ≡ commitOpen s (slotOf h) pick f
   unfolding committing commitChecks
   commit-passes e g b = edit-open s rest h picked e g ∙ needs-holds s rest (goodPick pick) 6 pass b
 
@@ -63,7 +67,9 @@ module _ (s : Store) (k : ℕ) (f : Finish) where
   some-common : (p : ℕ) → common p ≡ true → first ≤ LAST
   some-common p e = go (earliest-is-least (s .records) k (editAt s k))
     where
-      go : LeastCommon (s .records) k (editAt s k) first ⊎ ((first ≡ suc LAST) × EmptyCommonSet (s .records) k (editAt s k)) → first ≤ LAST
+      go : LeastCommon (s .records) k (editAt s k) first
+          ⊎ ((first ≡ suc LAST) × EmptyCommonSet (s .records) k (editAt s k))
+          → first ≤ LAST
       go (inl w) = w .common .last
       go (inr w) = absurd (w .1 p (common-set-is (s .records) k (editAt s k) p .0 e))
 
@@ -71,7 +77,9 @@ module _ (s : Store) (k : ℕ) (f : Finish) where
   none-latest e = go (latest-is-greatest (s .records) k (editAt s k)) (earliest-is-least (s .records) k (editAt s k))
     where
       go : GreatestCommon (s .records) k (editAt s k) last ⊎ ((last ≡ 0) × EmptyCommonSet (s .records) k (editAt s k))
-          → LeastCommon (s .records) k (editAt s k) first ⊎ ((first ≡ suc LAST) × EmptyCommonSet (s .records) k (editAt s k)) → LAST < first
+          → LeastCommon (s .records) k (editAt s k) first
+          ⊎ ((first ≡ suc LAST) × EmptyCommonSet (s .records) k (editAt s k))
+          → LAST < first
       go a (inr w) = omega (arith, w .0)
       go (inl v) (inl w) = absurd (omega (arith, v .common .least, e))
       go (inr v) (inl w) = absurd (v .1 first (w .common))
@@ -79,14 +87,17 @@ module _ (s : Store) (k : ℕ) (f : Finish) where
   pub first-common : first ≤ LAST → common first ≡ true
   first-common l = go (earliest-is-least (s .records) k (editAt s k))
     where
-      go : LeastCommon (s .records) k (editAt s k) first ⊎ ((first ≡ suc LAST) × EmptyCommonSet (s .records) k (editAt s k)) → common first ≡ true
+      go : LeastCommon (s .records) k (editAt s k) first
+          ⊎ ((first ≡ suc LAST) × EmptyCommonSet (s .records) k (editAt s k))
+          → common first ≡ true
       go (inl w) = common-set-is (s .records) k (editAt s k) first .1 (w .common)
       go (inr w) = absurd (omega (arith, w .0))
 
   pub last-common : (last ≡ 0 → ⊥) → common last ≡ true
   last-common n = go (latest-is-greatest (s .records) k (editAt s k))
     where
-      go : GreatestCommon (s .records) k (editAt s k) last ⊎ ((last ≡ 0) × EmptyCommonSet (s .records) k (editAt s k)) → common last ≡ true
+      go : GreatestCommon (s .records) k (editAt s k) last ⊎ ((last ≡ 0) × EmptyCommonSet (s .records) k (editAt s k))
+          → common last ≡ true
       go (inl w) = common-set-is (s .records) k (editAt s k) last .1 (w .common)
       go (inr w) = absurd (n (w .0))
 

@@ -1,5 +1,6 @@
-// Commit on sound words: equal to its definition in the crate `meaning`, and leaving sound words. For callers who prove the words sound
-// (`requires soundWords`), as the calls of `calls` and `endings`. It goes along the edit's accesses, and no further.
+// Commit on sound words: equal to its definition in the crate `meaning`, and leaving sound words. For callers who prove
+// the words sound (`requires soundWords`), as the calls of `calls` and `endings`. It goes along the edit's accesses,
+// and no further.
 ghost use mathlib.Core.Path.{_≡_};
 ghost use mathlib.Core.Bool.{true};
 ghost use mathlib.Core.List.{_∷_, []};
@@ -30,8 +31,13 @@ use meaning::Refusal;
 
 // The version that access row i makes at t.
 fn save_row(w: &mut [u64], c: Counts, i: usize, t: u64)
-    requires { ⌜ Well c (now w) × IsRow (c .accesses) i × (1 ≤ t) × SaveNeed (accessAt c (now w) i ∷ []) (decodeAt c (now w)) ⌝ }
-    ensures { λ _. ⌜ Beside c (now (w .entry)) (now (w .exit)) (changed (savedRec t) (accessAt c (now (w .entry)) i) (decodeAt c (now (w .entry)))) ⌝ }
+    requires { ⌜
+        Well c (now w) × IsRow (c .accesses) i × (1 ≤ t) × SaveNeed (accessAt c (now w) i ∷ []) (decodeAt c (now w))
+        ⌝ }
+    ensures { λ _. ⌜
+        Beside c (now (w .entry)) (now (w .exit))
+        (changed (savedRec t) (accessAt c (now (w .entry)) i) (decodeAt c (now (w .entry))))
+        ⌝ }
 {
     let a = tables::access_at(w, c, i);
     if a.written {
@@ -41,8 +47,14 @@ fn save_row(w: &mut [u64], c: Counts, i: usize, t: u64)
 
 // The versions that the accesses of slot k make at t.
 fn save_versions(w: &mut [u64], c: Counts, k: usize, t: u64)
-    requires { ⌜ Well c (now w) × IsRow (c .edits) k × (1 ≤ t) × SaveNeed (editAt (decodeAt c (now w)) k .accesses) (decodeAt c (now w)) ⌝ }
-    ensures { λ _. ⌜ Becomes c (now (w .exit)) (along (savedRec t) (editAt (decodeAt c (now (w .entry))) k .accesses) (decodeAt c (now (w .entry)))) ⌝ }
+    requires { ⌜
+        Well c (now w) × IsRow (c .edits) k × (1 ≤ t)
+        × SaveNeed (editAt (decodeAt c (now w)) k .accesses) (decodeAt c (now w))
+        ⌝ }
+    ensures { λ _. ⌜
+        Becomes c (now (w .exit))
+        (along (savedRec t) (editAt (decodeAt c (now (w .entry))) k .accesses) (decodeAt c (now (w .entry))))
+        ⌝ }
 {
     let n = c.accesses;
     let mut cur = tables::first_access(w, c, k);
@@ -57,7 +69,10 @@ fn save_versions(w: &mut [u64], c: Counts, k: usize, t: u64)
 
 fn no_point(w: &mut [u64], c: Counts, k: usize, finish: Finish) -> CommitReply
     requires { ⌜ Ready c (now w) × (editAt (decodeAt c (now w)) k .state ≡ OPEN) ⌝ }
-    ensures { λ q. ⌜ Makes c (replies (finished finish (aborted (decodeAt c (now (w .entry))) k) k) nopoint) (now (w .entry)) (now (w .exit)) (ofCommit q) ⌝ }
+    ensures { λ q. ⌜
+        Makes c (replies (finished finish (aborted (decodeAt c (now (w .entry))) k) k) nopoint) (now (w .entry))
+        (now (w .exit)) (ofCommit q)
+        ⌝ }
 {
     endings::end_aborted(w, c, k, finish);
     CommitReply::NoPoint
@@ -65,8 +80,13 @@ fn no_point(w: &mut [u64], c: Counts, k: usize, finish: Finish) -> CommitReply
 
 // At the point t of the common set. Nothing is saved where a version row is missing.
 fn commit_at(w: &mut [u64], c: Counts, k: usize, t: u64, finish: Finish) -> CommitReply
-    requires { ⌜ Ready c (now w) × (editAt (decodeAt c (now w)) k .state ≡ OPEN) × (inCommon (decodeAt c (now w) .records) k (editAt (decodeAt c (now w)) k) t ≡ true) ⌝ }
-    ensures { λ q. ⌜ Makes c (commitAt (decodeAt c (now (w .entry))) k t finish) (now (w .entry)) (now (w .exit)) (ofCommit q) ⌝ }
+    requires { ⌜
+        Ready c (now w) × (editAt (decodeAt c (now w)) k .state ≡ OPEN)
+        × (inCommon (decodeAt c (now w) .records) k (editAt (decodeAt c (now w)) k) t ≡ true)
+        ⌝ }
+    ensures { λ q. ⌜
+        Makes c (commitAt (decodeAt c (now (w .entry))) k t finish) (now (w .entry)) (now (w .exit)) (ofCommit q)
+        ⌝ }
 {
     if !lookups::version_room(w, c, k) {
         return CommitReply::Refused(Refusal::NoVersionRow);
@@ -79,7 +99,10 @@ fn commit_at(w: &mut [u64], c: Counts, k: usize, t: u64, finish: Finish) -> Comm
 
 fn commit_earliest(w: &mut [u64], c: Counts, k: usize, finish: Finish) -> CommitReply
     requires { ⌜ Ready c (now w) × (editAt (decodeAt c (now w)) k .state ≡ OPEN) ⌝ }
-    ensures { λ q. ⌜ Makes c (commitOpen (decodeAt c (now (w .entry))) k Earliest finish) (now (w .entry)) (now (w .exit)) (ofCommit q) ⌝ }
+    ensures { λ q. ⌜
+        Makes c (commitOpen (decodeAt c (now (w .entry))) k Earliest finish) (now (w .entry)) (now (w .exit))
+        (ofCommit q)
+        ⌝ }
 {
     let t = lookups::earliest(w, c, k);
     if LAST < t {
@@ -90,7 +113,9 @@ fn commit_earliest(w: &mut [u64], c: Counts, k: usize, finish: Finish) -> Commit
 
 fn commit_latest(w: &mut [u64], c: Counts, k: usize, finish: Finish) -> CommitReply
     requires { ⌜ Ready c (now w) × (editAt (decodeAt c (now w)) k .state ≡ OPEN) ⌝ }
-    ensures { λ q. ⌜ Makes c (commitOpen (decodeAt c (now (w .entry))) k Latest finish) (now (w .entry)) (now (w .exit)) (ofCommit q) ⌝ }
+    ensures { λ q. ⌜
+        Makes c (commitOpen (decodeAt c (now (w .entry))) k Latest finish) (now (w .entry)) (now (w .exit)) (ofCommit q)
+        ⌝ }
 {
     let t = lookups::latest(w, c, k);
     if t == 0 {
@@ -101,7 +126,10 @@ fn commit_latest(w: &mut [u64], c: Counts, k: usize, finish: Finish) -> CommitRe
 
 fn commit_named(w: &mut [u64], c: Counts, k: usize, p: Point, finish: Finish) -> CommitReply
     requires { ⌜ Ready c (now w) × (editAt (decodeAt c (now w)) k .state ≡ OPEN) ⌝ }
-    ensures { λ q. ⌜ Makes c (commitOpen (decodeAt c (now (w .entry))) k (Named p) finish) (now (w .entry)) (now (w .exit)) (ofCommit q) ⌝ }
+    ensures { λ q. ⌜
+        Makes c (commitOpen (decodeAt c (now (w .entry))) k (Named p) finish) (now (w .entry)) (now (w .exit))
+        (ofCommit q)
+        ⌝ }
 {
     let x = meaning::word_of_point(p);
     if lookups::in_common(w, c, k, x) {
@@ -116,7 +144,9 @@ fn commit_named(w: &mut [u64], c: Counts, k: usize, p: Point, finish: Finish) ->
 
 fn commit_open(w: &mut [u64], c: Counts, k: usize, pick: Pick, finish: Finish) -> CommitReply
     requires { ⌜ Ready c (now w) × (editAt (decodeAt c (now w)) k .state ≡ OPEN) ⌝ }
-    ensures { λ q. ⌜ Makes c (commitOpen (decodeAt c (now (w .entry))) k pick finish) (now (w .entry)) (now (w .exit)) (ofCommit q) ⌝ }
+    ensures { λ q. ⌜
+        Makes c (commitOpen (decodeAt c (now (w .entry))) k pick finish) (now (w .entry)) (now (w .exit)) (ofCommit q)
+        ⌝ }
 {
     match pick {
         Pick::Earliest => commit_earliest(w, c, k, finish),
@@ -147,7 +177,9 @@ fn good_pick(pick: Pick) -> bool
 
 pub fn commit(w: &mut [u64], h: Handle, pick: Pick, finish: Finish) -> CommitReply
     requires { ⌜ soundWords (lent (now w)) ≡ true ⌝ }
-    ensures { λ r. ⌜ Acts (committing (h .0) pick finish) (lent (now (w .entry))) (lent (now (w .exit))) (ofCommit r) ⌝ }
+    ensures { λ r. ⌜
+        Acts (committing (h .0) pick finish) (lent (now (w .entry))) (lent (now (w .exit))) (ofCommit r)
+        ⌝ }
 {
     let c = tables::counts_of(w);
     if !lookups::known(w, c, h) {

@@ -1,5 +1,5 @@
--- A loop along an edit's accesses that changes the record of each: what is left to do makes the answer of the present store. Rests on Walks of
--- `chains`, Decoded of `tables`, and what a change of versions or locks keeps.
+-- A loop along an edit's accesses that changes the record of each: what is left to do makes the answer of the present
+-- store. Rests on Walks of `chains`, Decoded of `tables`, and what a change of versions or locks keeps.
 use Prim.Native.Nat.{ℕ, zero, suc, _-_, _≤_, _<_}
 use mathlib.Core.Path.{_≡_, refl, sym, ap, _∙_}
 use mathlib.Core.Bool.{Bool, true, false}
@@ -29,7 +29,8 @@ module _ {c : Counts} {w w′ : List ℕ} (kept : AccessesKept c w w′) where
   from-kept zero h = refl
   from-kept (suc f) h = go (among (c .accesses) h) refl (from-kept f (link (accessTable c) w h))
     where
-      go : (b : Bool) → among (c .accesses) h ≡ b → accessesFrom c w′ f (link (accessTable c) w h) ≡ accessesFrom c w f (link (accessTable c) w h)
+      go : (b : Bool) → among (c .accesses) h ≡ b
+          → accessesFrom c w′ f (link (accessTable c) w h) ≡ accessesFrom c w f (link (accessTable c) w h)
           → accessesFrom c w′ (suc f) h ≡ accessesFrom c w (suc f) h
       go true e ih =
           let q = among-out (c .accesses) h e in
@@ -40,10 +41,15 @@ module _ {c : Counts} {w w′ : List ℕ} (kept : AccessesKept c w w′) where
             kept .next h q,
             ih,
           )
-      go false e ih = rw (rows-stop (link (accessTable c) w′) (c .accesses) (suc f) h e, rows-stop (link (accessTable c) w) (c .accesses) (suc f) h e)
+      go false e ih =
+          rw (
+            rows-stop (link (accessTable c) w′) (c .accesses) (suc f) h e,
+            rows-stop (link (accessTable c) w) (c .accesses) (suc f) h e,
+          )
 
 -- P is what the loop needs of the accesses to come
-pub record Along (g : Access → Rec → Rec) (P : List Access → Store → Type 0) (c : Counts) (answer : Store) (w : List ℕ) (cur left : ℕ) : Type 0 where
+pub record Along (g : Access → Rec → Rec) (P : List Access → Store → Type 0) (c : Counts) (answer : Store) (w : List ℕ)
+    (cur left : ℕ) : Type 0 where
   pub well : Well c w
   pub same : along g (accessesFrom c w left cur) (decodeAt c w) ≡ answer
   pub need : P (accessesFrom c w left cur) (decodeAt c w)
@@ -57,7 +63,8 @@ module _ (g : Access → Rec → Rec) (P : List Access → Store → Type 0) (c 
       accesses-start c w k (λ acc. acc) e .same ∙ ap (λ (x : Edit). x .accesses) (sym (edit-at c w k q)) in
       record { well = W; same = ap (λ acc. along g acc (decodeAt c w)) same; need = rw same p }
 
-  module _ {answer : Store} {w : List ℕ} {cur left : ℕ} {b : Bool} (I : Along g P c answer w cur left) (d : b ≡ more (c .accesses) left cur) where
+  module _ {answer : Store} {w : List ℕ} {cur left : ℕ} {b : Bool} (I : Along g P c answer w cur left)
+      (d : b ≡ more (c .accesses) left cur) where
     abbrev rest : List Access
     rest = accessesFrom c w (left - 1) (link (accessTable c) w cur)
 
@@ -69,7 +76,8 @@ module _ (g : Access → Rec → Rec) (P : List Access → Store → Type 0) (c 
     along-need e = rw (split e) at (I .need)
 
     pub along-again : b ≡ true → ((a : Access) (acc : List Access) (s : Store) → P (a ∷ acc) s → P acc (changed g a s))
-        → {w′ : List ℕ} {nxt : ℕ} → nxt ≡ link (accessTable c) w cur → Beside c w w′ (changed g (accessAt c w cur) (decodeAt c w))
+        → {w′ : List ℕ} {nxt : ℕ} → nxt ≡ link (accessTable c) w cur
+        → Beside c w w′ (changed g (accessAt c w cur) (decodeAt c w))
         → Along g P c answer w′ nxt (left - 1)
     unfolding along
     along-again e on {w′} {nxt} q B =
@@ -83,5 +91,6 @@ module _ (g : Access → Rec → Rec) (P : List Access → Store → Type 0) (c 
     pub along-end : b ≡ false → Becomes c w answer
     unfolding along
     along-end e =
-        let none : accessesFrom c w left cur ≡ [] = ap (map (accessAt c w)) (stop (link (accessTable c) w) (c .accesses) left cur d e .row) in
+        let none : accessesFrom c w left cur ≡ [] =
+        ap (map (accessAt c w)) (stop (link (accessTable c) w) (c .accesses) left cur d e .row) in
         record { well = I .well; means = rw none at (I .same) }

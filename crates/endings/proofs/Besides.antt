@@ -27,7 +27,10 @@ use Rattle.endings.proofs.Leaving.{leave-length}
 module _ {c : Counts} where
   pub beside-none : {w : List ℕ} → Well c w → Beside c w w (decodeAt c w)
   beside-none W =
-      record { becomes = record { well = W; means = refl }; accesses = record { entry = λ i q. refl; next = λ i q. refl } }
+      record {
+        becomes = record { well = W; means = refl };
+        accesses = record { entry = λ i q. refl; next = λ i q. refl };
+      }
 
   pub kept-trans : {u v w : List ℕ} → AccessesKept c u v → AccessesKept c v w → AccessesKept c u w
   kept-trans a b =
@@ -75,14 +78,21 @@ module _ (c : Counts) (w w₁ : List ℕ) (a : Access) (r t : ℕ) (e : r ≡ a 
   inside : r < length (s .records)
   inside = omega (arith, records-count c w)
 
-  pub left-room : locksUsed s + (mark (hasRead a) + mark (a .written)) ≤ c .locks → locksUsed (decodeAt c w₁) + mark (a .written) ≤ c .locks
+  pub left-room : locksUsed s + (mark (hasRead a) + mark (a .written)) ≤ c .locks
+      → locksUsed (decodeAt c w₁) + mark (a .written) ≤ c .locks
   left-room h =
-      omega (arith, ap locksUsed (B .becomes .means), locks-set s r x inside, leave-length (hasRead a) READ (a .from) t (recAt s r .locks))
+      omega (
+        arith,
+        ap locksUsed (B .becomes .means),
+        locks-set s r x inside,
+        leave-length (hasRead a) READ (a .from) t (recAt s r .locks),
+      )
 
   then-write : onLocks (withRec s r x) r (leaveSettled (a .written) WRITE t t) ≡ changed (leftRec t) a s
   unfolding changed leftRec
   then-write =
-      rw (rec-changed s r x inside, rec-twice s r x (withLocks x (leaveSettled (a .written) WRITE t t (x .locks))), ← e) refl
+      rw (rec-changed s r x inside, rec-twice s r x (withLocks x (leaveSettled (a .written) WRITE t t (x .locks))), ← e)
+      refl
 
   pub left-both : (w₂ : List ℕ) → Beside c w₁ w₂ (onLocks (decodeAt c w₁) r (leaveSettled (a .written) WRITE t t))
       → Beside c w w₂ (changed (leftRec t) a s)
@@ -91,13 +101,17 @@ module _ (c : Counts) (w w₁ : List ℕ) (a : Access) (r t : ℕ) (e : r ≡ a 
         becomes =
             record {
               well = D .becomes .well;
-              means = D .becomes .means ∙ ap (λ (y : Store). onLocks y r (leaveSettled (a .written) WRITE t t)) (B .becomes .means) ∙ then-write;
+              means =
+                  D .becomes .means
+                  ∙ ap (λ (y : Store). onLocks y r (leaveSettled (a .written) WRITE t t)) (B .becomes .means)
+                  ∙ then-write;
             };
         accesses = kept-trans (B .accesses) (D .accesses);
       }
 
 -- what access row i leaves: a is its access, r its record
-module _ (c : Counts) (w : List ℕ) (i : ℕ) (a : Access) (r t : ℕ) (W : Well c w) (n : LeaveNeed (accessAt c w i ∷ []) (decodeAt c w))
+module _ (c : Counts) (w : List ℕ) (i : ℕ) (a : Access) (r t : ℕ) (W : Well c w)
+    (n : LeaveNeed (accessAt c w i ∷ []) (decodeAt c w))
     (ea : a ≡ accessAt c w i) (er : r ≡ a .rec) where
   need : LeaveNeed (a ∷ []) (decodeAt c w)
   need = rw ea n
@@ -108,11 +122,14 @@ module _ (c : Counts) (w : List ℕ) (i : ℕ) (a : Access) (r t : ℕ) (W : Wel
   row-room : locksUsed (decodeAt c w) + (mark (hasRead a) + mark (a .written)) ≤ c .locks
   row-room = omega (arith, need .room, lock-rows c w)
 
-  pub read-needs : Well c w × (r < c .records) × (READ < MODES) × (locksUsed (decodeAt c w) + mark (hasRead a) ≤ c .locks)
+  pub read-needs : Well c w × (r < c .records) × (READ < MODES)
+      × (locksUsed (decodeAt c w) + mark (hasRead a) ≤ c .locks)
   read-needs = (W, row-here, omega arith, omega (arith, row-room))
 
-  module _ (w₁ : List ℕ) (B : Beside c w w₁ (onLocks (decodeAt c w) r (leaveSettled (hasRead a) READ (a .from) t))) where
-    pub write-needs : Well c w₁ × (r < c .records) × (WRITE < MODES) × (locksUsed (decodeAt c w₁) + mark (a .written) ≤ c .locks)
+  module _ (w₁ : List ℕ)
+      (B : Beside c w w₁ (onLocks (decodeAt c w) r (leaveSettled (hasRead a) READ (a .from) t))) where
+    pub write-needs : Well c w₁ × (r < c .records) × (WRITE < MODES)
+        × (locksUsed (decodeAt c w₁) + mark (a .written) ≤ c .locks)
     write-needs = (B .becomes .well, row-here, omega arith, left-room c w w₁ a r t er row-here B row-room)
 
     pub row-left : (w₂ : List ℕ) → Beside c w₁ w₂ (onLocks (decodeAt c w₁) r (leaveSettled (a .written) WRITE t t))

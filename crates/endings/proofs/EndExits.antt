@@ -22,7 +22,8 @@ module _ (s : Store) (h : ℕ) (f : Finish) where
   unfolding aborting abortChecks
   abort-ended e g = edit-ended s abort-end h pass e g
 
-  pub abort-done : knows s h ≡ true → isOpen s h ≡ true → aborting h f s ≡ replies (finished f (aborted s (slotOf h)) (slotOf h)) ok
+  pub abort-done : knows s h ≡ true → isOpen s h ≡ true
+      → aborting h f s ≡ replies (finished f (aborted s (slotOf h)) (slotOf h)) ok
   unfolding aborting abortChecks
   abort-done e g = edit-open s abort-end h pass e g
 

@@ -1,5 +1,6 @@
--- Changing the record of each access, one access after the other, changes every record by its own access, since an edit names a record at most
--- once; and taking slot k's locks from record n - 1, .., 0 takes them from all. Rests on specs.Steps and Stores of `meaning`.
+-- Changing the record of each access, one access after the other, changes every record by its own access, since an edit
+-- names a record at most once; and taking slot k's locks from record n - 1, .., 0 takes them from all. Rests on
+-- specs.Steps and Stores of `meaning`.
 use Prim.Native.Nat.{ℕ, zero, suc, _+_, _≤_, _<_}
 use native.Mathlib.Omega.{arith}
 use native.Mathlib.Decide.{ℕ-discrete, decLt}
@@ -12,13 +13,15 @@ use lib.Seq.{ext-getD, set-getD}
 use borrow.Author.Tests.{eqb-true, eq-eqb, ne-eqb, eqb-false, not-true, lt-ltb, le-ltb}
 use Rattle.meaning.specs.Lists.{_∈_, all, any, find, pairwise, mapFrom}
 use Rattle.meaning.specs.declared.Access.{Access}
-use Rattle.meaning.specs.Store.{Rec, Edit, Store, freshRec, recOf, recAt, withRec, withRecords, isOf, noAccess, accessOf}
+use Rattle.meaning.specs.Store.{Rec, Edit, Store, freshRec, recOf, recAt, withRec, withRecords, isOf, noAccess}
+use Rattle.meaning.specs.Store.{accessOf}
 use Rattle.meaning.proofs.Lists.{and-left, and-right, all-out, length-mapFrom}
 use Rattle.meaning.proofs.Stores.{rec-same, rec-other, rec-map}
 use Rattle.endings.specs.Steps.{Existing, changed, along, freedRec, freedAt, freedBelow, freedAll}
 
 -- two lists of records are equal by their records
-pub recs-ext : (rs rs′ : List Rec) → length rs ≡ length rs′ → ((r : ℕ) → r < length rs → recOf rs r ≡ recOf rs′ r) → rs ≡ rs′
+pub recs-ext : (rs rs′ : List Rec) → length rs ≡ length rs′ → ((r : ℕ) → r < length rs → recOf rs r ≡ recOf rs′ r)
+    → rs ≡ rs′
 unfolding recOf
 recs-ext rs rs′ e f = ext-getD freshRec rs rs′ e f
 
@@ -33,15 +36,18 @@ module _ (f : ℕ → Rec → Rec) (rs : List Rec) (r : ℕ) (x : Rec) where
 
   pub map-set : (g : ℕ → Rec → Rec) → r < length rs → f r x ≡ g r (recOf rs r)
       → ((i : ℕ) → (i ≡ r → ⊥) → f i (recOf rs i) ≡ g i (recOf rs i)) → mapFrom 0 f (set rs r x) ≡ mapFrom 0 g rs
-  map-set g h here there = recs-ext (mapFrom 0 f (set rs r x)) (mapFrom 0 g rs) (length-both ∙ sym (length-mapFrom g 0 rs)) at
+  map-set g h here there =
+      recs-ext (mapFrom 0 f (set rs r x)) (mapFrom 0 g rs) (length-both ∙ sym (length-mapFrom g 0 rs)) at
     where
       one : (i : ℕ) → i < length rs → Dec (i ≡ r) → recOf (mapFrom 0 f (set rs r x)) i ≡ recOf (mapFrom 0 g rs) i
       one i l (yes e) =
           rw (e, rec-map f (set rs r x) r (omega (arith, length-set rs r x)), rec-same rs r x h, rec-map g rs r h) here
       one i l (no n) =
-          rw (rec-map f (set rs r x) i (omega (arith, length-set rs r x)), rec-other rs r i x n, rec-map g rs i l) (there i n)
+          rw (rec-map f (set rs r x) i (omega (arith, length-set rs r x)), rec-other rs r i x n, rec-map g rs i l)
+          (there i n)
 
-      at : (i : ℕ) → i < length (mapFrom 0 f (set rs r x)) → recOf (mapFrom 0 f (set rs r x)) i ≡ recOf (mapFrom 0 g rs) i
+      at : (i : ℕ) → i < length (mapFrom 0 f (set rs r x))
+          → recOf (mapFrom 0 f (set rs r x)) i ≡ recOf (mapFrom 0 g rs) i
       at i l = one i (omega (arith, length-both)) (ℕ-discrete i r)
 
 -- each access names another record
@@ -54,7 +60,8 @@ accessIn acc r = find (isOf r) (noAccess r) acc
 -- a record that none names
 none-in : (r : ℕ) (acc : List Access) → ((b : Access) → b ∈ acc → b .rec ≡ r → ⊥) → accessIn acc r ≡ noAccess r
 none-in r [] f = refl
-none-in r (a ∷ acc) f = rw (ne-eqb (a .rec) r (f a (List·Memᴰ·head refl))) (none-in r acc (λ b m. f b (List·Memᴰ·tail m)))
+none-in r (a ∷ acc) f =
+    rw (ne-eqb (a .rec) r (f a (List·Memᴰ·head refl))) (none-in r acc (λ b m. f b (List·Memᴰ·tail m)))
 
 module _ (g : Access → Rec → Rec) (idle : (r : ℕ) (x : Rec) → g (noAccess r) x ≡ x) where
   abbrev byAccess : List Access → ℕ → Rec → Rec
@@ -73,7 +80,8 @@ module _ (g : Access → Rec → Rec) (idle : (r : ℕ) (x : Rec) → g (noAcces
     away q b m z = eqb-false (a .rec) (b .rec) (not-true (eqb (a .rec) (b .rec)) (all-out (apart a) acc q b m)) (sym z)
 
     one-more : a .rec < length (s .records) → all (apart a) acc ≡ true
-        → withRecords (changed g a s) (mapFrom 0 (byAccess acc) (changed g a s .records)) ≡ withRecords s (mapFrom 0 (byAccess (a ∷ acc)) (s .records))
+        → withRecords (changed g a s) (mapFrom 0 (byAccess acc) (changed g a s .records))
+        ≡ withRecords s (mapFrom 0 (byAccess (a ∷ acc)) (s .records))
     unfolding changed withRecords
     one-more h q =
         rw (map-set (byAccess acc) (s .records) (a .rec) (g a (recAt s (a .rec))) (byAccess (a ∷ acc)) h
@@ -106,7 +114,8 @@ module _ (k : ℕ) where
       go (no h) = rw (le-ltb i n (omega arith), le-ltb i (suc n) (omega (arith, d)))
 
   free-one : (n : ℕ) (s : Store) → n < length (s .records)
-      → withRecords (freedAt k n s) (mapFrom 0 (freeing n) (freedAt k n s .records)) ≡ withRecords s (mapFrom 0 (freeing (suc n)) (s .records))
+      → withRecords (freedAt k n s) (mapFrom 0 (freeing n) (freedAt k n s .records))
+      ≡ withRecords s (mapFrom 0 (freeing (suc n)) (s .records))
   unfolding freedAt withRecords
   free-one n s h =
       rw (map-set (freeing n) (s .records) n (freedRec k (recAt s n)) (freeing (suc n)) h
@@ -118,7 +127,8 @@ module _ (k : ℕ) where
   unfolding freedAt withRecords
   freed-length n s = length-set (s .records) n (freedRec k (recAt s n))
 
-  freed-below : (n : ℕ) (s : Store) → n ≤ length (s .records) → freedBelow k n s ≡ withRecords s (mapFrom 0 (freeing n) (s .records))
+  freed-below : (n : ℕ) (s : Store) → n ≤ length (s .records)
+      → freedBelow k n s ≡ withRecords s (mapFrom 0 (freeing n) (s .records))
   unfolding freedBelow withRecords
   freed-below zero s h = rw (free-none 0 (s .records)) refl
   freed-below (suc n) s h = freed-below n (freedAt k n s) (omega (arith, freed-length n s)) ∙ free-one n s h
@@ -132,8 +142,12 @@ module _ (k : ℕ) where
 
       same : mapFrom 0 (freeing (length (s .records))) (s .records) ≡ mapFrom 0 (λ r x. freedRec k x) (s .records)
       same =
-          recs-ext (mapFrom 0 (freeing (length (s .records))) (s .records)) (mapFrom 0 (λ r x. freedRec k x) (s .records))
-          (length-mapFrom (freeing (length (s .records))) 0 (s .records) ∙ sym (length-mapFrom (λ r x. freedRec k x) 0 (s .records)))
+          recs-ext (mapFrom 0 (freeing (length (s .records))) (s .records))
+          (mapFrom 0 (λ r x. freedRec k x) (s .records))
+          (length-mapFrom (freeing (length (s .records))) 0 (s .records)
+          ∙ sym (length-mapFrom (λ r x. freedRec k x) 0 (s .records)))
           (λ r l.
-          let h : r < length (s .records) = omega (arith, length-mapFrom (freeing (length (s .records))) 0 (s .records)) in
-          rec-map (freeing (length (s .records))) (s .records) r h ∙ at r h ∙ sym (rec-map (λ r x. freedRec k x) (s .records) r h))
+          let h : r < length (s .records) =
+          omega (arith, length-mapFrom (freeing (length (s .records))) 0 (s .records)) in
+          rec-map (freeing (length (s .records))) (s .records) r h ∙ at r h
+          ∙ sym (rec-map (λ r x. freedRec k x) (s .records) r h))

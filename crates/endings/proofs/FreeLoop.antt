@@ -1,4 +1,5 @@
--- Settle's loop over the records, which takes slot k's locks from each: what is left to do makes the answer of the present store. Rests on Folds.
+-- Settle's loop over the records, which takes slot k's locks from each: what is left to do makes the answer of the
+-- present store. Rests on Folds.
 use Prim.Native.Nat.{ℕ, zero, suc, _-_, _≤_, _<_}
 use native.Mathlib.Omega.{arith}
 use mathlib.Core.Path.{_≡_, refl, sym, ap, _∙_}
@@ -24,7 +25,11 @@ pub record Freeing (k : ℕ) (c : Counts) (answer : Store) (w : List ℕ) (r : �
 module _ (k : ℕ) (c : Counts) where
   pub free-start : (w : List ℕ) → Well c w → Freeing k c (freedAll k (decodeAt c w)) w (c .records)
   free-start w W =
-      record { well = W; same = ap (λ r. freedBelow k r (decodeAt c w)) (sym (records-count c w)) ∙ freed-all k (decodeAt c w); within = omega arith }
+      record {
+        well = W;
+        same = ap (λ r. freedBelow k r (decodeAt c w)) (sym (records-count c w)) ∙ freed-all k (decodeAt c w);
+        within = omega arith;
+      }
 
   pub free-again : (answer : Store) (w w′ : List ℕ) (r owner : ℕ) → Freeing k c answer w r → 0 < r → owner ≡ k
       → Becomes c w′ (onLocks (decodeAt c w) (r - 1) (dropOwner owner)) → Freeing k c answer w′ (r - 1)

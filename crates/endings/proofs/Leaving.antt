@@ -1,5 +1,6 @@
--- Settle's loop over the accesses of a committed edit: it ends with the settled locks of every record accessed, and there is a free row at each
--- step, since the edit's own locks have gone before. Rests on Folds and on Settled of `meaning`.
+-- Settle's loop over the accesses of a committed edit: it ends with the settled locks of every record accessed, and
+-- there is a free row at each step, since the edit's own locks have gone before. Rests on Folds and on Settled of
+-- `meaning`.
 use Prim.Native.Nat.{ℕ, zero, suc, _+_, _≤_, _<_}
 use native.Mathlib.Omega.{arith}
 use mathlib.Core.Path.{_≡_, refl, sym, ap, _∙_}
@@ -12,7 +13,8 @@ use Rattle.meaning.specs.Lists.{_∈_, total, mapFrom}
 use Rattle.meaning.specs.Limits.{READ, WRITE, FREE, COMMITTED}
 use Rattle.meaning.specs.declared.Access.{Access}
 use Rattle.meaning.specs.declared.Lock.{Lock}
-use Rattle.meaning.specs.Store.{Rec, Edit, Store, editAt, recOf, recAt, withEdit, withRec, withRecords, withLocks, noAccess, accessOf, hasRead, locksUsed}
+use Rattle.meaning.specs.Store.{Rec, Edit, Store, editAt, recOf, recAt, withEdit, withRec, withRecords, withLocks}
+use Rattle.meaning.specs.Store.{noAccess, accessOf, hasRead, locksUsed}
 use Rattle.meaning.specs.Points.{leaveSettled, dropOwner}
 use Rattle.meaning.specs.Ending.{freed, settledLocks, settledRec, settled}
 use Rattle.meaning.specs.Sound.{namesOnce, soundStore}
@@ -30,15 +32,18 @@ unfolding leftRec leaveSettled
 idle t r x = refl
 
 -- one change of every record, then another
-map-map : (f g : ℕ → Rec → Rec) (i : ℕ) (rs : List Rec) → mapFrom i f (mapFrom i g rs) ≡ mapFrom i (λ r x. f r (g r x)) rs
+map-map : (f g : ℕ → Rec → Rec) (i : ℕ) (rs : List Rec)
+    → mapFrom i f (mapFrom i g rs) ≡ mapFrom i (λ r x. f r (g r x)) rs
 map-map f g i [] = refl
 map-map f g i (x ∷ rs) = rw (map-map f g (suc i) rs)
 
-map-ext : (f g : ℕ → Rec → Rec) → ((r : ℕ) (x : Rec) → f r x ≡ g r x) → (i : ℕ) (rs : List Rec) → mapFrom i f rs ≡ mapFrom i g rs
+map-ext : (f g : ℕ → Rec → Rec) → ((r : ℕ) (x : Rec) → f r x ≡ g r x) → (i : ℕ) (rs : List Rec)
+    → mapFrom i f rs ≡ mapFrom i g rs
 map-ext f g h i [] = refl
 map-ext f g h i (x ∷ rs) = rw (h i x, map-ext f g h (suc i) rs)
 
--- what settling makes of one record: an edit that is not committed leaves nothing, a committed one what its access leaves
+-- what settling makes of one record: an edit that is not committed leaves nothing, a committed one what its access
+-- leaves
 module _ (k : ℕ) (e : Edit) (r : ℕ) (x : Rec) where
   rec-aborted : (e .state ≡ COMMITTED → ⊥) → freedRec k x ≡ settledRec k e r x
   unfolding freedRec settledLocks
@@ -62,13 +67,16 @@ module _ (s : Store) (k : ℕ) where
       ap (withRecords s) (map-ext (λ r x. freedRec k x) (settledRec k e) (λ r x. rec-aborted k e r x n) 0 (s .records))
 
   committed-records : SoundStore s → e .state ≡ COMMITTED
-      → along (leftRec (e .point)) (e .accesses) (freedAll k s) ≡ withRecords s (mapFrom 0 (settledRec k e) (s .records))
+      → along (leftRec (e .point)) (e .accesses) (freedAll k s)
+      ≡ withRecords s (mapFrom 0 (settledRec k e) (s .records))
   unfolding freedAll withRecords namesOnce accessOf
   committed-records good st =
-      along-all (leftRec (e .point)) (idle (e .point)) (e .accesses) (freedAll k s) (freed-existing good) (good .edits k .once)
+      along-all (leftRec (e .point)) (idle (e .point)) (e .accesses) (freedAll k s) (freed-existing good)
+      (good .edits k .once)
       ∙ ap (withRecords s)
       (map-map (λ r x. leftRec (e .point) (accessOf e r) x) (λ r x. freedRec k x) 0 (s .records)
-      ∙ map-ext (λ r x. leftRec (e .point) (accessOf e r) (freedRec k x)) (settledRec k e) (λ r x. rec-committed k e r x st) 0 (s .records))
+      ∙ map-ext (λ r x. leftRec (e .point) (accessOf e r) (freedRec k x)) (settledRec k e)
+      (λ r x. rec-committed k e r x st) 0 (s .records))
 
   pub settled-aborted : (e .state ≡ COMMITTED → ⊥) → settled s k ≡ withEdit (freedAll k s) k (freed e)
   unfolding settled
@@ -79,7 +87,8 @@ module _ (s : Store) (k : ℕ) where
   unfolding settled
   settled-committed good st = ap (λ (x : Store). withEdit x k (freed e)) (sym (committed-records good st))
 
-pub leave-length : (b : Bool) (mode low high : ℕ) (ls : List Lock) → length (leaveSettled b mode low high ls) ≡ mark b + length ls
+pub leave-length : (b : Bool) (mode low high : ℕ) (ls : List Lock)
+    → length (leaveSettled b mode low high ls) ≡ mark b + length ls
 unfolding leaveSettled
 leave-length true mode low high ls = omega arith
 leave-length false mode low high ls = omega arith
@@ -97,11 +106,16 @@ module _ (a : Access) (acc : List Access) (s : Store) (here : a .rec < length (s
         leave-length (hasRead a) READ (a .from) t (x .locks),
       )
 
-pub along-used : (t : ℕ) (acc : List Access) (s : Store) → Existing (s .records) acc → locksUsed (along (leftRec t) acc s) ≡ locksUsed s + total rowsLeft acc
+pub along-used : (t : ℕ) (acc : List Access) (s : Store) → Existing (s .records) acc
+    → locksUsed (along (leftRec t) acc s) ≡ locksUsed s + total rowsLeft acc
 unfolding along
 along-used t [] s f = omega arith
 along-used t (a ∷ acc) s f =
-    omega (arith, along-used t acc (changed (leftRec t) a s) (existing-rest (leftRec t) (idle t) a acc s f), left-used a acc s (f a (List·Memᴰ·head refl)) t)
+    omega (
+      arith,
+      along-used t acc (changed (leftRec t) a s) (existing-rest (leftRec t) (idle t) a acc s f),
+      left-used a acc s (f a (List·Memᴰ·head refl)) t,
+    )
 
 module _ (a : Access) (acc : List Access) (s : Store) (n : LeaveNeed (a ∷ acc) s) where
   pub leave-record : a .rec < length (s .records)
@@ -120,7 +134,8 @@ module _ (a : Access) (acc : List Access) (s : Store) (n : LeaveNeed (a ∷ acc)
       }
 
 -- Settling needs no row, so there is one for each that is left
-pub leave-start : (s : Store) (k : ℕ) → soundStore s ≡ true → editAt s k .state ≡ COMMITTED → LeaveNeed (editAt s k .accesses) (freedAll k s)
+pub leave-start : (s : Store) (k : ℕ) → soundStore s ≡ true → editAt s k .state ≡ COMMITTED
+    → LeaveNeed (editAt s k .accesses) (freedAll k s)
 unfolding settled withEdit withRecords locksUsed freedAll
 leave-start s k h st =
     let good = sound-out s h in
@@ -138,7 +153,8 @@ leave-start s k h st =
       );
     }
   where
-    settled-used : (s : Store) (k : ℕ) → locksUsed (settled s k) ≡ locksUsed (withRecords s (mapFrom 0 (settledRec k (editAt s k)) (s .records)))
+    settled-used : (s : Store) (k : ℕ)
+        → locksUsed (settled s k) ≡ locksUsed (withRecords s (mapFrom 0 (settledRec k (editAt s k)) (s .records)))
     settled-used s k = refl
 
     freed-rows : (s : Store) (k : ℕ) → freedAll k s .lockRows ≡ s .lockRows

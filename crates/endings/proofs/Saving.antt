@@ -1,4 +1,5 @@
--- Commit's loop over the accesses of an edit: it ends with a version for every record written, and there is a free row at each step. Rests on Folds.
+-- Commit's loop over the accesses of an edit: it ends with a version for every record written, and there is a free row
+-- at each step. Rests on Folds.
 use Prim.Native.Nat.{ℕ, zero, suc, _+_, _≤_, _<_}
 use native.Mathlib.Omega.{arith}
 use mathlib.Core.Path.{_≡_, refl, sym, ap, _∙_}
@@ -9,7 +10,8 @@ use borrow.Author.Tests.{leb-true}
 use Rattle.meaning.specs.Lists.{_∈_, keep, mapFrom}
 use Rattle.meaning.specs.declared.Access.{Access}
 use Rattle.meaning.specs.declared.Version.{Version}
-use Rattle.meaning.specs.Store.{Rec, Edit, Store, editAt, recAt, withRec, withRecords, noAccess, accessOf, writtenOf, versionsUsed}
+use Rattle.meaning.specs.Store.{Rec, Edit, Store, editAt, recAt, withRec, withRecords, noAccess, accessOf, writtenOf}
+use Rattle.meaning.specs.Store.{versionsUsed}
 use Rattle.meaning.specs.Outcomes.{versionRoom}
 use Rattle.meaning.specs.Ending.{insert, newVersion, committedRec}
 use Rattle.meaning.specs.Sound.{namesOnce}
@@ -31,12 +33,16 @@ idle t r x = refl
 pub saved-all : (s : Store) (k t : ℕ) → SoundStore s
     → along (savedRec t) (editAt s k .accesses) s ≡ withRecords s (mapFrom 0 (committedRec (editAt s k) t) (s .records))
 unfolding namesOnce accessOf savedRec
-saved-all s k t good = along-all (savedRec t) (idle t) (editAt s k .accesses) s (good .edits k .existing) (good .edits k .once)
+saved-all s k t good =
+    along-all (savedRec t) (idle t) (editAt s k .accesses) s (good .edits k .existing) (good .edits k .once)
 
 pub save-start : (s : Store) (k : ℕ) → SoundStore s → versionRoom s k ≡ true → SaveNeed (editAt s k .accesses) s
 unfolding versionRoom
 save-start s k good e =
-    record { existing = good .edits k .existing; room = leb-true (versionsUsed s + length (writtenOf (editAt s k))) (s .versionRows) e }
+    record {
+      existing = good .edits k .existing;
+      room = leb-true (versionsUsed s + length (writtenOf (editAt s k))) (s .versionRows) e;
+    }
 
 module _ (a : Access) (acc : List Access) (s : Store) (n : SaveNeed (a ∷ acc) s) where
   pub save-record : a .rec < length (s .records)
@@ -55,7 +61,8 @@ module _ (a : Access) (acc : List Access) (s : Store) (n : SaveNeed (a ∷ acc) 
       go false h = omega arith
 
   added : (t : ℕ) → versionsUsed (changed (savedRec t) a s) + length (recAt s (a .rec) .versions)
-      ≡ versionsUsed s + length (cond (a .written) (insert (newVersion a t) (recAt s (a .rec) .versions)) (recAt s (a .rec) .versions))
+      ≡ versionsUsed s
+      + length (cond (a .written) (insert (newVersion a t) (recAt s (a .rec) .versions)) (recAt s (a .rec) .versions))
   unfolding changed savedRec
   added t = versions-set s (a .rec) (savedRec t a (recAt s (a .rec))) save-record
 
@@ -64,27 +71,37 @@ module _ (a : Access) (acc : List Access) (s : Store) (n : SaveNeed (a ∷ acc) 
   save-step t =
       record {
         existing = existing-rest (savedRec t) (idle t) a acc s (n .existing);
-        room = go (a .written) (insert (newVersion a t) (recAt s (a .rec) .versions)) (length-insert (newVersion a t) (recAt s (a .rec) .versions)) (added t) (n .room);
+        room =
+            go (a .written) (insert (newVersion a t) (recAt s (a .rec) .versions))
+            (length-insert (newVersion a t) (recAt s (a .rec) .versions)) (added t) (n .room);
       }
     where
       go : (b : Bool) (vs : List Version) → length vs ≡ suc (length (recAt s (a .rec) .versions))
-          → versionsUsed (changed (savedRec t) a s) + length (recAt s (a .rec) .versions) ≡ versionsUsed s + length (cond b vs (recAt s (a .rec) .versions))
+          → versionsUsed (changed (savedRec t) a s) + length (recAt s (a .rec) .versions)
+          ≡ versionsUsed s + length (cond b vs (recAt s (a .rec) .versions))
           → versionsUsed s + length (cond b (a ∷ keep wroteOf acc) (keep wroteOf acc)) ≤ s .versionRows
           → versionsUsed (changed (savedRec t) a s) + length (keep wroteOf acc) ≤ s .versionRows
       go true vs l e h = omega arith
       go false vs l e h = omega arith
 
 -- what access row i makes of its record: a is its access, r its record
-module _ (c : Counts) (w : List ℕ) (i : ℕ) (a : Access) (t : ℕ) (W : Well c w) (n : SaveNeed (accessAt c w i ∷ []) (decodeAt c w))
+module _ (c : Counts) (w : List ℕ) (i : ℕ) (a : Access) (t : ℕ) (W : Well c w)
+    (n : SaveNeed (accessAt c w i ∷ []) (decodeAt c w))
     (ea : a ≡ accessAt c w i) where
   need : SaveNeed (a ∷ []) (decodeAt c w)
   need = rw ea n
 
-  pub version-needs : (r : ℕ) → r ≡ a .rec → 1 ≤ t → a .written ≡ true → Well c w × (r < c .records) × (1 ≤ t) × (versionsUsed (decodeAt c w) < c .versions)
-  version-needs r er p e =
-      (W, omega (arith, save-record a [] (decodeAt c w) need, records-count c w, er), p, omega (arith, save-free a [] (decodeAt c w) need e, version-rows c w))
+  pub version-needs : (r : ℕ) → r ≡ a .rec → 1 ≤ t → a .written ≡ true
+      → Well c w × (r < c .records) × (1 ≤ t) × (versionsUsed (decodeAt c w) < c .versions)
+  version-needs r er p e = (
+    W,
+    omega (arith, save-record a [] (decodeAt c w) need, records-count c w, er),
+    p,
+    omega (arith, save-free a [] (decodeAt c w) need e, version-rows c w),
+  )
 
-  pub row-saved : (r : ℕ) → r ≡ a .rec → a .written ≡ true → (w′ : List ℕ) → Beside c w w′ (onVersions (decodeAt c w) r (insert (versionOf t (a .value))))
+  pub row-saved : (r : ℕ) → r ≡ a .rec → a .written ≡ true → (w′ : List ℕ)
+      → Beside c w w′ (onVersions (decodeAt c w) r (insert (versionOf t (a .value))))
       → Beside c w w′ (changed (savedRec t) (accessAt c w i) (decodeAt c w))
   unfolding changed savedRec
   row-saved r er e w′ B = rw (← ea, e, ← er) B

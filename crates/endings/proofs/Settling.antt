@@ -1,4 +1,5 @@
--- Settling a slot: its locks go, a committed edit's accesses leave settled locks, and the slot is freed. Rests on Leaving.
+-- Settling a slot: its locks go, a committed edit's accesses leave settled locks, and the slot is freed. Rests on
+-- Leaving.
 use Prim.Native.Nat.{ℕ, suc, _≤_, _<_}
 use native.Mathlib.Omega.{arith}
 use mathlib.Core.Path.{_≡_, refl, sym, ap, _∙_}
@@ -46,7 +47,8 @@ module _ (c : Counts) (w : List ℕ) (k : ℕ) (R : Ready c w) (u : inUse (decod
   abbrev e : Edit
   e = editAt s k
 
-  module _ (state t : ℕ) (es : state ≡ slotAt c w k .state) (et : t ≡ slotAt c w k .point) (w₁ : List ℕ) (F : Becomes c w₁ (freedAll k s)) where
+  module _ (state t : ℕ) (es : state ≡ slotAt c w k .state) (et : t ≡ slotAt c w k .point) (w₁ : List ℕ)
+      (F : Becomes c w₁ (freedAll k s)) where
     state-is : state ≡ e .state
     state-is = es ∙ ap (λ (x : Edit). x .state) (sym (edit-at c w k (slot-in-use c w k u)))
 
@@ -60,22 +62,28 @@ module _ (c : Counts) (w : List ℕ) (k : ℕ) (R : Ready c w) (u : inUse (decod
     leave-needs z = rw (F .means, edit-kept) (leave-start s k (R .store) (sym state-is ∙ z))
 
     -- the two ends
-    module _ (w₂ w₃ : List ℕ) (L : Becomes c w₂ (leftBy state t k (decodeAt c w₁))) (D : Becomes c w₃ (onEdit (decodeAt c w₂) k freed)) where
+    module _ (w₂ w₃ : List ℕ) (L : Becomes c w₂ (leftBy state t k (decodeAt c w₁)))
+        (D : Becomes c w₃ (onEdit (decodeAt c w₂) k freed)) where
       left : decodeAt c w₂ ≡ leftBy state t k (freedAll k s)
       left = L .means ∙ ap (leftBy state t k) (F .means)
 
-      ends : (x : Store) → decodeAt c w₂ ≡ x → editAt x k ≡ e → settled s k ≡ withEdit x k (freed e) → decodeAt c w₃ ≡ settled s k
+      ends : (x : Store) → decodeAt c w₂ ≡ x → editAt x k ≡ e → settled s k ≡ withEdit x k (freed e)
+          → decodeAt c w₃ ≡ settled s k
       ends x p q z = D .means ∙ rw (p, q) (sym z)
 
       go : (b : Bool) → eqb state COMMITTED ≡ b
-          → decodeAt c w₂ ≡ cond b (along (leftRec t) (editAt (freedAll k s) k .accesses) (freedAll k s)) (freedAll k s) → decodeAt c w₃ ≡ settled s k
+          → decodeAt c w₂ ≡ cond b (along (leftRec t) (editAt (freedAll k s) k .accesses) (freedAll k s)) (freedAll k s)
+          → decodeAt c w₃ ≡ settled s k
       go true q p =
           let z : e .state ≡ COMMITTED = sym state-is ∙ eqb-true state COMMITTED q in
-          let y : decodeAt c w₂ ≡ along (leftRec (e .point)) (e .accesses) (freedAll k s) = p ∙ rw (point-is, edit-kept) refl in
+          let y : decodeAt c w₂ ≡ along (leftRec (e .point)) (e .accesses) (freedAll k s) =
+          p ∙ rw (point-is, edit-kept) refl in
           ends (along (leftRec (e .point)) (e .accesses) (freedAll k s)) y
-          (ap (λ (x : List Edit). editOf x k) (along-edits (leftRec (e .point)) (e .accesses) (freedAll k s) ∙ freed-edits k s))
+          (ap (λ (x : List Edit). editOf x k)
+          (along-edits (leftRec (e .point)) (e .accesses) (freedAll k s) ∙ freed-edits k s))
           (settled-committed s k (sound-out s (R .store)) z)
-      go false q p = ends (freedAll k s) p edit-kept (settled-aborted s k (λ z. eqb-false state COMMITTED q (state-is ∙ z)))
+      go false q p =
+          ends (freedAll k s) p edit-kept (settled-aborted s k (λ z. eqb-false state COMMITTED q (state-is ∙ z)))
 
       pub slot-settled : Becomes c w₃ (settled s k)
       unfolding leftBy

@@ -31,4 +31,5 @@ unfoldable pub purgeAll : Store → ℕ → ℕ → Outcome
 purgeAll s r v =
     let x : Rec = recAt s r in
     let y : Rec = purgedRec x v in
-    replies (purgedTo s r v) (purged (length (x .versions) - length (y .versions)) (length (x .locks) - length (y .locks)))
+    replies (purgedTo s r v)
+    (purged (length (x .versions) - length (y .versions)) (length (x .locks) - length (y .locks)))

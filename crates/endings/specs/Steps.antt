@@ -1,4 +1,5 @@
--- What the loops of Commit and Settle make of a store, one access or one record after the other. Rests on Ending of `meaning`.
+-- What the loops of Commit and Settle make of a store, one access or one record after the other. Rests on Ending of
+-- `meaning`.
 use Prim.Native.Nat.{ℕ, zero, suc, _+_, _≤_, _<_}
 use mathlib.Core.Bool.{Bool, cond}
 use mathlib.Core.List.{List, [], _∷_}
@@ -7,7 +8,8 @@ use lib.ListN.{length}
 use Rattle.meaning.specs.Lists.{_∈_, keep, total, mapFrom}
 use Rattle.meaning.specs.Limits.{READ, WRITE, COMMITTED}
 use Rattle.meaning.specs.declared.Access.{Access}
-use Rattle.meaning.specs.Store.{Rec, Store, editAt, recAt, withRec, withRecords, withLocks, hasRead, versionsUsed, locksUsed}
+use Rattle.meaning.specs.Store.{Rec, Store, editAt, recAt, withRec, withRecords, withLocks, hasRead, versionsUsed}
+use Rattle.meaning.specs.Store.{locksUsed}
 use Rattle.meaning.specs.Points.{leaveSettled, dropOwner}
 use Rattle.meaning.specs.Ending.{insert, newVersion}
 

@@ -1,7 +1,7 @@
 // Settle and Abort on sound words: each equal to its definition in the crate `meaning`, and each leaving sound words.
 //
-// They are for callers who prove the words sound (`requires soundWords`), as those of the crate `calls`. No call here looks at more than the
-// chains it touches; Settle looks at the locks of every record once.
+// They are for callers who prove the words sound (`requires soundWords`), as those of the crate `calls`. No call here
+// looks at more than the chains it touches; Settle looks at the locks of every record once.
 ghost use mathlib.Core.Path.{_≡_};
 ghost use mathlib.Core.Bool.{true};
 ghost use mathlib.Core.List.{_∷_, []};
@@ -32,8 +32,13 @@ use meaning::WRITE;
 // Settle.
 
 fn leave_if(w: &mut [u64], c: Counts, wanted: bool, r: usize, mode: u64, low: u64, high: u64)
-    requires { ⌜ Well c (now w) × (r < c .records) × (mode < MODES) × (locksUsed (decodeAt c (now w)) + mark wanted ≤ c .locks) ⌝ }
-    ensures { λ _. ⌜ Beside c (now (w .entry)) (now (w .exit)) (onLocks (decodeAt c (now (w .entry))) r (leaveSettled wanted mode low high)) ⌝ }
+    requires { ⌜
+        Well c (now w) × (r < c .records) × (mode < MODES) × (locksUsed (decodeAt c (now w)) + mark wanted ≤ c .locks)
+        ⌝ }
+    ensures { λ _. ⌜
+        Beside c (now (w .entry)) (now (w .exit))
+        (onLocks (decodeAt c (now (w .entry))) r (leaveSettled wanted mode low high))
+        ⌝ }
 {
     if wanted {
         changes::leave_settled(w, c, r, mode, low, high);
@@ -43,7 +48,10 @@ fn leave_if(w: &mut [u64], c: Counts, wanted: bool, r: usize, mode: u64, low: u6
 // The settled locks that access row i of an edit committed at t leaves.
 fn leave_row(w: &mut [u64], c: Counts, i: usize, t: u64)
     requires { ⌜ Well c (now w) × IsRow (c .accesses) i × LeaveNeed (accessAt c (now w) i ∷ []) (decodeAt c (now w)) ⌝ }
-    ensures { λ _. ⌜ Beside c (now (w .entry)) (now (w .exit)) (changed (leftRec t) (accessAt c (now (w .entry)) i) (decodeAt c (now (w .entry)))) ⌝ }
+    ensures { λ _. ⌜
+        Beside c (now (w .entry)) (now (w .exit))
+        (changed (leftRec t) (accessAt c (now (w .entry)) i) (decodeAt c (now (w .entry))))
+        ⌝ }
 {
     let a = tables::access_at(w, c, i);
     let r = chains::wide(a.rec);
@@ -53,8 +61,13 @@ fn leave_row(w: &mut [u64], c: Counts, i: usize, t: u64)
 
 // The settled locks that the accesses of slot k leave.
 fn leave_rows(w: &mut [u64], c: Counts, k: usize, t: u64)
-    requires { ⌜ Well c (now w) × IsRow (c .edits) k × LeaveNeed (editAt (decodeAt c (now w)) k .accesses) (decodeAt c (now w)) ⌝ }
-    ensures { λ _. ⌜ Becomes c (now (w .exit)) (along (leftRec t) (editAt (decodeAt c (now (w .entry))) k .accesses) (decodeAt c (now (w .entry)))) ⌝ }
+    requires { ⌜
+        Well c (now w) × IsRow (c .edits) k × LeaveNeed (editAt (decodeAt c (now w)) k .accesses) (decodeAt c (now w))
+        ⌝ }
+    ensures { λ _. ⌜
+        Becomes c (now (w .exit))
+        (along (leftRec t) (editAt (decodeAt c (now (w .entry))) k .accesses) (decodeAt c (now (w .entry))))
+        ⌝ }
 {
     let n = c.accesses;
     let mut cur = tables::first_access(w, c, k);
@@ -82,7 +95,10 @@ fn free_locks(w: &mut [u64], c: Counts, k: usize)
 
 // A committed edit leaves settled locks, an aborted one nothing.
 fn leave_ended(w: &mut [u64], c: Counts, k: usize, state: u64, t: u64)
-    requires { ⌜ Well c (now w) × IsRow (c .edits) k × (state ≡ COMMITTED → LeaveNeed (editAt (decodeAt c (now w)) k .accesses) (decodeAt c (now w))) ⌝ }
+    requires { ⌜
+        Well c (now w) × IsRow (c .edits) k
+        × (state ≡ COMMITTED → LeaveNeed (editAt (decodeAt c (now w)) k .accesses) (decodeAt c (now w)))
+        ⌝ }
     ensures { λ _. ⌜ Becomes c (now (w .exit)) (leftBy state t k (decodeAt c (now (w .entry)))) ⌝ }
 {
     if state == COMMITTED {

@@ -8,8 +8,10 @@ use Rattle.meaning.specs.Limits.{LAST, WRITE, SLOTS}
 use Rattle.meaning.specs.Store.{Store, slotOf, recAt}
 use Rattle.meaning.specs.Points.{firstBlocked}
 use Rattle.meaning.specs.Replies.{locked, refusing}
-use Rattle.meaning.specs.Outcomes.{Outcome, replies, Verdict, pass, refuse, needs, unless, knows, isOpen, hasRecord, judge, lockRoom}
-use Rattle.meaning.specs.Locking.{lockFrom, lockEnd, lockGranted, withLock, lockVerdict, lockChecks, lockWanted, locking}
+use Rattle.meaning.specs.Outcomes.{Outcome, replies, Verdict, pass, refuse, needs, unless, knows, isOpen, hasRecord}
+use Rattle.meaning.specs.Outcomes.{judge, lockRoom}
+use Rattle.meaning.specs.Locking.{lockFrom, lockEnd, lockGranted, withLock, lockVerdict, lockChecks, lockWanted}
+use Rattle.meaning.specs.Locking.{locking}
 use Rattle.meaning.specs.declared.Extent.{Extent}
 use Rattle.lookups.specs.declared.Blocked.{Blocked}
 use Rattle.lookups.specs.Search.{firstJudged}
@@ -40,23 +42,33 @@ module _ (s : Store) (h r low high : ℕ) (w : Extent) where
   unfolding locking lockChecks
   lock-ended e f = edit-ended s lock-next h lock-rest e f
 
-  pub lock-no-record : knows s h ≡ true → isOpen s h ≡ true → hasRecord s r ≡ false → locking h r low high w s ≡ replies s (refusing 5 [])
+  pub lock-no-record : knows s h ≡ true → isOpen s h ≡ true → hasRecord s r ≡ false
+      → locking h r low high w s ≡ replies s (refusing 5 [])
   unfolding locking lockChecks
-  lock-no-record e f g = edit-open s lock-next h lock-rest e f ∙ needs-fails s lock-next (hasRecord s r) 5 (needs lock-order 6 lock-above) g
+  lock-no-record e f g =
+      edit-open s lock-next h lock-rest e f
+      ∙ needs-fails s lock-next (hasRecord s r) 5 (needs lock-order 6 lock-above) g
 
   module _ (e : knows s h ≡ true) (f : isOpen s h ≡ true) (g : hasRecord s r ≡ true) where
     lock-edit : locking h r low high w s ≡ unless s (needs lock-order 6 lock-above) lock-next
     unfolding locking lockChecks
-    lock-edit = edit-open s lock-next h lock-rest e f ∙ needs-holds s lock-next (hasRecord s r) 5 (needs lock-order 6 lock-above) g
+    lock-edit =
+        edit-open s lock-next h lock-rest e f
+        ∙ needs-holds s lock-next (hasRecord s r) 5 (needs lock-order 6 lock-above) g
 
     pub lock-bad-point : lock-order ≡ false → locking h r low high w s ≡ replies s (refusing 6 [])
     lock-bad-point o = lock-edit ∙ needs-fails s lock-next lock-order 6 lock-above o
 
-    pub lock-below : lock-order ≡ true → ltb (recAt s r .floor) low ≡ false → locking h r low high w s ≡ replies s (refusing 7 [])
-    lock-below o b = lock-edit ∙ needs-holds s lock-next lock-order 6 lock-above o ∙ needs-fails s lock-next (ltb (recAt s r .floor) low) 7 pass b
+    pub lock-below : lock-order ≡ true → ltb (recAt s r .floor) low ≡ false
+        → locking h r low high w s ≡ replies s (refusing 7 [])
+    lock-below o b =
+        lock-edit ∙ needs-holds s lock-next lock-order 6 lock-above o
+        ∙ needs-fails s lock-next (ltb (recAt s r .floor) low) 7 pass b
 
     pub lock-passes : lock-order ≡ true → ltb (recAt s r .floor) low ≡ true → locking h r low high w s ≡ lock-next
-    lock-passes o b = lock-edit ∙ needs-holds s lock-next lock-order 6 lock-above o ∙ needs-holds s lock-next (ltb (recAt s r .floor) low) 7 pass b
+    lock-passes o b =
+        lock-edit ∙ needs-holds s lock-next lock-order 6 lock-above o
+        ∙ needs-holds s lock-next (ltb (recAt s r .floor) low) 7 pass b
 
 -- the points wanted, by the open edit of slot k
 module _ (s : Store) (k r low high : ℕ) (w : Extent) where
@@ -95,16 +107,23 @@ module _ (s : Store) (k r low high : ℕ) (w : Extent) where
         (judged .0) (f ∙ refusal-is s r WRITE k low high b (sym (judged .1)) i)
 
   module _ (from end : ℕ) (e : Taken from end ≡ lockGrant w s k r low high) where
-    lock-taken : lockWanted s k r low high w ≡ unless s (needs (lockRoom s) 11 pass) (replies (withLock s r WRITE k from end) (locked from end))
+    lock-taken : lockWanted s k r low high w
+        ≡ unless s (needs (lockRoom s) 11 pass) (replies (withLock s r WRITE k from end) (locked from end))
     unfolding lockGrant lockWanted lockVerdict
     lock-taken =
         let g = grant-taken lock-granted lock-from lock-end lock-judged from end (sym e) in
         else-holds s lock-made lock-granted (judge s r WRITE k lock-first) (needs (lockRoom s) 11 pass) (g .0)
-        ∙ ap (λ (x : ℕ). unless s (needs (lockRoom s) 11 pass) (replies (withLock s r WRITE k x lock-end) (locked x lock-end))) (g .1)
-        ∙ ap (λ (x : ℕ). unless s (needs (lockRoom s) 11 pass) (replies (withLock s r WRITE k from x) (locked from x))) (g .2)
+        ∙ ap (λ (x : ℕ). unless s (needs (lockRoom s) 11 pass)
+        (replies (withLock s r WRITE k x lock-end) (locked x lock-end)))
+        (g .1)
+        ∙ ap (λ (x : ℕ). unless s (needs (lockRoom s) 11 pass) (replies (withLock s r WRITE k from x) (locked from x)))
+        (g .2)
 
     pub lock-no-room : lockRoom s ≡ false → lockWanted s k r low high w ≡ replies s (refusing 11 [])
-    lock-no-room f = lock-taken ∙ needs-fails s (replies (withLock s r WRITE k from end) (locked from end)) (lockRoom s) 11 pass f
+    lock-no-room f =
+        lock-taken ∙ needs-fails s (replies (withLock s r WRITE k from end) (locked from end)) (lockRoom s) 11 pass f
 
-    pub lock-done : lockRoom s ≡ true → lockWanted s k r low high w ≡ replies (withLock s r WRITE k from end) (locked from end)
-    lock-done f = lock-taken ∙ needs-holds s (replies (withLock s r WRITE k from end) (locked from end)) (lockRoom s) 11 pass f
+    pub lock-done : lockRoom s ≡ true
+        → lockWanted s k r low high w ≡ replies (withLock s r WRITE k from end) (locked from end)
+    lock-done f =
+        lock-taken ∙ needs-holds s (replies (withLock s r WRITE k from end) (locked from end)) (lockRoom s) 11 pass f

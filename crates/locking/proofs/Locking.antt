@@ -30,7 +30,8 @@ use Rattle.calls.specs.declared.Grant.the-variants.{Taken, Judged}
 use Rattle.calls.proofs.Acting.{ready, makes-refused, makes-done, makes-as, acts}
 use Rattle.calls.proofs.Handles.{has-record-is}
 use Rattle.locking.proofs.LockExits.{lock-no-edit, lock-ended, lock-no-record, lock-bad-point}
-use Rattle.locking.proofs.LockExits.{lock-below, lock-passes, lock-by-small, lock-blocked, lock-no-room, lock-done}
+use Rattle.locking.proofs.LockExits.{lock-below, lock-passes, lock-by-small, lock-blocked, lock-no-room}
+use Rattle.locking.proofs.LockExits.{lock-done}
 
 -- the points wanted, by the open edit of slot k
 module _ (c : Counts) (w : List ℕ) (R : Ready c w) (k r low high : ℕ) (x : Extent) (g : Grant)
@@ -49,26 +50,31 @@ module _ (c : Counts) (w : List ℕ) (R : Ready c w) (k r low high : ℕ) (x : E
         (lock-blocked (decodeAt c w) k r low high x b (granted f) n more order j)
 
   module _ (from end : ℕ) (f : g ≡ Taken from end) where
-    pub wanted-no-room : lockRoom (decodeAt c w) ≡ false → Makes c (lockWanted (decodeAt c w) k r low high x) w w (refusing 11 [])
+    pub wanted-no-room : lockRoom (decodeAt c w) ≡ false
+        → Makes c (lockWanted (decodeAt c w) k r low high x) w w (refusing 11 [])
     wanted-no-room h =
         makes-refused c w (lockWanted (decodeAt c w) k r low high x) 11 [] (R .well)
         (lock-no-room (decodeAt c w) k r low high x from end (granted f) h)
 
     pub wanted-done : lockRoom (decodeAt c w) ≡ true → (w′ : List ℕ) (p q : ℕ)
-        → Becomes c w′ (onLocks (decodeAt c w) r (addLock (record { low = from; high = end; mode = WRITE; owner = k }))) → p ≡ from → q ≡ end
+        → Becomes c w′ (onLocks (decodeAt c w) r (addLock (record { low = from; high = end; mode = WRITE; owner = k })))
+        → p ≡ from → q ≡ end
         → Makes c (lockWanted (decodeAt c w) k r low high x) w w′ (locked p q)
     unfolding withLock
     wanted-done h w′ p q B i j =
         rw (i, j)
-        (makes-done c w (lockWanted (decodeAt c w) k r low high x) w′ (withLock (decodeAt c w) r WRITE k from end) (locked from end) (B .well) (B .means)
+        (makes-done c w (lockWanted (decodeAt c w) k r low high x) w′ (withLock (decodeAt c w) r WRITE k from end)
+        (locked from end) (B .well) (B .means)
         (lock-done (decodeAt c w) k r low high x from end (granted f) h) refl)
 
 -- the call: its words from..to are the points low..high
-module _ (c : Counts) (w : List ℕ) (hs : soundWords (lent w) ≡ true) (e : c ≡ countsOf w) (h r low high : ℕ) (x : Extent) where
+module _ (c : Counts) (w : List ℕ) (hs : soundWords (lent w) ≡ true) (e : c ≡ countsOf w) (h r low high : ℕ)
+    (x : Extent) where
   abbrev Ends : List ℕ → Reply → Type 0
   Ends w′ q = Acts (locking h r low high x) (lent w) (lent w′) q
 
-  refuses : (n : ℕ) → locking h r low high x (decodeAt c w) ≡ record { reply = refusing n []; store = decodeAt c w } → Ends w (refusing n [])
+  refuses : (n : ℕ) → locking h r low high x (decodeAt c w) ≡ record { reply = refusing n []; store = decodeAt c w }
+      → Ends w (refusing n [])
   refuses n o =
       acts (locking h r low high x) (lock-keeps h r low high x) c w w (refusing n []) hs e
       (makes-refused c w (locking h r low high x (decodeAt c w)) n [] (ready w hs c e .well) o)
@@ -94,7 +100,8 @@ module _ (c : Counts) (w : List ℕ) (hs : soundWords (lent w) ≡ true) (e : c 
       module _ (order : from ≤ to) where
         pub locked-too-large : LAST < to → Ends w (refusing 6 [])
         locked-too-large l =
-            refuses 6 (lock-bad-point (decodeAt c w) h r low high x k o there (rw (le-leb low high (omega arith), lt-leb high LAST (omega arith))))
+            refuses 6 (lock-bad-point (decodeAt c w) h r low high x k o there
+            (rw (le-leb low high (omega arith), lt-leb high LAST (omega arith))))
 
         module _ (last : to ≤ LAST) (floor : ℕ) (f : floor ≡ recordAt c w r .floor) where
           in-order : leb low high && leb high LAST ≡ true
@@ -106,11 +113,16 @@ module _ (c : Counts) (w : List ℕ) (hs : soundWords (lent w) ≡ true) (e : c 
           pub locked-below : from ≤ floor → Ends w (refusing 7 [])
           locked-below l =
               let i = floor-is in
-              refuses 7 (lock-below (decodeAt c w) h r low high x k o there in-order (le-ltb (recAt (decodeAt c w) r .floor) low (omega arith)))
+              refuses 7 (lock-below (decodeAt c w) h r low high x k o there in-order
+              (le-ltb (recAt (decodeAt c w) r .floor) low (omega arith)))
 
-          pub lock-acts : floor < from → (w′ : List ℕ) (q : Reply) (j : ℕ) → j ≡ slotOf h → Makes c (lockWanted (decodeAt c w) j r from to x) w w′ q → Ends w′ q
+          pub lock-acts : floor < from → (w′ : List ℕ) (q : Reply) (j : ℕ) → j ≡ slotOf h
+              → Makes c (lockWanted (decodeAt c w) j r from to x) w w′ q → Ends w′ q
           lock-acts l w′ q j i M =
               let n = floor-is in
-              let same : lockWanted (decodeAt c w) j r from to x ≡ lockWanted (decodeAt c w) (slotOf h) r low high x = rw (i, a, b) in
+              let same : lockWanted (decodeAt c w) j r from to x ≡ lockWanted (decodeAt c w) (slotOf h) r low high x =
+              rw (i, a, b) in
               acts (locking h r low high x) (lock-keeps h r low high x) c w w′ q hs e
-              (makes-as c w (lock-passes (decodeAt c w) h r low high x k o there in-order (lt-ltb (recAt (decodeAt c w) r .floor) low (omega arith)) ∙ sym same) M)
+              (makes-as c w (lock-passes (decodeAt c w) h r low high x k o there in-order
+              (lt-ltb (recAt (decodeAt c w) r .floor) low (omega arith))
+              ∙ sym same) M)

@@ -75,7 +75,10 @@ fn lock_wanted(
     extent: Extent,
 ) -> LockReply
     requires { ⌜ Ready c (now w) × IsRow (c .edits) k × (r < c .records) × (1 ≤ low) × (low ≤ high) × (high ≤ LAST) ⌝ }
-    ensures { λ q. ⌜ Makes c (lockWanted (decodeAt c (now (w .entry))) k r low high extent) (now (w .entry)) (now (w .exit)) (ofLock q) ⌝ }
+    ensures { λ q. ⌜
+        Makes c (lockWanted (decodeAt c (now (w .entry))) k r low high extent) (now (w .entry)) (now (w .exit))
+        (ofLock q)
+        ⌝ }
 {
     match lock_grant(w, c, extent, k as u64, r, low, high) {
         Grant::Judged(b) => LockReply::Refused(calls::judge(w, c, b)),
@@ -109,7 +112,9 @@ pub fn lock(
     extent: Extent,
 ) -> LockReply
     requires { ⌜ soundWords (lent (now w)) ≡ true ⌝ }
-    ensures { λ r. ⌜ Acts (locking (h .0) rec (low .0) (high .0) extent) (lent (now (w .entry))) (lent (now (w .exit))) (ofLock r) ⌝ }
+    ensures { λ r. ⌜
+        Acts (locking (h .0) rec (low .0) (high .0) extent) (lent (now (w .entry))) (lent (now (w .exit))) (ofLock r)
+        ⌝ }
 {
     let c = tables::counts_of(w);
     if !lookups::known(w, c, h) {

@@ -13,7 +13,8 @@ use Rattle.chains.specs.Table.{link, headOf}
 use Rattle.chains.proofs.Loops.{Walk}
 use Rattle.meaning.specs.Limits.{LAST}
 use Rattle.meaning.specs.Lists.{all}
-use Rattle.meaning.specs.Points.{covered, own, writes, firstFree, ownOn, allowsWrite, allowsRead, allows, lowest, inCommon}
+use Rattle.meaning.specs.Points.{covered, own, writes, firstFree, ownOn, allowsWrite, allowsRead, allows, lowest}
+use Rattle.meaning.specs.Points.{inCommon}
 use Rattle.meaning.specs.Store.{Rec, Edit, hasRead}
 use Rattle.meaning.specs.Sound.{namesExisting}
 use Rattle.meaning.specs.declared.Access.{Access}
@@ -34,7 +35,8 @@ when true e d = d
 when false e d = absurd (false≢true e)
 
 -- one access: j is slot k as a word, r the access's record as a row
-module _ (c : Counts) (w : List ℕ) (k : ℕ) (a : Access) (l : a .rec < c .records) {j r : ℕ} (ej : j ≡ k) (er : r ≡ a .rec) where
+module _ (c : Counts) (w : List ℕ) (k : ℕ) (a : Access) (l : a .rec < c .records) {j r : ℕ} (ej : j ≡ k)
+    (er : r ≡ a .rec) where
   pub own-on : own j (recordAt c w r .locks) ≡ ownOn (recordsOf c w) k a
   unfolding ownOn
   own-on = rw (ej, er, rec-of c w (a .rec) l) refl
@@ -58,7 +60,8 @@ module _ (ls : List Lock) (a : Access) (p : ℕ) where
   pub read-below : (a .from ≡ 0 → ⊥) → p < a .from → false ≡ allowsRead ls a p
   read-below n h = rw (has-read n, lt-leb (a .from) p h) refl
 
-  pub read-is : {q : ℕ} → (a .from ≡ 0 → ⊥) → a .from ≤ p → q ≡ firstFree ls (a .from) LAST → ltb p q ≡ allowsRead ls a p
+  pub read-is : {q : ℕ} → (a .from ≡ 0 → ⊥) → a .from ≤ p → q ≡ firstFree ls (a .from) LAST
+      → ltb p q ≡ allowsRead ls a p
   read-is n h d = rw (has-read n, le-leb (a .from) p h, d) refl
 
 module _ (rs : List Rec) (k p : ℕ) (a : Access) {q : Bool} (d : q ≡ allowsWrite (ownOn rs k a) a p) where
@@ -78,21 +81,27 @@ abbrev pub Named : Counts → List ℕ → ℕ → ℕ → Type 0
 Named c w h f = Walk (link (accessTable c) w) (c .accesses) (λ rs. all (named c w) (map (accessAt c w) rs)) true h f
 
 module _ (c : Counts) (w : List ℕ) where
-  pub named-start : {head : ℕ} (k : ℕ) → namesExisting (recordsOf c w) (slotAt c w k) ≡ true → head ≡ headOf (accessHeads c) w k → Named c w head (c .accesses)
+  pub named-start : {head : ℕ} (k : ℕ) → namesExisting (recordsOf c w) (slotAt c w k) ≡ true
+      → head ≡ headOf (accessHeads c) w k → Named c w head (c .accesses)
   unfolding namesExisting
   named-start k e h = record { same = accesses-start c w k (all (named c w)) h .same ∙ e }
 
   -- on a shorter walk
-  pub named-front : {head : ℕ} (k j : ℕ) → j ≤ c .accesses → namesExisting (recordsOf c w) (slotAt c w k) ≡ true → head ≡ headOf (accessHeads c) w k
+  pub named-front : {head : ℕ} (k j : ℕ) → j ≤ c .accesses → namesExisting (recordsOf c w) (slotAt c w k) ≡ true
+      → head ≡ headOf (accessHeads c) w k
       → Named c w head j
   named-front {head} k j l e h =
-      record { same = all-shorter (named c w) (accessAt c w) (link (accessTable c) w) (c .accesses) j (c .accesses) head l (named-start k e h .same) }
+      record {
+        same = all-shorter (named c w) (accessAt c w) (link (accessTable c) w) (c .accesses) j (c .accesses) head l
+            (named-start k e h .same);
+      }
 
   module _ {h f : ℕ} {q : Bool} (i : Named c w h f) (d : q ≡ more (c .accesses) f h) (e : q ≡ true) where
     named-here : named c w (accessAt c w h) ≡ true
     named-here = go (test (named c w (accessAt c w h)))
       where
-        go : (named c w (accessAt c w h) ≡ true) ⊎ (named c w (accessAt c w h) ≡ false) → named c w (accessAt c w h) ≡ true
+        go : (named c w (accessAt c w h) ≡ true) ⊎ (named c w (accessAt c w h) ≡ false)
+            → named c w (accessAt c w h) ≡ true
         go (inl t) = t
         go (inr t) = absurd (false≢true (all-out (named c w) (accessAt c w) i d e t))
 

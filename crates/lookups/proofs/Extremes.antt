@@ -37,34 +37,45 @@ module _ {A : Type 0} (p q : A → Bool) (v : A → ℕ) where
   valued-turn : (x : A) (xs : List A) → valued (x ∷ xs) ≡ cond (q x && p x) (v x ∷ valued xs) (valued xs)
   valued-turn x xs = go (q x)
     where
-      one : (b : Bool) → map v (cond b (x ∷ keep p (keep q xs)) (keep p (keep q xs))) ≡ cond b (v x ∷ valued xs) (valued xs)
+      one : (b : Bool)
+          → map v (cond b (x ∷ keep p (keep q xs)) (keep p (keep q xs))) ≡ cond b (v x ∷ valued xs) (valued xs)
       one true = refl
       one false = refl
 
-      go : (a : Bool) → map v (keep p (cond a (x ∷ keep q xs) (keep q xs))) ≡ cond (a && p x) (v x ∷ valued xs) (valued xs)
+      go : (a : Bool)
+          → map v (keep p (cond a (x ∷ keep q xs) (keep q xs))) ≡ cond (a && p x) (v x ∷ valued xs) (valued xs)
       go true = one (p x)
       go false = refl
 
   -- b is the best so far, b′ after one more entry l
   module _ (g : ℕ → A) {nx : ℕ → ℕ} {n : ℕ} {answer : ℕ} {h f : ℕ} {r : Bool} {b : ℕ} where
-    pub greatest-on : {b′ h′ : ℕ} {l : A} → Walk nx n (λ rs. greatest b (valued (map g rs))) answer h f → r ≡ more n f h → r ≡ true
-        → b′ ≡ cond (q l && p l) (max b (v l)) b → l ≡ g h → h′ ≡ nx h → Walk nx n (λ rs. greatest b′ (valued (map g rs))) answer h′ (f - 1)
+    pub greatest-on : {b′ h′ : ℕ} {l : A} → Walk nx n (λ rs. greatest b (valued (map g rs))) answer h f → r ≡ more n f h
+        → r ≡ true
+        → b′ ≡ cond (q l && p l) (max b (v l)) b → l ≡ g h → h′ ≡ nx h
+        → Walk nx n (λ rs. greatest b′ (valued (map g rs))) answer h′ (f - 1)
     greatest-on {b′} {h′} {l} i d e k m s =
         let xs : List A = map g (rows nx n (f - 1) (nx h)) in
-        let b′-is : b′ ≡ cond (q (g h) && p (g h)) (max b (v (g h))) b = k ∙ ap (λ y. cond (q y && p y) (max b (v y)) b) m in
+        let b′-is : b′ ≡ cond (q (g h) && p (g h)) (max b (v (g h))) b =
+        k ∙ ap (λ y. cond (q y && p y) (max b (v y)) b) m in
         walk-again i d (λ rs. greatest b′ (valued (map g rs))) e
-        (ap (greatest b) (valued-turn (g h) xs) ∙ greatest-turn (q (g h) && p (g h)) b (v (g h)) (valued xs) ∙ ap (λ y. greatest y (valued xs)) (sym b′-is)) s
+        (ap (greatest b) (valued-turn (g h) xs) ∙ greatest-turn (q (g h) && p (g h)) b (v (g h)) (valued xs)
+        ∙ ap (λ y. greatest y (valued xs)) (sym b′-is)) s
 
-    pub greatest-done : Walk nx n (λ rs. greatest b (valued (map g rs))) answer h f → r ≡ more n f h → r ≡ false → b ≡ answer
+    pub greatest-done : Walk nx n (λ rs. greatest b (valued (map g rs))) answer h f → r ≡ more n f h → r ≡ false
+        → b ≡ answer
     greatest-done i d e = walk-end i d e refl
 
-    pub least-on : {b′ h′ : ℕ} {l : A} → Walk nx n (λ rs. least b (valued (map g rs))) answer h f → r ≡ more n f h → r ≡ true
-        → b′ ≡ cond (q l && p l) (min b (v l)) b → l ≡ g h → h′ ≡ nx h → Walk nx n (λ rs. least b′ (valued (map g rs))) answer h′ (f - 1)
+    pub least-on : {b′ h′ : ℕ} {l : A} → Walk nx n (λ rs. least b (valued (map g rs))) answer h f → r ≡ more n f h
+        → r ≡ true
+        → b′ ≡ cond (q l && p l) (min b (v l)) b → l ≡ g h → h′ ≡ nx h
+        → Walk nx n (λ rs. least b′ (valued (map g rs))) answer h′ (f - 1)
     least-on {b′} {h′} {l} i d e k m s =
         let xs : List A = map g (rows nx n (f - 1) (nx h)) in
-        let b′-is : b′ ≡ cond (q (g h) && p (g h)) (min b (v (g h))) b = k ∙ ap (λ y. cond (q y && p y) (min b (v y)) b) m in
+        let b′-is : b′ ≡ cond (q (g h) && p (g h)) (min b (v (g h))) b =
+        k ∙ ap (λ y. cond (q y && p y) (min b (v y)) b) m in
         walk-again i d (λ rs. least b′ (valued (map g rs))) e
-        (ap (least b) (valued-turn (g h) xs) ∙ least-turn (q (g h) && p (g h)) b (v (g h)) (valued xs) ∙ ap (λ y. least y (valued xs)) (sym b′-is)) s
+        (ap (least b) (valued-turn (g h) xs) ∙ least-turn (q (g h) && p (g h)) b (v (g h)) (valued xs)
+        ∙ ap (λ y. least y (valued xs)) (sym b′-is)) s
 
     pub least-done : Walk nx n (λ rs. least b (valued (map g rs))) answer h f → r ≡ more n f h → r ≡ false → b ≡ answer
     least-done i d e = walk-end i d e refl
@@ -76,12 +87,14 @@ module _ {A : Type 0} (p q : A → Bool) where
   keep-keep (x ∷ xs) = go (q x) (keep-keep xs)
     where
       one : (b : Bool) → keep p (keep q xs) ≡ keep (λ x. q x && p x) xs
-          → cond b (x ∷ keep p (keep q xs)) (keep p (keep q xs)) ≡ cond b (x ∷ keep (λ x. q x && p x) xs) (keep (λ x. q x && p x) xs)
+          → cond b (x ∷ keep p (keep q xs)) (keep p (keep q xs))
+          ≡ cond b (x ∷ keep (λ x. q x && p x) xs) (keep (λ x. q x && p x) xs)
       one true ih = ap (λ y. x ∷ y) ih
       one false ih = ih
 
       go : (a : Bool) → keep p (keep q xs) ≡ keep (λ x. q x && p x) xs
-          → keep p (cond a (x ∷ keep q xs) (keep q xs)) ≡ cond (a && p x) (x ∷ keep (λ x. q x && p x) xs) (keep (λ x. q x && p x) xs)
+          → keep p (cond a (x ∷ keep q xs) (keep q xs))
+          ≡ cond (a && p x) (x ∷ keep (λ x. q x && p x) xs) (keep (λ x. q x && p x) xs)
       go true ih = one (p x) ih
       go false ih = ih
 

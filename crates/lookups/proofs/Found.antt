@@ -36,44 +36,53 @@ module _ {A : Type 0} (p : A → Bool) (g : ℕ → A) (d : A) (nx : ℕ → ℕ
       rest true q a e ih = absurd (omega (arith, among-out n h a .low, rw (q, firstOf) at e))
       rest false q a e ih = rw q (ih (rw (q, firstOf) at e))
 
-      go : (b : Bool) → among n h ≡ b → firstOf (λ i. p (g i)) (elim b [ true ↦ h ∷ rows nx n f (nx h) | false ↦ [] ]) ≡ 0
+      go : (b : Bool) → among n h ≡ b
+          → firstOf (λ i. p (g i)) (elim b [ true ↦ h ∷ rows nx n f (nx h) | false ↦ [] ]) ≡ 0
           → (firstOf (λ i. p (g i)) (rows nx n f (nx h)) ≡ 0 → d ≡ find p d (map g (rows nx n f (nx h))))
           → d ≡ find p d (map g (elim b [ true ↦ h ∷ rows nx n f (nx h) | false ↦ [] ]))
       go true a e ih = rest (p (g h)) refl a e ih
       go false a e ih = refl
 
   -- where it is not 0, its entry is found
-  pub first-found : (f h : ℕ) → (firstOf (λ i. p (g i)) (rows nx n f h) ≡ 0 → ⊥) → g (firstOf (λ i. p (g i)) (rows nx n f h)) ≡ find p d (map g (rows nx n f h))
+  pub first-found : (f h : ℕ) → (firstOf (λ i. p (g i)) (rows nx n f h) ≡ 0 → ⊥)
+      → g (firstOf (λ i. p (g i)) (rows nx n f h)) ≡ find p d (map g (rows nx n f h))
   unfolding rows firstOf
   first-found zero h e = absurd (e refl)
   first-found (suc f) h e = go (among n h) e (first-found f (nx h))
     where
       rest : (b : Bool) → p (g h) ≡ b → (firstOf (λ i. p (g i)) (h ∷ rows nx n f (nx h)) ≡ 0 → ⊥)
-          → ((firstOf (λ i. p (g i)) (rows nx n f (nx h)) ≡ 0 → ⊥) → g (firstOf (λ i. p (g i)) (rows nx n f (nx h))) ≡ find p d (map g (rows nx n f (nx h))))
+          → ((firstOf (λ i. p (g i)) (rows nx n f (nx h)) ≡ 0 → ⊥)
+          → g (firstOf (λ i. p (g i)) (rows nx n f (nx h))) ≡ find p d (map g (rows nx n f (nx h))))
           → g (firstOf (λ i. p (g i)) (h ∷ rows nx n f (nx h))) ≡ find p d (g h ∷ map g (rows nx n f (nx h)))
       rest true q e ih = rw (q, firstOf) refl
       rest false q e ih = rw (q, firstOf) (ih (rw (q, firstOf) at e))
 
       go : (b : Bool) → (firstOf (λ i. p (g i)) (elim b [ true ↦ h ∷ rows nx n f (nx h) | false ↦ [] ]) ≡ 0 → ⊥)
-          → ((firstOf (λ i. p (g i)) (rows nx n f (nx h)) ≡ 0 → ⊥) → g (firstOf (λ i. p (g i)) (rows nx n f (nx h))) ≡ find p d (map g (rows nx n f (nx h))))
-          → g (firstOf (λ i. p (g i)) (elim b [ true ↦ h ∷ rows nx n f (nx h) | false ↦ [] ])) ≡ find p d (map g (elim b [ true ↦ h ∷ rows nx n f (nx h) | false ↦ [] ]))
+          → ((firstOf (λ i. p (g i)) (rows nx n f (nx h)) ≡ 0 → ⊥)
+          → g (firstOf (λ i. p (g i)) (rows nx n f (nx h))) ≡ find p d (map g (rows nx n f (nx h))))
+          → g (firstOf (λ i. p (g i)) (elim b [ true ↦ h ∷ rows nx n f (nx h) | false ↦ [] ]))
+          ≡ find p d (map g (elim b [ true ↦ h ∷ rows nx n f (nx h) | false ↦ [] ]))
       go true e ih = rest (p (g h)) refl e ih
       go false e ih = absurd (e refl)
 
   -- and it is a row
-  pub first-row : (f h : ℕ) → (firstOf (λ i. p (g i)) (rows nx n f h) ≡ 0 → ⊥) → IsRow n (firstOf (λ i. p (g i)) (rows nx n f h))
+  pub first-row : (f h : ℕ) → (firstOf (λ i. p (g i)) (rows nx n f h) ≡ 0 → ⊥)
+      → IsRow n (firstOf (λ i. p (g i)) (rows nx n f h))
   unfolding rows firstOf
   first-row zero h e = absurd (e refl)
   first-row (suc f) h e = go (among n h) refl e (first-row f (nx h))
     where
       rest : (b : Bool) → p (g h) ≡ b → among n h ≡ true → (firstOf (λ i. p (g i)) (h ∷ rows nx n f (nx h)) ≡ 0 → ⊥)
-          → ((firstOf (λ i. p (g i)) (rows nx n f (nx h)) ≡ 0 → ⊥) → IsRow n (firstOf (λ i. p (g i)) (rows nx n f (nx h))))
+          → ((firstOf (λ i. p (g i)) (rows nx n f (nx h)) ≡ 0 → ⊥)
+          → IsRow n (firstOf (λ i. p (g i)) (rows nx n f (nx h))))
           → IsRow n (firstOf (λ i. p (g i)) (h ∷ rows nx n f (nx h)))
       rest true q a e ih = rw (q, firstOf) (among-out n h a)
       rest false q a e ih = rw (q, firstOf) (ih (rw (q, firstOf) at e))
 
-      go : (b : Bool) → among n h ≡ b → (firstOf (λ i. p (g i)) (elim b [ true ↦ h ∷ rows nx n f (nx h) | false ↦ [] ]) ≡ 0 → ⊥)
-          → ((firstOf (λ i. p (g i)) (rows nx n f (nx h)) ≡ 0 → ⊥) → IsRow n (firstOf (λ i. p (g i)) (rows nx n f (nx h))))
+      go : (b : Bool) → among n h ≡ b
+          → (firstOf (λ i. p (g i)) (elim b [ true ↦ h ∷ rows nx n f (nx h) | false ↦ [] ]) ≡ 0 → ⊥)
+          → ((firstOf (λ i. p (g i)) (rows nx n f (nx h)) ≡ 0 → ⊥)
+          → IsRow n (firstOf (λ i. p (g i)) (rows nx n f (nx h))))
           → IsRow n (firstOf (λ i. p (g i)) (elim b [ true ↦ h ∷ rows nx n f (nx h) | false ↦ [] ]))
       go true a e ih = rest (p (g h)) refl a e ih
       go false a e ih = absurd (e refl)
@@ -85,7 +94,8 @@ module _ {A : Type 0} (p : A → Bool) (g : ℕ → A) where
   none-first [] e = refl
   none-first (x ∷ xs) e = go (p (g x)) refl e (none-first xs)
     where
-      go : (b : Bool) → p (g x) ≡ b → (b || any p (map g xs)) ≡ false → (any p (map g xs) ≡ false → firstOf (λ i. p (g i)) xs ≡ 0)
+      go : (b : Bool) → p (g x) ≡ b → (b || any p (map g xs)) ≡ false
+          → (any p (map g xs) ≡ false → firstOf (λ i. p (g i)) xs ≡ 0)
           → firstOf (λ i. p (g i)) (x ∷ xs) ≡ 0
       go true q e ih = absurd (not-both refl e)
       go false q e ih = rw (q, firstOf) (ih e)
@@ -97,7 +107,8 @@ module _ {A : Type 0} (p : A → Bool) (g : ℕ → A) where
       go (inl e) = e
       go (inr e) = absurd (n (none-first xs e))
 
-  pub first-zero : (nx : ℕ → ℕ) (n f h : ℕ) → firstOf (λ i. p (g i)) (rows nx n f h) ≡ 0 → any p (map g (rows nx n f h)) ≡ false
+  pub first-zero : (nx : ℕ → ℕ) (n f h : ℕ) → firstOf (λ i. p (g i)) (rows nx n f h) ≡ 0
+      → any p (map g (rows nx n f h)) ≡ false
   unfolding rows firstOf
   first-zero nx n zero h e = refl
   first-zero nx n (suc f) h e = go (among n h) refl e (first-zero nx n f (nx h))
@@ -108,29 +119,34 @@ module _ {A : Type 0} (p : A → Bool) (g : ℕ → A) where
       rest true q a e ih = absurd (omega (arith, among-out n h a .low, rw (q, firstOf) at e))
       rest false q a e ih = rw q (ih (rw (q, firstOf) at e))
 
-      go : (b : Bool) → among n h ≡ b → firstOf (λ i. p (g i)) (elim b [ true ↦ h ∷ rows nx n f (nx h) | false ↦ [] ]) ≡ 0
+      go : (b : Bool) → among n h ≡ b
+          → firstOf (λ i. p (g i)) (elim b [ true ↦ h ∷ rows nx n f (nx h) | false ↦ [] ]) ≡ 0
           → (firstOf (λ i. p (g i)) (rows nx n f (nx h)) ≡ 0 → any p (map g (rows nx n f (nx h))) ≡ false)
           → any p (map g (elim b [ true ↦ h ∷ rows nx n f (nx h) | false ↦ [] ])) ≡ false
       go true a e ih = rest (p (g h)) refl a e ih
       go false a e ih = refl
 
 -- the access of record r of slot k: i is its row
-module _ (c : Counts) (w : List ℕ) (k r : ℕ) {i : ℕ} (e : i ≡ firstOf (λ j. isOf r (accessAt c w j)) (accessRows c w k)) where
+module _ (c : Counts) (w : List ℕ) (k r : ℕ) {i : ℕ}
+    (e : i ≡ firstOf (λ j. isOf r (accessAt c w j)) (accessRows c w k)) where
   pub access-none : i ≡ 0 → noAccess r ≡ accessOf (slotAt c w k) r
   unfolding accessOf slotAt accessesOf accessRows rowsOf chain accessTable
   access-none z =
-      first-entry (isOf r) (accessAt c w) (noAccess r) (link (accessTable c) w) (c .accesses) (c .accesses) (headOf (accessHeads c) w k) (sym e ∙ z)
+      first-entry (isOf r) (accessAt c w) (noAccess r) (link (accessTable c) w) (c .accesses) (c .accesses)
+      (headOf (accessHeads c) w k) (sym e ∙ z)
 
   pub access-found : (i ≡ 0 → ⊥) → accessAt c w i ≡ accessOf (slotAt c w k) r
   unfolding accessOf slotAt accessesOf accessRows rowsOf chain accessTable
   access-found z =
       ap (accessAt c w) e
-      ∙ first-found (isOf r) (accessAt c w) (noAccess r) (link (accessTable c) w) (c .accesses) (c .accesses) (headOf (accessHeads c) w k) (λ q. z (e ∙ q))
+      ∙ first-found (isOf r) (accessAt c w) (noAccess r) (link (accessTable c) w) (c .accesses) (c .accesses)
+      (headOf (accessHeads c) w k) (λ q. z (e ∙ q))
 
   pub access-is-row : (i ≡ 0 → ⊥) → IsRow (c .accesses) i
   unfolding accessRows rowsOf chain accessTable
   access-is-row z =
-      rw e (first-row (isOf r) (accessAt c w) (noAccess r) (link (accessTable c) w) (c .accesses) (c .accesses) (headOf (accessHeads c) w k) (λ q. z (e ∙ q)))
+      rw e (first-row (isOf r) (accessAt c w) (noAccess r) (link (accessTable c) w) (c .accesses) (c .accesses)
+      (headOf (accessHeads c) w k) (λ q. z (e ∙ q)))
 
 -- so a row found, or 0, lies within the table
 pub access-within : (c : Counts) (w : List ℕ) (k r i : ℕ) → AccessRow c w k r i → i ≤ c .accesses

@@ -1,5 +1,5 @@
--- The search for the least free point: each walk of the locks goes on just after those that cover the point, until none does. Rests on Spans
--- of the crate `meaning`.
+-- The search for the least free point: each walk of the locks goes on just after those that cover the point, until none
+-- does. Rests on Spans of the crate `meaning`.
 use Prim.Native.Nat.{ℕ, suc, _+_, _≤_, _<_, min, max}
 use native.Mathlib.Numerals.{add-one}
 use mathlib.Core.Path.{_≡_, refl, sym, ap, _∙_}
@@ -23,12 +23,15 @@ module _ (mine : Bool) (mode k p high best : ℕ) (l : Lock) where
   pub further-other : {q : Bool} → q ≡ counts mine mode k l → q ≡ false → best ≡ further mine mode k p high best l
   further-other d e = rw (sym d ∙ e) refl
 
-  pub further-off : {q t : Bool} → q ≡ counts mine mode k l → q ≡ true → t ≡ covers p l → t ≡ false → best ≡ further mine mode k p high best l
+  pub further-off : {q t : Bool} → q ≡ counts mine mode k l → q ≡ true → t ≡ covers p l → t ≡ false
+      → best ≡ further mine mode k p high best l
   further-off d e b f = rw (sym d ∙ e, sym b ∙ f) refl
 
-  pub further-on : {q t : Bool} {x y : ℕ} → q ≡ counts mine mode k l → q ≡ true → t ≡ covers p l → t ≡ true → x ≡ min high (l .high)
+  pub further-on : {q t : Bool} {x y : ℕ} → q ≡ counts mine mode k l → q ≡ true → t ≡ covers p l → t ≡ true
+      → x ≡ min high (l .high)
       → y ≡ max best (x + 1) → y ≡ further mine mode k p high best l
-  further-on d e b f m n = rw (sym d ∙ e, sym b ∙ f) (n ∙ ap (λ z. max best (z + 1)) m ∙ ap (max best) (add-one (min high (l .high))))
+  further-on d e b f m n =
+      rw (sym d ∙ e, sym b ∙ f) (n ∙ ap (λ z. max best (z + 1)) m ∙ ap (max best) (add-one (min high (l .high))))
 
 -- one walk from p
 module _ (ls : List Lock) (p high : ℕ) where
@@ -69,14 +72,19 @@ module _ (ls : List Lock) (p high : ℕ) where
     where
       go : (pastOf ls p high ≡ p) ⊎ After → Covered ls x
       go (inl e) = absurd (omega arith)
-      go (inr a) = record { lock = a .lock; member = a .member; under = record { from = omega (arith, a .low); upto = omega (arith, a .after) } }
+      go (inr a) = record {
+        lock = a .lock;
+        member = a .member;
+        under = record { from = omega (arith, a .low); upto = omega (arith, a .after) };
+      }
 
   -- where it does not move, p is free
   pub past-still : p ≤ high → pastOf ls p high ≡ p → Covered ls p → ⊥
   unfolding pastOf
   past-still h e b =
       let i : suc (min high (b .lock .high)) ∈ endsAt p high ls =
-      Memᴰ·map (λ (l : Lock). suc (min high (l .high))) (keep-in (covers p) (b .member) (covers-in p (b .lock) (b .under))) in
+      Memᴰ·map (λ (l : Lock). suc (min high (l .high)))
+      (keep-in (covers p) (b .member) (covers-in p (b .lock) (b .under))) in
       omega (arith, greatest-ge p i, b .under .upto)
 
 -- the search: every point of low.. below p is under a lock
@@ -121,7 +129,8 @@ module _ (ls : List Lock) (low high : ℕ) where
             absurd (f (omega (arith, firstFree-top ls low high)) (firstFree-run ls low high p (i .from) g))
         go (inr a) (inl b) =
             let g = ltb-true (firstFree ls low high) p b in
-            absurd (firstFree-is ls low high (omega (arith, i .top)) (i .run (firstFree ls low high) (firstFree-low ls low high (omega (arith, i .from, i .top))) g))
+            absurd (firstFree-is ls low high (omega (arith, i .top))
+            (i .run (firstFree ls low high) (firstFree-low ls low high (omega (arith, i .from, i .top))) g))
         go (inr a) (inr b) = omega (arith, ltb-false p (firstFree ls low high) a, ltb-false (firstFree ls low high) p b)
 
     pub run-stop : {q : ℕ} → p ≤ high → q ≡ pastOf ls p high → q ≡ p → p ≡ firstFree ls low high
@@ -139,6 +148,7 @@ pub own-writes : (k : ℕ) (ls : List Lock) → writes (own k ls) ≡ keep (owns
 unfolding writes own
 own-writes k ls = keep-keep isWrite (isOwned k) ls
 
-pub write-any : (k : ℕ) (ls : List Lock) (p : ℕ) → any (λ l. ownsWrite k l && covers p l) ls ≡ covered (writes (own k ls)) p
+pub write-any : (k : ℕ) (ls : List Lock) (p : ℕ)
+    → any (λ l. ownsWrite k l && covers p l) ls ≡ covered (writes (own k ls)) p
 unfolding covered
 write-any k ls p = sym (ap (any (covers p)) (own-writes k ls) ∙ any-keep (covers p) (ownsWrite k) ls)

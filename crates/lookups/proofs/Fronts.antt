@@ -1,4 +1,5 @@
--- The first accesses of a slot: how they grow by one, and what a test of all of them says of the front. Rests on the walks of `chains`.
+-- The first accesses of a slot: how they grow by one, and what a test of all of them says of the front. Rests on the
+-- walks of `chains`.
 use Prim.Native.Nat.{ℕ, zero, suc, _+_, _-_, _≤_}
 use mathlib.Core.Path.{_≡_, refl, sym, ap, _∙_}
 use mathlib.Core.Bool.{Bool, true, false}
@@ -26,7 +27,8 @@ append-nil (x ∷ xs) = ap (λ z. x ∷ z) (append-nil xs)
 module _ {A : Type 0} (p : A → Bool) where
   pub all-front : (xs ys : List A) → all p (xs ++ ys) ≡ true → all p xs ≡ true
   all-front [] ys e = refl
-  all-front (x ∷ xs) ys e = and-in (and-left (p x) (all p (xs ++ ys)) e) (all-front xs ys (and-right (p x) (all p (xs ++ ys)) e))
+  all-front (x ∷ xs) ys e =
+      and-in (and-left (p x) (all p (xs ++ ys)) e) (all-front xs ys (and-right (p x) (all p (xs ++ ys)) e))
 
   pub all-last : (xs : List A) (y : A) → all p (xs ++ (y ∷ [])) ≡ true → p y ≡ true
   all-last [] y e = and-left (p y) true e
@@ -63,7 +65,8 @@ module _ {nx : ℕ → ℕ} {n : ℕ} where
               let s : j + 1 + g ≡ j + suc g = omega arith in
               ap (λ y. rows nx n y h₀) s ∙ i .split (suc g)
               ∙ ap (λ z. rows nx n j h₀ ++ z) (here g ∙ ap (λ y. cur ∷ rows nx n g y) (sym x))
-              ∙ sym (ap (λ z. z ++ rows nx n g h′) met-next ∙ append-assoc (rows nx n j h₀) (cur ∷ []) (rows nx n g h′));
+              ∙ sym
+              (ap (λ z. z ++ rows nx n g h′) met-next ∙ append-assoc (rows nx n j h₀) (cur ∷ []) (rows nx n g h′));
         }
 
 -- the same of the accesses of slot k
@@ -75,30 +78,38 @@ module _ (c : Counts) (w : List ℕ) (k : ℕ) where
   unfolding firstAccesses front accessTable rows
   first-none = refl
 
-  pub next-access : {j cur : ℕ} {a : Access} → MetAccesses j cur → IsRow (c .accesses) cur → a ≡ accessAt c w cur → Next c w k j a
+  pub next-access : {j cur : ℕ} {a : Access} → MetAccesses j cur → IsRow (c .accesses) cur → a ≡ accessAt c w cur
+      → Next c w k j a
   unfolding firstAccesses front accessTable
   next-access {j} {cur} i row x =
       record {
         joined =
             ap (map (accessAt c w)) (met-next i row)
-            ∙ map-append (accessAt c w) (rows (link (accessTable c) w) (c .accesses) j (headOf (accessHeads c) w k)) (cur ∷ [])
-            ∙ ap (λ y. map (accessAt c w) (rows (link (accessTable c) w) (c .accesses) j (headOf (accessHeads c) w k)) ++ (y ∷ [])) (sym x);
+            ∙ map-append (accessAt c w) (rows (link (accessTable c) w) (c .accesses) j (headOf (accessHeads c) w k))
+            (cur ∷ [])
+            ∙ ap (λ y. map (accessAt c w) (rows (link (accessTable c) w) (c .accesses) j (headOf (accessHeads c) w k))
+            ++ (y ∷ []))
+            (sym x);
       }
 
   -- the accesses are those met and those ahead
   pub accesses-split : (left : ℕ) {j cur : ℕ} → MetAccesses j cur → j + left ≡ c .accesses
-      → slotAt c w k .accesses ≡ firstAccesses c w k j ++ map (accessAt c w) (rows (link (accessTable c) w) (c .accesses) left cur)
+      → slotAt c w k .accesses
+      ≡ firstAccesses c w k j ++ map (accessAt c w) (rows (link (accessTable c) w) (c .accesses) left cur)
   unfolding firstAccesses front accessTable slotAt accessesOf accessRows rowsOf chain
   accesses-split left {j} {cur} i s =
       ap (λ y. map (accessAt c w) (rows (link (accessTable c) w) (c .accesses) y (headOf (accessHeads c) w k))) (sym s)
       ∙ ap (map (accessAt c w)) (i .split left)
-      ∙ map-append (accessAt c w) (rows (link (accessTable c) w) (c .accesses) j (headOf (accessHeads c) w k)) (rows (link (accessTable c) w) (c .accesses) left cur)
+      ∙ map-append (accessAt c w) (rows (link (accessTable c) w) (c .accesses) j (headOf (accessHeads c) w k))
+      (rows (link (accessTable c) w) (c .accesses) left cur)
 
-  pub accesses-all : (left : ℕ) {j cur : ℕ} {q : Bool} → MetAccesses j cur → j + left ≡ c .accesses → q ≡ more (c .accesses) left cur → q ≡ false
+  pub accesses-all : (left : ℕ) {j cur : ℕ} {q : Bool} → MetAccesses j cur → j + left ≡ c .accesses
+      → q ≡ more (c .accesses) left cur → q ≡ false
       → slotAt c w k .accesses ≡ firstAccesses c w k j
   accesses-all left {j} {cur} i s d e =
       accesses-split left i s
-      ∙ ap (λ y. firstAccesses c w k j ++ map (accessAt c w) y) (stop (link (accessTable c) w) (c .accesses) left cur d e .row)
+      ∙ ap (λ y. firstAccesses c w k j ++ map (accessAt c w) y)
+      (stop (link (accessTable c) w) (c .accesses) left cur d e .row)
       ∙ append-nil (firstAccesses c w k j)
 
   -- all accesses from those of a shorter walk
@@ -120,5 +131,6 @@ module _ {A : Type 0} (p : A → Bool) (g : ℕ → A) (nx : ℕ → ℕ) (n : �
           → (all p (map g (rows nx n f (nx h))) ≡ true → all p (map g (rows nx n j (nx h))) ≡ true)
           → all p (map g (elim b [ true ↦ h ∷ rows nx n j (nx h) | false ↦ [] ])) ≡ true
       go true e ih =
-          and-in (and-left (p (g h)) (all p (map g (rows nx n f (nx h)))) e) (ih (and-right (p (g h)) (all p (map g (rows nx n f (nx h)))) e))
+          and-in (and-left (p (g h)) (all p (map g (rows nx n f (nx h)))) e)
+          (ih (and-right (p (g h)) (all p (map g (rows nx n f (nx h)))) e))
       go false e ih = refl

@@ -1,5 +1,5 @@
--- The least point at or above a point that one access allows, and the greatest at or below it. Rests on CommonSet and Spans of the crate
--- `meaning`.
+-- The least point at or above a point that one access allows, and the greatest at or below it. Rests on CommonSet and
+-- Spans of the crate `meaning`.
 use Prim.Native.Nat.{ℕ, suc, _-_, _≤_, _<_, min, max}
 use mathlib.Core.Path.{_≡_, refl, sym, ap}
 use mathlib.Core.Logic.{_⊎_, inl, inr}
@@ -13,12 +13,14 @@ use Rattle.meaning.specs.Points.{own, writes, firstFree, ownOn, allows}
 use Rattle.meaning.specs.Store.{Rec, hasRead}
 use Rattle.meaning.specs.declared.Lock.{Lock}
 use Rattle.meaning.specs.declared.Access.{Access}
-use Rattle.meaning.proofs.Lists.{not-both, keep-in, keep-out, least-default, least-le, least-out, greatest-ge, greatest-out}
+use Rattle.meaning.proofs.Lists.{not-both, keep-in, keep-out, least-default, least-le, least-out, greatest-ge}
+use Rattle.meaning.proofs.Lists.{greatest-out}
 use Rattle.meaning.proofs.Tests.{Covered}
 use Rattle.meaning.proofs.Spans.{firstFree-top, firstFree-low}
 use Rattle.meaning.proofs.CommonSet.{Parts, parts-out, parts-in}
 use Rattle.lookups.specs.Search.{ownsWrite}
-use Rattle.lookups.specs.Commit.{LeastFrom, GreatestTo, readEnd, startsAfter, firstUnder, endsBefore, lastUnder, upFrom, downFrom}
+use Rattle.lookups.specs.Commit.{LeastFrom, GreatestTo, readEnd, startsAfter, firstUnder, endsBefore, lastUnder}
+use Rattle.lookups.specs.Commit.{upFrom, downFrom}
 use Rattle.lookups.proofs.Extremes.{valued}
 use Rattle.lookups.proofs.Free.{own-writes}
 
@@ -42,7 +44,12 @@ module _ (ls : List Lock) (low : ℕ) where
       go (inr m) =
           let w = Memᴰ·of-map (λ (l : Lock). max low (l .low)) (keep (startsAfter low) ls) m in
           let k = keep-out (startsAfter low) ls (w .1) in
-          inr (record { lock = w .0; member = k .0; fits = leb-true (max low (w .0 .low)) (min LAST (w .0 .high)) (k .1); starting = w .2 })
+          inr (record {
+            lock = w .0;
+            member = k .0;
+            fits = leb-true (max low (w .0 .low)) (min LAST (w .0 .high)) (k .1);
+            starting = w .2;
+          })
 
   firstUnder-top : firstUnder ls low ≤ suc LAST
   unfolding firstUnder
@@ -61,14 +68,20 @@ module _ (ls : List Lock) (low : ℕ) where
       go : (firstUnder ls low ≡ suc LAST) ⊎ Start → Covered ls (firstUnder ls low)
       go (inl e) = absurd (omega arith)
       go (inr w) =
-          record { lock = w .lock; member = w .member; under = record { from = omega (arith, w .starting); upto = omega (arith, w .starting, w .fits) } }
+          record {
+            lock = w .lock;
+            member = w .member;
+            under = record { from = omega (arith, w .starting); upto = omega (arith, w .starting, w .fits) };
+          }
 
   firstUnder-least : (x : ℕ) → low ≤ x → x < firstUnder ls low → Covered ls x → ⊥
   unfolding firstUnder
   firstUnder-least x h g b =
       let t = firstUnder-top in
-      let s : startsAfter low (b .lock) ≡ true = le-leb (max low (b .lock .low)) (min LAST (b .lock .high)) (omega (arith, b .under .from, b .under .upto)) in
-      let i : max low (b .lock .low) ∈ starts = Memᴰ·map (λ (l : Lock). max low (l .low)) (keep-in (startsAfter low) (b .member) s) in
+      let s : startsAfter low (b .lock) ≡ true =
+      le-leb (max low (b .lock .low)) (min LAST (b .lock .high)) (omega (arith, b .under .from, b .under .upto)) in
+      let i : max low (b .lock .low) ∈ starts =
+      Memᴰ·map (λ (l : Lock). max low (l .low)) (keep-in (startsAfter low) (b .member) s) in
       omega (arith, b .under .from, least-le (suc LAST) i)
 
 -- the greatest
@@ -91,7 +104,12 @@ module _ (ls : List Lock) (high : ℕ) where
       go (inr m) =
           let w = Memᴰ·of-map (λ (l : Lock). min high (l .high)) (keep (endsBefore high) ls) m in
           let k = keep-out (endsBefore high) ls (w .1) in
-          inr (record { lock = w .0; member = k .0; fits = leb-true (w .0 .low) (min high (w .0 .high)) (k .1); ending = w .2 })
+          inr (record {
+            lock = w .0;
+            member = k .0;
+            fits = leb-true (w .0 .low) (min high (w .0 .high)) (k .1);
+            ending = w .2;
+          })
 
   lastUnder-high : lastUnder ls high ≤ high
   lastUnder-high = go end-out
@@ -106,25 +124,36 @@ module _ (ls : List Lock) (high : ℕ) where
       go : (lastUnder ls high ≡ 0) ⊎ End → Covered ls (lastUnder ls high)
       go (inl e) = absurd (omega arith)
       go (inr w) =
-          record { lock = w .lock; member = w .member; under = record { from = omega (arith, w .ending, w .fits); upto = omega (arith, w .ending) } }
+          record {
+            lock = w .lock;
+            member = w .member;
+            under = record { from = omega (arith, w .ending, w .fits); upto = omega (arith, w .ending) };
+          }
 
   lastUnder-greatest : (x : ℕ) → lastUnder ls high < x → x ≤ high → Covered ls x → ⊥
   unfolding lastUnder
   lastUnder-greatest x g h b =
-      let s : endsBefore high (b .lock) ≡ true = le-leb (b .lock .low) (min high (b .lock .high)) (omega (arith, b .under .from, b .under .upto)) in
-      let i : min high (b .lock .high) ∈ ends = Memᴰ·map (λ (l : Lock). min high (l .high)) (keep-in (endsBefore high) (b .member) s) in
+      let s : endsBefore high (b .lock) ≡ true =
+      le-leb (b .lock .low) (min high (b .lock .high)) (omega (arith, b .under .from, b .under .upto)) in
+      let i : min high (b .lock .high) ∈ ends =
+      Memᴰ·map (λ (l : Lock). min high (l .high)) (keep-in (endsBefore high) (b .member) s) in
       omega (arith, b .under .upto, greatest-ge 0 i)
 
 -- over the write locks of slot k, as the code walks them
 pub first-under-own : (k low : ℕ) (ls : List Lock)
-    → least (suc LAST) (valued (startsAfter low) (ownsWrite k) (λ (l : Lock). max low (l .low)) ls) ≡ firstUnder (writes (own k ls)) low
+    → least (suc LAST) (valued (startsAfter low) (ownsWrite k) (λ (l : Lock). max low (l .low)) ls)
+    ≡ firstUnder (writes (own k ls)) low
 unfolding firstUnder
-first-under-own k low ls = ap (λ ys. least (suc LAST) (map (λ (l : Lock). max low (l .low)) (keep (startsAfter low) ys))) (sym (own-writes k ls))
+first-under-own k low ls =
+    ap (λ ys. least (suc LAST) (map (λ (l : Lock). max low (l .low)) (keep (startsAfter low) ys)))
+    (sym (own-writes k ls))
 
 pub last-under-own : (k high : ℕ) (ls : List Lock)
-    → greatest 0 (valued (endsBefore high) (ownsWrite k) (λ (l : Lock). min high (l .high)) ls) ≡ lastUnder (writes (own k ls)) high
+    → greatest 0 (valued (endsBefore high) (ownsWrite k) (λ (l : Lock). min high (l .high)) ls)
+    ≡ lastUnder (writes (own k ls)) high
 unfolding lastUnder
-last-under-own k high ls = ap (λ ys. greatest 0 (map (λ (l : Lock). min high (l .high)) (keep (endsBefore high) ys))) (sym (own-writes k ls))
+last-under-own k high ls =
+    ap (λ ys. greatest 0 (map (λ (l : Lock). min high (l .high)) (keep (endsBefore high) ys))) (sym (own-writes k ls))
 
 -- the end of what was read
 module _ (ls : List Lock) (a : Access) where
@@ -249,7 +278,8 @@ module _ (rs : List Rec) (k p : ℕ) (a : Access) where
           least = λ x f g e. let w = parts e in omega (arith, w .from);
         }
 
-    module _ (late : low ≤ LAST) {end q : ℕ} (d : end ≡ readEnd (ownOn rs k a) a) (u : q ≡ upFrom (ownOn rs k a) a low) where
+    module _ (late : low ≤ LAST) {end q : ℕ} (d : end ≡ readEnd (ownOn rs k a) a)
+        (u : q ≡ upFrom (ownOn rs k a) a low) where
       none : (x : ℕ) → p ≤ x → x < q → allows rs k x a ≡ true → ⊥
       none x f g e = let w = parts e in up-none (ownOn rs k a) a low u x (omega (arith, w .from)) g w
 
@@ -279,9 +309,14 @@ module _ (rs : List Rec) (k p : ℕ) (a : Access) where
   -- downwards; the end of what was read is above high
   pub before-none : p < a .from → GreatestTo (λ x. allows rs k x a) p 0
   before-none h =
-      record { upto = omega arith; inside = λ g. absurd (omega arith); greatest = λ x f g e. let w = parts e in omega (arith, w .from) }
+      record {
+        upto = omega arith;
+        inside = λ g. absurd (omega arith);
+        greatest = λ x f g e. let w = parts e in omega (arith, w .from);
+      }
 
-  module _ (last : p ≤ LAST) (late : a .from ≤ p) {end high q : ℕ} (d : end ≡ readEnd (ownOn rs k a) a) (m : high ≡ min p (end - 1)) (u : q ≡ downFrom (ownOn rs k a) a high) where
+  module _ (last : p ≤ LAST) (late : a .from ≤ p) {end high q : ℕ} (d : end ≡ readEnd (ownOn rs k a) a)
+      (m : high ≡ min p (end - 1)) (u : q ≡ downFrom (ownOn rs k a) a high) where
     gone : 1 ≤ end → (x : ℕ) → q < x → x ≤ p → allows rs k x a ≡ true → ⊥
     gone s x f g e =
         let w = parts e in

@@ -1,4 +1,5 @@
--- Room left: every row is on exactly one chain, so the rows in use and the free ones make the table. Rests on the partition laws of `chains`.
+-- Room left: every row is on exactly one chain, so the rows in use and the free ones make the table. Rests on the
+-- partition laws of `chains`.
 use Prim.Native.Nat.{ℕ, zero, suc, _+_, _-_, _≤_, min}
 use mathlib.Core.Path.{_≡_, refl, sym, ap, _∙_}
 use mathlib.Core.Logic.{_⊎_, inl, inr}
@@ -25,7 +26,8 @@ use Rattle.meaning.specs.Outcomes.{lockRoom, accessRoom, versionRoom}
 use Rattle.meaning.specs.declared.Counts.{Counts}
 use Rattle.meaning.proofs.Lists.{test}
 use Rattle.tables.specs.Layout.{lockTable, lockHeads, versionTable, versionHeads, accessTable, accessHeads}
-use Rattle.tables.specs.Decode.{versionAt, lockAt, accessAt, versionRows, lockRows, accessRows, versionsOf, locksOf, accessesOf, recordAt, slotAt, recordsOf, editsOf, decodeAt}
+use Rattle.tables.specs.Decode.{versionAt, lockAt, accessAt, versionRows, lockRows, accessRows, versionsOf, locksOf}
+use Rattle.tables.specs.Decode.{accessesOf, recordAt, slotAt, recordsOf, editsOf, decodeAt}
 use Rattle.tables.proofs.Builds.{sum-head, total-build}
 use Rattle.tables.proofs.Decoded.{edit-at}
 use Rattle.tables.proofs.Loops.{accesses-start}
@@ -44,7 +46,8 @@ module _ (nx : ℕ → ℕ) (n : ℕ) where
     where
       go : (b : Bool) → elim b [ true ↦ ends nx n f (nx h) | false ↦ eqb h 0 ] ≡ true
           → (ends nx n f (nx h) ≡ true → length (rows nx n m (nx h)) ≡ min m (length (rows nx n f (nx h))))
-          → length {A = ℕ} (elim b [ true ↦ h ∷ rows nx n m (nx h) | false ↦ [] ]) ≡ min (suc m) (length {A = ℕ} (elim b [ true ↦ h ∷ rows nx n f (nx h) | false ↦ [] ]))
+          → length {A = ℕ} (elim b [ true ↦ h ∷ rows nx n m (nx h) | false ↦ [] ])
+          ≡ min (suc m) (length {A = ℕ} (elim b [ true ↦ h ∷ rows nx n f (nx h) | false ↦ [] ]))
       go true x ih = omega (arith, ih x)
       go false x ih = omega arith
 
@@ -56,9 +59,14 @@ pub record Counting (nx : ℕ → ℕ) (n h₀ most cur left : ℕ) : Type 0 whe
 pub counting-start : (nx : ℕ → ℕ) (n most head : ℕ) → Counting nx n head most head most
 counting-start nx n most head = record { fuel = omega arith; long = omega arith }
 
-module _ {nx : ℕ → ℕ} {n h₀ most cur left : ℕ} (i : Counting nx n h₀ most cur left) {q : Bool} (d : q ≡ more n left cur) where
+module _ {nx : ℕ → ℕ} {n h₀ most cur left : ℕ} (i : Counting nx n h₀ most cur left) {q : Bool}
+    (d : q ≡ more n left cur) where
   pub counting-on : {h′ : ℕ} → q ≡ true → 1 ≤ left → h′ ≡ nx cur → Counting nx n h₀ most h′ (left - 1)
-  counting-on e f x = rw x (record { fuel = omega (arith, i .fuel); long = omega (arith, i .fuel, i .long, ap length (step nx n left cur d e .row)) })
+  counting-on e f x =
+      rw x (record {
+        fuel = omega (arith, i .fuel);
+        long = omega (arith, i .fuel, i .long, ap length (step nx n left cur d e .row));
+      })
 
   counting-done : q ≡ false → length (rows nx n most h₀) ≡ most - left
   counting-done e = omega (arith, i .long, ap length (stop nx n left cur d e .row))
@@ -72,7 +80,8 @@ module _ (t : Table) (h : Heads) (w : List ℕ) (p : partition t h w ≡ true) w
   free-ends : endedOf t h w 0 ≡ true
   free-ends = rep-rows t h w (rep-of t h w p) 0 (omega arith) .1
 
-  counting-here : {most cur left : ℕ} {q : Bool} → Counting (link t w) (t .count) (headOf h w 0) most cur left → q ≡ more (t .count) left cur → q ≡ false
+  counting-here : {most cur left : ℕ} {q : Bool} → Counting (link t w) (t .count) (headOf h w 0) most cur left
+      → q ≡ more (t .count) left cur → q ≡ false
       → eqb left 0 ≡ leb (used t h w + most) (t .count)
   unfolding rowsOf chain endedOf ended
   counting-here {most} {cur} {left} i d e =
@@ -84,10 +93,13 @@ module _ (t : Table) (h : Heads) (w : List ℕ) (p : partition t h w ≡ true) w
           → length (rows (link t w) (t .count) most (headOf h w 0)) ≡ most - left
           → (eqb left 0 ≡ true) ⊎ (eqb left 0 ≡ false)
           → eqb left 0 ≡ leb (used t h w + most) (t .count)
-      go f g (inl z) = z ∙ sym (le-leb (used t h w + most) (t .count) (omega (arith, used-free, eqb-true left 0 z, i .fuel)))
-      go f g (inr z) = z ∙ sym (lt-leb (used t h w + most) (t .count) (omega (arith, used-free, eqb-false left 0 z, i .fuel)))
+      go f g (inl z) =
+          z ∙ sym (le-leb (used t h w + most) (t .count) (omega (arith, used-free, eqb-true left 0 z, i .fuel)))
+      go f g (inr z) =
+          z ∙ sym (lt-leb (used t h w + most) (t .count) (omega (arith, used-free, eqb-false left 0 z, i .fuel)))
 
-  pub counting-says : {head most cur left : ℕ} {q : Bool} → head ≡ headOf h w 0 → Counting (link t w) (t .count) head most cur left → q ≡ more (t .count) left cur → q ≡ false
+  pub counting-says : {head most cur left : ℕ} {q : Bool} → head ≡ headOf h w 0
+      → Counting (link t w) (t .count) head most cur left → q ≡ more (t .count) left cur → q ≡ false
       → eqb left 0 ≡ leb (used t h w + most) (t .count)
   counting-says x i d e = counting-here (rw x at i) d e
 
@@ -97,19 +109,22 @@ module _ (c : Counts) (w : List ℕ) where
   unfolding locksUsed decodeAt recordsOf used lockHeads recordAt locksOf lockRows
   locks-used =
       total-build (c .records) (recordAt c w) (λ x. length (x .locks))
-      ∙ sum-ext (λ r. length (map (lockAt c w) (lockRows c w r))) (λ r. length (lockRows c w r)) (c .records) (λ r l. length-map (lockRows c w r) (lockAt c w))
+      ∙ sum-ext (λ r. length (map (lockAt c w) (lockRows c w r))) (λ r. length (lockRows c w r)) (c .records)
+      (λ r l. length-map (lockRows c w r) (lockAt c w))
 
   versions-used : versionsUsed (decodeAt c w) ≡ used (versionTable c) (versionHeads c) w
   unfolding versionsUsed decodeAt recordsOf used versionHeads recordAt versionsOf versionRows
   versions-used =
       total-build (c .records) (recordAt c w) (λ x. length (x .versions))
-      ∙ sum-ext (λ r. length (map (versionAt c w) (versionRows c w r))) (λ r. length (versionRows c w r)) (c .records) (λ r l. length-map (versionRows c w r) (versionAt c w))
+      ∙ sum-ext (λ r. length (map (versionAt c w) (versionRows c w r))) (λ r. length (versionRows c w r)) (c .records)
+      (λ r l. length-map (versionRows c w r) (versionAt c w))
 
   accesses-used : accessesUsed (decodeAt c w) ≡ used (accessTable c) (accessHeads c) w
   unfolding accessesUsed decodeAt editsOf used accessHeads slotAt accessesOf accessRows
   accesses-used =
       total-build (c .edits) (λ i. slotAt c w (suc i)) (λ e. length (e .accesses))
-      ∙ sum-ext (λ i. length (map (accessAt c w) (accessRows c w (suc i)))) (λ i. length (accessRows c w (suc i))) (c .edits) (λ i l. length-map (accessRows c w (suc i)) (accessAt c w))
+      ∙ sum-ext (λ i. length (map (accessAt c w) (accessRows c w (suc i)))) (λ i. length (accessRows c w (suc i)))
+      (c .edits) (λ i l. length-map (accessRows c w (suc i)) (accessAt c w))
 
   less-one : (a b : ℕ) → leb (a + 1) b ≡ ltb a b
   less-one a b = go (test (ltb a b))
@@ -118,67 +133,86 @@ module _ (c : Counts) (w : List ℕ) where
       go (inl e) = le-leb (a + 1) b (omega (arith, ltb-true a b e)) ∙ sym e
       go (inr e) = lt-leb (a + 1) b (omega (arith, ltb-false a b e)) ∙ sym e
 
-  lock-sized : ltb (used (lockTable c) (lockHeads c) w) (lockTable c .count) ≡ ltb (locksUsed (decodeAt c w)) (decodeAt c w .lockRows)
+  lock-sized : ltb (used (lockTable c) (lockHeads c) w) (lockTable c .count)
+      ≡ ltb (locksUsed (decodeAt c w)) (decodeAt c w .lockRows)
   unfolding lockTable decodeAt
   lock-sized = ap (λ n. ltb n (c .locks)) (sym locks-used)
 
-  pub lock-room-is : {q : Bool} → q ≡ leb (used (lockTable c) (lockHeads c) w + 1) (lockTable c .count) → q ≡ lockRoom (decodeAt c w)
+  pub lock-room-is : {q : Bool} → q ≡ leb (used (lockTable c) (lockHeads c) w + 1) (lockTable c .count)
+      → q ≡ lockRoom (decodeAt c w)
   unfolding lockRoom
   lock-room-is d = d ∙ less-one (used (lockTable c) (lockHeads c) w) (lockTable c .count) ∙ lock-sized
 
-  version-sized : (m : ℕ) → leb (used (versionTable c) (versionHeads c) w + m) (versionTable c .count) ≡ leb (versionsUsed (decodeAt c w) + m) (decodeAt c w .versionRows)
+  version-sized : (m : ℕ)
+      → leb (used (versionTable c) (versionHeads c) w + m) (versionTable c .count)
+      ≡ leb (versionsUsed (decodeAt c w) + m) (decodeAt c w .versionRows)
   unfolding versionTable decodeAt
   version-sized m = ap (λ n. leb (n + m) (c .versions)) (sym versions-used)
 
   pub version-room-is : {q : Bool} {m : ℕ} (k : ℕ) → IsRow (c .edits) k → m ≡ length (writtenOf (slotAt c w k))
-      → q ≡ leb (used (versionTable c) (versionHeads c) w + m) (versionTable c .count) → q ≡ versionRoom (decodeAt c w) k
+      → q ≡ leb (used (versionTable c) (versionHeads c) w + m) (versionTable c .count)
+      → q ≡ versionRoom (decodeAt c w) k
   unfolding versionRoom
   version-room-is {q} {m} k l e d = d ∙ version-sized m ∙ rw (edit-at c w k l, ← e) refl
 
   -- i is the row of slot k's access of record r
-  access-sized : leb (used (accessTable c) (accessHeads c) w + 1) (accessTable c .count) ≡ ltb (accessesUsed (decodeAt c w)) (decodeAt c w .accessRows)
+  access-sized : leb (used (accessTable c) (accessHeads c) w + 1) (accessTable c .count)
+      ≡ ltb (accessesUsed (decodeAt c w)) (decodeAt c w .accessRows)
   unfolding accessTable decodeAt
-  access-sized = less-one (used (accessTable c) (accessHeads c) w) (c .accesses) ∙ ap (λ n. ltb n (c .accesses)) (sym accesses-used)
+  access-sized =
+      less-one (used (accessTable c) (accessHeads c) w) (c .accesses)
+      ∙ ap (λ n. ltb n (c .accesses)) (sym accesses-used)
 
-  module _ (k r : ℕ) (l : IsRow (c .edits) k) {i : ℕ} (d : i ≡ firstOf (λ j. isOf r (accessAt c w j)) (accessRows c w k)) where
+  module _ (k r : ℕ) (l : IsRow (c .edits) k) {i : ℕ}
+      (d : i ≡ firstOf (λ j. isOf r (accessAt c w j)) (accessRows c w k)) where
     named-yes : (i ≡ 0 → ⊥) → names (slotAt c w k) r ≡ true
     unfolding names slotAt accessesOf
     named-yes n = first-some (isOf r) (accessAt c w) (accessRows c w k) (λ z. n (d ∙ z))
 
     named-no : i ≡ 0 → names (slotAt c w k) r ≡ false
     unfolding names slotAt accessesOf accessRows rowsOf chain accessTable
-    named-no z = first-zero (isOf r) (accessAt c w) (link (accessTable c) w) (c .accesses) (c .accesses) (headOf (accessHeads c) w k) (sym d ∙ z)
+    named-no z =
+        first-zero (isOf r) (accessAt c w) (link (accessTable c) w) (c .accesses) (c .accesses)
+        (headOf (accessHeads c) w k) (sym d ∙ z)
 
     pub access-room-named : (i ≡ 0 → ⊥) → true ≡ accessRoom (decodeAt c w) k r
     unfolding accessRoom
     access-room-named n = rw (edit-at c w k l, named-yes n) refl
 
-    pub access-room-is : {q : Bool} → i ≡ 0 → q ≡ leb (used (accessTable c) (accessHeads c) w + 1) (accessTable c .count) → q ≡ accessRoom (decodeAt c w) k r
+    pub access-room-is : {q : Bool} → i ≡ 0
+        → q ≡ leb (used (accessTable c) (accessHeads c) w + 1) (accessTable c .count)
+        → q ≡ accessRoom (decodeAt c w) k r
     unfolding accessRoom
     access-room-is z e = rw (edit-at c w k l, named-no z) (e ∙ access-sized)
 
 -- Counting the entries that pass
-count-turn : {A : Type 0} (b : Bool) (m : ℕ) (x : A) (ys : List A) → m + length (cond b (x ∷ ys) ys) ≡ cond b (suc m) m + length ys
+count-turn : {A : Type 0} (b : Bool) (m : ℕ) (x : A) (ys : List A)
+    → m + length (cond b (x ∷ ys) ys) ≡ cond b (suc m) m + length ys
 count-turn true m x ys = omega arith
 count-turn false m x ys = refl
 
 module _ {A : Type 0} (p : A → Bool) (g : ℕ → A) {nx : ℕ → ℕ} {n : ℕ} {answer : ℕ} where
-  pub count-on : (m : ℕ) {m′ h f h′ : ℕ} {q : Bool} {l : A} → Walk nx n (λ rs. m + length (keep p (map g rs))) answer h f → q ≡ more n f h → q ≡ true
-      → m′ ≡ cond (p l) (suc m) m → l ≡ g h → h′ ≡ nx h → Walk nx n (λ rs. m′ + length (keep p (map g rs))) answer h′ (f - 1)
+  pub count-on : (m : ℕ) {m′ h f h′ : ℕ} {q : Bool} {l : A}
+      → Walk nx n (λ rs. m + length (keep p (map g rs))) answer h f → q ≡ more n f h → q ≡ true
+      → m′ ≡ cond (p l) (suc m) m → l ≡ g h → h′ ≡ nx h
+      → Walk nx n (λ rs. m′ + length (keep p (map g rs))) answer h′ (f - 1)
   count-on m {m′} {h} {f} i d e k x y =
       let ys : List A = keep p (map g (rows nx n (f - 1) (nx h))) in
       walk-again i d (λ rs. m′ + length (keep p (map g rs))) e
       (count-turn (p (g h)) m (g h) ys ∙ ap (λ z. z + length ys) (sym (k ∙ ap (λ z. cond (p z) (suc m) m) x))) y
 
-  pub count-done : {m h f : ℕ} {q : Bool} → Walk nx n (λ rs. m + length (keep p (map g rs))) answer h f → q ≡ more n f h → q ≡ false → m ≡ answer
+  pub count-done : {m h f : ℕ} {q : Bool} → Walk nx n (λ rs. m + length (keep p (map g rs))) answer h f → q ≡ more n f h
+      → q ≡ false → m ≡ answer
   count-done {m} i d e = let z : m + 0 ≡ m = omega arith in walk-end i d e z
 
 pub count-start : (c : Counts) (w : List ℕ) {head : ℕ} (k : ℕ) → head ≡ headOf (accessHeads c) w k
-    → Walk (link (accessTable c) w) (c .accesses) (λ rs. 0 + length (keep (λ a. a .written) (map (accessAt c w) rs))) (length (writtenOf (slotAt c w k))) head (c .accesses)
+    → Walk (link (accessTable c) w) (c .accesses) (λ rs. 0 + length (keep (λ a. a .written) (map (accessAt c w) rs)))
+    (length (writtenOf (slotAt c w k))) head (c .accesses)
 count-start c w {head} k e =
     let s = accesses-start c w k (λ xs. length (keep (λ a. a .written) xs)) e in
     record { same = omega (arith, s .same) }
 
-pub count-bound : (b : Bool) (m left : ℕ) {m′ n : ℕ} → m′ ≡ cond b (suc m) m → m + left ≤ n → 1 ≤ left → m′ + (left - 1) ≤ n
+pub count-bound : (b : Bool) (m left : ℕ) {m′ n : ℕ} → m′ ≡ cond b (suc m) m → m + left ≤ n → 1 ≤ left
+    → m′ + (left - 1) ≤ n
 count-bound true m left e l f = omega arith
 count-bound false m left e l f = omega arith

@@ -1,4 +1,5 @@
--- The search for the latest point, access by access, as Lifts does it upwards. Rests on Fronts and on CommonEnds of the crate `meaning`.
+-- The search for the latest point, access by access, as Lifts does it upwards. Rests on Fronts and on CommonEnds of the
+-- crate `meaning`.
 use Prim.Native.Nat.{ℕ, _+_, _-_, _≤_, _<_}
 use mathlib.Core.Path.{_≡_, refl, ap}
 use mathlib.Core.Logic.{_⊎_, inl, inr}
@@ -24,7 +25,8 @@ use Rattle.tables.specs.Layout.{accessTable, accessHeads}
 use Rattle.tables.specs.Decode.{accessAt, slotAt, recordsOf}
 use Rattle.lookups.specs.Commit.{GreatestTo, Lowered, firstAccesses, Next}
 use Rattle.lookups.proofs.Common.{Named}
-use Rattle.lookups.proofs.Fronts.{all-front, all-last, all-snoc, MetAccesses, met-start, met-on, first-none, accesses-all, front-of-all}
+use Rattle.lookups.proofs.Fronts.{all-front, all-last, all-snoc, MetAccesses, met-start, met-on, first-none}
+use Rattle.lookups.proofs.Fronts.{accesses-all, front-of-all}
 
 -- One pass: q so far, with the accesses xs of which those in rest are still to be asked
 pub record Lowering (allow : ℕ → Access → Bool) (xs rest : List Access) (p q : ℕ) : Type 0 where
@@ -35,9 +37,11 @@ pub record Lowering (allow : ℕ → Access → Bool) (xs rest : List Access) (p
 
 module _ {allow : ℕ → Access → Bool} {xs : List Access} {p : ℕ} where
   lowering-start : Lowering allow xs xs p p
-  lowering-start = record { upto = omega arith; ahead = λ x e. e; passed = λ x f g. absurd (omega arith); still = λ e l r. r }
+  lowering-start =
+      record { upto = omega arith; ahead = λ x e. e; passed = λ x f g. absurd (omega arith); still = λ e l r. r }
 
-  lowering-on : {a : Access} {rest : List Access} {q y : ℕ} → Lowering allow xs (a ∷ rest) p q → GreatestTo (λ x. allow x a) q y → Lowering allow xs rest p y
+  lowering-on : {a : Access} {rest : List Access} {q y : ℕ} → Lowering allow xs (a ∷ rest) p q
+      → GreatestTo (λ x. allow x a) q y → Lowering allow xs rest p y
   lowering-on {a} {rest} {q} {y} i b =
       record {
         upto = omega (arith, i .upto, b .upto);
@@ -45,7 +49,8 @@ module _ {allow : ℕ → Access → Bool} {xs : List Access} {p : ℕ} where
         passed = λ x f g e. go x f g e (test (ltb q x));
         still = λ e l r.
             let s : q ≡ y = omega (arith, i .upto, b .upto) in
-            rw s at (i .still (omega (arith, i .upto, b .upto)) (omega (arith, b .upto)) (rw s (and-in (b .inside l) r)));
+            rw s at
+            (i .still (omega (arith, i .upto, b .upto)) (omega (arith, b .upto)) (rw s (and-in (b .inside l) r)));
       }
     where
       go : (x : ℕ) → y < x → x ≤ p → all (allow x) xs ≡ true → (ltb q x ≡ true) ⊎ (ltb q x ≡ false) → ⊥
@@ -58,20 +63,28 @@ module _ {allow : ℕ → Access → Bool} {xs : List Access} {p : ℕ} where
 -- as the code walks
 module _ (allow : ℕ → Access → Bool) (c : Counts) (w : List ℕ) where
   pub record Lower (k j p q cur left : ℕ) : Type 0 where
-    pub turn : Lowering allow (firstAccesses c w k j) (map (accessAt c w) (rows (link (accessTable c) w) (c .accesses) left cur)) p q
+    pub turn : Lowering allow (firstAccesses c w k j)
+        (map (accessAt c w) (rows (link (accessTable c) w) (c .accesses) left cur)) p q
 
   pub lower-start : {head : ℕ} (k j p : ℕ) → head ≡ headOf (accessHeads c) w k → Lower k j p p head j
   unfolding firstAccesses front accessTable
   lower-start k j p e = rw e (record { turn = lowering-start })
 
   module _ {k j p q cur left : ℕ} {r : Bool} (i : Lower k j p q cur left) (d : r ≡ more (c .accesses) left cur) where
-    pub lower-on : {a : Access} {y next : ℕ} → r ≡ true → a ≡ accessAt c w cur → GreatestTo (λ x. allow x a) q y → next ≡ link (accessTable c) w cur
+    pub lower-on : {a : Access} {y next : ℕ} → r ≡ true → a ≡ accessAt c w cur → GreatestTo (λ x. allow x a) q y
+        → next ≡ link (accessTable c) w cur
         → Lower k j p y next (left - 1)
     lower-on e x b z =
-        rw z (record { turn = lowering-on (rw (ap (map (accessAt c w)) (step (link (accessTable c) w) (c .accesses) left cur d e .row)) at (i .turn)) (rw x at b) })
+        rw z (record {
+          turn = lowering-on (rw
+              (ap (map (accessAt c w)) (step (link (accessTable c) w) (c .accesses) left cur d e .row)) at (i .turn))
+              (rw x at b);
+        })
 
     pub lower-done : r ≡ false → Lowered (λ x. all (allow x) (firstAccesses c w k j)) p q
-    lower-done e = lowering-done (rw (ap (map (accessAt c w)) (stop (link (accessTable c) w) (c .accesses) left cur d e .row)) at (i .turn))
+    lower-done e =
+        lowering-done
+        (rw (ap (map (accessAt c w)) (stop (link (accessTable c) w) (c .accesses) left cur d e .row)) at (i .turn))
 
 -- Passes until none moves the point
 pub record Sinking (set : ℕ → Bool) (p q : ℕ) : Type 0 where
@@ -135,20 +148,24 @@ module _ (allow : ℕ → Access → Bool) {c : Counts} {w : List ℕ} {k j : �
         greatest = λ x f g t. go x f g t (test (ltb p x)) (test (ltb q x));
       }
     where
-      go : (x : ℕ) → y < x → x ≤ LAST → all (allow x) ys ≡ true → (ltb p x ≡ true) ⊎ (ltb p x ≡ false) → (ltb q x ≡ true) ⊎ (ltb q x ≡ false) → ⊥
+      go : (x : ℕ) → y < x → x ≤ LAST → all (allow x) ys ≡ true → (ltb p x ≡ true) ⊎ (ltb p x ≡ false)
+          → (ltb q x ≡ true) ⊎ (ltb q x ≡ false) → ⊥
       go x f g t (inl u) v = i .greatest x (ltb-true p x u) g (of-front x t)
       go x f g t (inr u) (inl v) = b .greatest x (ltb-true q x v) (ltb-false p x u) (of-last x t)
       go x f g t (inr u) (inr v) = r .greatest x f (ltb-false q x v) t
 
 -- The greatest point that all accesses allow is the latest
-pub is-latest : (rs : List Rec) (k : ℕ) (e : Edit) {p : ℕ} → GreatestTo (λ x. all (allows rs k x) (e .accesses)) LAST p → p ≡ latest rs k e
+pub is-latest : (rs : List Rec) (k : ℕ) (e : Edit) {p : ℕ} → GreatestTo (λ x. all (allows rs k x) (e .accesses)) LAST p
+    → p ≡ latest rs k e
 is-latest rs k e {p} i = go (latest-is-greatest rs k e) (test (leb 1 p))
   where
     greatest-of : GreatestCommon rs k e (latest rs k e) → p ≡ latest rs k e
     greatest-of w =
         let m = common-out rs k e (latest rs k e) (common-set-is rs k e (latest rs k e) .1 (w .common)) in
         let f : latest rs k e ≤ p = above (m .last) (m .each) (test (leb (latest rs k e) p)) in
-        let n = common-in rs k e p (record { least = omega (arith, m .least); last = i .upto; each = i .inside (omega (arith, m .least)) }) in
+        let n =
+        common-in rs k e p
+        (record { least = omega (arith, m .least); last = i .upto; each = i .inside (omega (arith, m .least)) }) in
         omega (arith, w .greatest p (common-set-is rs k e p .0 n))
       where
         above : latest rs k e ≤ LAST → all (allows rs k (latest rs k e)) (e .accesses) ≡ true
@@ -163,7 +180,8 @@ is-latest rs k e {p} i = go (latest-is-greatest rs k e) (test (leb 1 p))
     go (inl w) t = greatest-of w
     go (inr w) (inl t) =
         let l = leb-true 1 p t in
-        absurd (w .1 p (common-set-is rs k e p .0 (common-in rs k e p (record { least = l; last = i .upto; each = i .inside l }))))
+        absurd (w .1 p
+        (common-set-is rs k e p .0 (common-in rs k e p (record { least = l; last = i .upto; each = i .inside l }))))
     go (inr w) (inr t) = omega (arith, leb-false 1 p t, w .0)
 
 -- The search over the accesses of slot k
@@ -175,18 +193,24 @@ pub record Seeking (c : Counts) (w : List ℕ) (k p j cur left : ℕ) : Type 0 w
   pub named : Named c w cur left
 
 module _ (c : Counts) (w : List ℕ) (k : ℕ) where
-  pub seek-start : {head : ℕ} → head ≡ headOf (accessHeads c) w k → Named c w head (c .accesses) → Seeking c w k LAST 0 head (c .accesses)
+  pub seek-start : {head : ℕ} → head ≡ headOf (accessHeads c) w k → Named c w head (c .accesses)
+      → Seeking c w k LAST 0 head (c .accesses)
   seek-start {head} e n =
       record {
         sum = omega arith;
         met = rw e (met-start (headOf (accessHeads c) w k));
         some = omega arith;
-        best = record { upto = omega arith; inside = λ l. rw (first-none c w k) refl; greatest = λ x f g. absurd (omega arith) };
+        best = record {
+          upto = omega arith;
+          inside = λ l. rw (first-none c w k) refl;
+          greatest = λ x f g. absurd (omega arith);
+        };
         named = n;
       }
 
   module _ {p j cur left : ℕ} (i : Seeking c w k p j cur left) {r : Bool} (d : r ≡ more (c .accesses) left cur) where
-    pub seek-on : {q next : ℕ} → r ≡ true → 1 ≤ left → GreatestTo (λ x. all (allows (recordsOf c w) k x) (firstAccesses c w k (j + 1))) LAST q → 1 ≤ q
+    pub seek-on : {q next : ℕ} → r ≡ true → 1 ≤ left
+        → GreatestTo (λ x. all (allows (recordsOf c w) k x) (firstAccesses c w k (j + 1))) LAST q → 1 ≤ q
         → next ≡ link (accessTable c) w cur → Named c w next (left - 1) → Seeking c w k q (j + 1) next (left - 1)
     seek-on e f b l z n =
         record {
@@ -198,14 +222,19 @@ module _ (c : Counts) (w : List ℕ) (k : ℕ) where
         }
 
     -- no point is left: the rest cannot bring one back
-    pub seek-out : {q : ℕ} → r ≡ true → 1 ≤ left → GreatestTo (λ x. all (allows (recordsOf c w) k x) (firstAccesses c w k (j + 1))) LAST q → q < 1
+    pub seek-out : {q : ℕ} → r ≡ true → 1 ≤ left
+        → GreatestTo (λ x. all (allows (recordsOf c w) k x) (firstAccesses c w k (j + 1))) LAST q → q < 1
         → q ≡ latest (recordsOf c w) k (slotAt c w k)
     seek-out {q} e f b l =
         is-latest (recordsOf c w) k (slotAt c w k) (record {
           upto = b .upto;
           inside = λ g. absurd (omega arith);
-          greatest = λ x g h t. b .greatest x g h (front-of-all c w k (allows (recordsOf c w) k x) (left - 1) (met-on (i .met) (row-of (c .accesses) left cur d e) refl) (omega (arith, i .sum)) t);
+          greatest =
+              λ x g h t. b .greatest x g h
+              (front-of-all c w k (allows (recordsOf c w) k x) (left - 1)
+              (met-on (i .met) (row-of (c .accesses) left cur d e) refl) (omega (arith, i .sum)) t);
         })
 
     pub seek-done : r ≡ false → p ≡ latest (recordsOf c w) k (slotAt c w k)
-    seek-done e = is-latest (recordsOf c w) k (slotAt c w k) (rw (accesses-all c w k left (i .met) (i .sum) d e) (i .best))
+    seek-done e =
+        is-latest (recordsOf c w) k (slotAt c w k) (rw (accesses-all c w k left (i .met) (i .sum) d e) (i .best))

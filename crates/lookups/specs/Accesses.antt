@@ -1,4 +1,5 @@
--- What the row of an access tells, for the edit whose row it is: one walk along the edit's accesses serves a call. Rests on Decode of `tables`.
+-- What the row of an access tells, for the edit whose row it is: one walk along the edit's accesses serves a call.
+-- Rests on Decode of `tables`.
 use Prim.Native.Nat.{ℕ}
 use mathlib.Core.Path.{_≡_}
 use mathlib.Core.Bool.{Bool}

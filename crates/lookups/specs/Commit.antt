@@ -1,5 +1,6 @@
--- The search for the commit point, access by access: the least point of a set at or above a point, the greatest at or below it, and the steps
--- that lead there. A set of points is given by its test. Rests on Search and on Decode of the crate `tables`.
+-- The search for the commit point, access by access: the least point of a set at or above a point, the greatest at or
+-- below it, and the steps that lead there. A set of points is given by its test. Rests on Search and on Decode of the
+-- crate `tables`.
 use Prim.Native.Nat.{ℕ, suc, _+_, _≤_, _<_, min, max}
 use mathlib.Core.Path.{_≡_}
 use mathlib.Core.Bool.{Bool, true, cond, _&&_}

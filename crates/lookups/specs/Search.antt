@@ -1,5 +1,5 @@
--- Searches over a record's locks, as the code makes them: which locks a search is about, own ones or those that block, and what one walk of
--- them finds. Rests on Points of the crate `meaning`.
+-- Searches over a record's locks, as the code makes them: which locks a search is about, own ones or those that block,
+-- and what one walk of them finds. Rests on Points of the crate `meaning`.
 use Prim.Native.Nat.{ℕ, suc, min, max}
 use mathlib.Core.Bool.{Bool, cond, _&&_}
 use mathlib.Core.List.{List, [], _∷_, map}
@@ -22,7 +22,8 @@ counted mine mode k ls = keep (counts mine mode k) ls
 abbrev pub ownsWrite : ℕ → Lock → Bool
 ownsWrite k l = isOwned k l && isWrite l
 
--- just after the locks that cover p, or p: how far one walk of the locks gets from p in the search for a free point up to high
+-- just after the locks that cover p, or p: how far one walk of the locks gets from p in the search for a free point up
+-- to high
 abbrev pub endsAt : ℕ → ℕ → List Lock → List ℕ
 endsAt p high ls = map (λ l. suc (min high (l .high))) (keep (covers p) ls)
 

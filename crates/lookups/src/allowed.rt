@@ -100,7 +100,10 @@ pub fn allows(w: &[u64], c: Counts, k: usize, p: u64, a: Access) -> bool
 }
 
 fn all_allow(w: &[u64], c: Counts, k: usize, p: u64) -> bool
-    requires { ⌜ Fits c (now w) × IsRow (c .edits) k × (namesExisting (recordsOf c (now w)) (slotAt c (now w) k) ≡ true) × (p ≤ LAST) ⌝ }
+    requires { ⌜
+        Fits c (now w) × IsRow (c .edits) k × (namesExisting (recordsOf c (now w)) (slotAt c (now w) k) ≡ true)
+        × (p ≤ LAST)
+        ⌝ }
     ensures { λ q. ⌜ q ≡ all (allows (recordsOf c (now (w .entry))) k p) (slotAt c (now (w .entry)) k .accesses) ⌝ }
 {
     let n = c.accesses;
@@ -118,7 +121,9 @@ fn all_allow(w: &[u64], c: Counts, k: usize, p: u64) -> bool
 }
 
 pub fn in_common(w: &[u64], c: Counts, k: usize, p: u64) -> bool
-    requires { ⌜ Fits c (now w) × IsRow (c .edits) k × (namesExisting (recordsOf c (now w)) (slotAt c (now w) k) ≡ true) ⌝ }
+    requires { ⌜
+        Fits c (now w) × IsRow (c .edits) k × (namesExisting (recordsOf c (now w)) (slotAt c (now w) k) ≡ true)
+        ⌝ }
     ensures { λ q. ⌜ q ≡ inCommon (recordsOf c (now (w .entry))) k (slotAt c (now (w .entry)) k) p ⌝ }
 {
     if p < LOWEST {

@@ -5,8 +5,8 @@
 // on any words. They also serve the soundness check.
 //
 // This file has the names; `edits`, `accesses` and `versions` look one up, `points` has the points of a record under
-// its locks, `allowed` the common set of an edit, `lifting` and `sinking` its earliest and latest point, `free_rows` the
-// room for changes.
+// its locks, `allowed` the common set of an edit, `lifting` and `sinking` its earliest and latest point, `free_rows`
+// the room for changes.
 mod accesses;
 mod allowed;
 mod edits;

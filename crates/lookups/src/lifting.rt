@@ -79,8 +79,13 @@ fn next_allowed(w: &[u64], c: Counts, k: usize, p: u64, a: Access) -> u64
 
 // One pass over the first j accesses.
 fn raise(w: &[u64], c: Counts, k: usize, p: u64, j: usize) -> u64
-    requires { ⌜ Fits c (now w) × IsRow (c .edits) k × (namesExisting (recordsOf c (now w)) (slotAt c (now w) k) ≡ true) × (p ≤ suc LAST) × (j ≤ c .accesses) ⌝ }
-    ensures { λ q. ⌜ Lifted (λ x. all (allows (recordsOf c (now (w .entry))) k x) (firstAccesses c (now (w .entry)) k j)) p q ⌝ }
+    requires { ⌜
+        Fits c (now w) × IsRow (c .edits) k × (namesExisting (recordsOf c (now w)) (slotAt c (now w) k) ≡ true)
+        × (p ≤ suc LAST) × (j ≤ c .accesses)
+        ⌝ }
+    ensures { λ q. ⌜
+        Lifted (λ x. all (allows (recordsOf c (now (w .entry))) k x) (firstAccesses c (now (w .entry)) k j)) p q
+        ⌝ }
 {
     let n = c.accesses;
     let mut q = p;
@@ -96,8 +101,13 @@ fn raise(w: &[u64], c: Counts, k: usize, p: u64, j: usize) -> u64
 
 // The least point at or above p that the first j accesses allow, or LAST + 1.
 fn lift(w: &[u64], c: Counts, k: usize, p: u64, j: usize) -> u64
-    requires { ⌜ Fits c (now w) × IsRow (c .edits) k × (namesExisting (recordsOf c (now w)) (slotAt c (now w) k) ≡ true) × (p ≤ suc LAST) × (j ≤ c .accesses) ⌝ }
-    ensures { λ q. ⌜ LeastFrom (λ x. all (allows (recordsOf c (now (w .entry))) k x) (firstAccesses c (now (w .entry)) k j)) p q ⌝ }
+    requires { ⌜
+        Fits c (now w) × IsRow (c .edits) k × (namesExisting (recordsOf c (now w)) (slotAt c (now w) k) ≡ true)
+        × (p ≤ suc LAST) × (j ≤ c .accesses)
+        ⌝ }
+    ensures { λ q. ⌜
+        LeastFrom (λ x. all (allows (recordsOf c (now (w .entry))) k x) (firstAccesses c (now (w .entry)) k j)) p q
+        ⌝ }
 {
     let mut q = p;
     while q <= LAST {
@@ -112,8 +122,15 @@ fn lift(w: &[u64], c: Counts, k: usize, p: u64, j: usize) -> u64
 
 // From the least point p that the first j accesses allow to that of one more, a.
 fn lift_next(w: &[u64], c: Counts, k: usize, p: u64, j: usize, a: Access) -> u64
-    requires { ⌜ Fits c (now w) × IsRow (c .edits) k × (namesExisting (recordsOf c (now w)) (slotAt c (now w) k) ≡ true) × (a .rec < c .records) × (p ≤ LAST) × (j < c .accesses) × Next c (now w) k j a × LeastFrom (λ x. all (allows (recordsOf c (now w)) k x) (firstAccesses c (now w) k j)) 1 p ⌝ }
-    ensures { λ q. ⌜ LeastFrom (λ x. all (allows (recordsOf c (now (w .entry))) k x) (firstAccesses c (now (w .entry)) k (j + 1))) 1 q ⌝ }
+    requires { ⌜
+        Fits c (now w) × IsRow (c .edits) k × (namesExisting (recordsOf c (now w)) (slotAt c (now w) k) ≡ true)
+        × (a .rec < c .records) × (p ≤ LAST) × (j < c .accesses) × Next c (now w) k j a
+        × LeastFrom (λ x. all (allows (recordsOf c (now w)) k x) (firstAccesses c (now w) k j)) 1 p
+        ⌝ }
+    ensures { λ q. ⌜
+        LeastFrom (λ x. all (allows (recordsOf c (now (w .entry))) k x) (firstAccesses c (now (w .entry)) k (j + 1))) 1
+        q
+        ⌝ }
 {
     let q = next_allowed(w, c, k, p, a);
     if q == p {
@@ -123,7 +140,9 @@ fn lift_next(w: &[u64], c: Counts, k: usize, p: u64, j: usize, a: Access) -> u64
 }
 
 pub fn earliest(w: &[u64], c: Counts, k: usize) -> u64
-    requires { ⌜ Fits c (now w) × IsRow (c .edits) k × (namesExisting (recordsOf c (now w)) (slotAt c (now w) k) ≡ true) ⌝ }
+    requires { ⌜
+        Fits c (now w) × IsRow (c .edits) k × (namesExisting (recordsOf c (now w)) (slotAt c (now w) k) ≡ true)
+        ⌝ }
     ensures { λ q. ⌜ q ≡ earliest (recordsOf c (now (w .entry))) k (slotAt c (now (w .entry)) k) ⌝ }
 {
     let n = c.accesses;

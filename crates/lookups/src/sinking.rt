@@ -79,8 +79,13 @@ fn previous_allowed(w: &[u64], c: Counts, k: usize, p: u64, a: Access) -> u64
 
 // One pass over the first j accesses.
 fn lower(w: &[u64], c: Counts, k: usize, p: u64, j: usize) -> u64
-    requires { ⌜ Fits c (now w) × IsRow (c .edits) k × (namesExisting (recordsOf c (now w)) (slotAt c (now w) k) ≡ true) × (p ≤ LAST) × (j ≤ c .accesses) ⌝ }
-    ensures { λ q. ⌜ Lowered (λ x. all (allows (recordsOf c (now (w .entry))) k x) (firstAccesses c (now (w .entry)) k j)) p q ⌝ }
+    requires { ⌜
+        Fits c (now w) × IsRow (c .edits) k × (namesExisting (recordsOf c (now w)) (slotAt c (now w) k) ≡ true)
+        × (p ≤ LAST) × (j ≤ c .accesses)
+        ⌝ }
+    ensures { λ q. ⌜
+        Lowered (λ x. all (allows (recordsOf c (now (w .entry))) k x) (firstAccesses c (now (w .entry)) k j)) p q
+        ⌝ }
 {
     let n = c.accesses;
     let mut q = p;
@@ -96,8 +101,13 @@ fn lower(w: &[u64], c: Counts, k: usize, p: u64, j: usize) -> u64
 
 // The greatest point at or below p that the first j accesses allow, or 0.
 fn sink(w: &[u64], c: Counts, k: usize, p: u64, j: usize) -> u64
-    requires { ⌜ Fits c (now w) × IsRow (c .edits) k × (namesExisting (recordsOf c (now w)) (slotAt c (now w) k) ≡ true) × (p ≤ LAST) × (j ≤ c .accesses) ⌝ }
-    ensures { λ q. ⌜ GreatestTo (λ x. all (allows (recordsOf c (now (w .entry))) k x) (firstAccesses c (now (w .entry)) k j)) p q ⌝ }
+    requires { ⌜
+        Fits c (now w) × IsRow (c .edits) k × (namesExisting (recordsOf c (now w)) (slotAt c (now w) k) ≡ true)
+        × (p ≤ LAST) × (j ≤ c .accesses)
+        ⌝ }
+    ensures { λ q. ⌜
+        GreatestTo (λ x. all (allows (recordsOf c (now (w .entry))) k x) (firstAccesses c (now (w .entry)) k j)) p q
+        ⌝ }
 {
     let mut q = p;
     while LOWEST <= q {
@@ -112,8 +122,15 @@ fn sink(w: &[u64], c: Counts, k: usize, p: u64, j: usize) -> u64
 
 // From the greatest point p that the first j accesses allow to that of one more, a.
 fn sink_next(w: &[u64], c: Counts, k: usize, p: u64, j: usize, a: Access) -> u64
-    requires { ⌜ Fits c (now w) × IsRow (c .edits) k × (namesExisting (recordsOf c (now w)) (slotAt c (now w) k) ≡ true) × (a .rec < c .records) × (1 ≤ p) × (j < c .accesses) × Next c (now w) k j a × GreatestTo (λ x. all (allows (recordsOf c (now w)) k x) (firstAccesses c (now w) k j)) LAST p ⌝ }
-    ensures { λ q. ⌜ GreatestTo (λ x. all (allows (recordsOf c (now (w .entry))) k x) (firstAccesses c (now (w .entry)) k (j + 1))) LAST q ⌝ }
+    requires { ⌜
+        Fits c (now w) × IsRow (c .edits) k × (namesExisting (recordsOf c (now w)) (slotAt c (now w) k) ≡ true)
+        × (a .rec < c .records) × (1 ≤ p) × (j < c .accesses) × Next c (now w) k j a
+        × GreatestTo (λ x. all (allows (recordsOf c (now w)) k x) (firstAccesses c (now w) k j)) LAST p
+        ⌝ }
+    ensures { λ q. ⌜
+        GreatestTo (λ x. all (allows (recordsOf c (now (w .entry))) k x) (firstAccesses c (now (w .entry)) k (j + 1)))
+        LAST q
+        ⌝ }
 {
     let q = previous_allowed(w, c, k, p, a);
     if q == p {
@@ -123,7 +140,9 @@ fn sink_next(w: &[u64], c: Counts, k: usize, p: u64, j: usize, a: Access) -> u64
 }
 
 pub fn latest(w: &[u64], c: Counts, k: usize) -> u64
-    requires { ⌜ Fits c (now w) × IsRow (c .edits) k × (namesExisting (recordsOf c (now w)) (slotAt c (now w) k) ≡ true) ⌝ }
+    requires { ⌜
+        Fits c (now w) × IsRow (c .edits) k × (namesExisting (recordsOf c (now w)) (slotAt c (now w) k) ≡ true)
+        ⌝ }
     ensures { λ q. ⌜ q ≡ latest (recordsOf c (now (w .entry))) k (slotAt c (now (w .entry)) k) ⌝ }
 {
     let n = c.accesses;

@@ -72,16 +72,20 @@ module _ (c : Counts) (w : List ℕ) (r v : ℕ) (W : Well c w) (here : r < c .r
     floor-is = ef ∙ ap (λ (y : Rec). y .floor) (sym (rec-at c w r here))
 
     pub at-floor : v ≤ f → Makes c (purgeTo s r v) w w (purged 0 0)
-    at-floor l = makes-done c w (purgeTo s r v) w s (purged 0 0) W refl (PurgeExits.purge-at-floor s r v (rw floor-is at l)) refl
+    at-floor l =
+        makes-done c w (purgeTo s r v) w s (purged 0 0) W refl (PurgeExits.purge-at-floor s r v (rw floor-is at l)) refl
 
     module _ (l : f < v) (q : Bool) (eq : q ≡ lockedBelow v (recordAt c w r .locks)) where
       locked-is : (b : Bool) → q ≡ b → lockedBelow v (x .locks) ≡ b
       locked-is b z = rw (rec-at c w r here) (sym eq ∙ z)
 
       pub locked : q ≡ true → Makes c (purgeTo s r v) w w (refusing 15 [])
-      locked z = makes-refused c w (purgeTo s r v) 15 [] W (PurgeExits.purge-locked s r v (rw floor-is at l) (locked-is true z))
+      locked z =
+          makes-refused c w (purgeTo s r v) 15 [] W
+          (PurgeExits.purge-locked s r v (rw floor-is at l) (locked-is true z))
 
-      pub unlocked : q ≡ false → (w′ : List ℕ) (t : Reply) → Makes c (purgeAll s r v) w w′ t → Makes c (purgeTo s r v) w w′ t
+      pub unlocked : q ≡ false → (w′ : List ℕ) (t : Reply) → Makes c (purgeAll s r v) w w′ t
+          → Makes c (purgeTo s r v) w w′ t
       unlocked z w′ t M = makes-as c w (PurgeExits.purge-done s r v (rw floor-is at l) (locked-is false z)) M
 
 -- the newest version at or below p is not above p
@@ -96,18 +100,22 @@ newest-below vs p = go (find-out (λ v. leb (v .point) p) first vs)
     go (inr z) = leb-true (find (λ v. leb (v .point) p) first vs .point) p (z .1)
 
 -- the call
-module _ (w : List ℕ) (c : Counts) (P : soundWords (lent w) ≡ true) (E : c ≡ countsOf w) (rec : ℕ) (q : Bool) (eq : q ≡ ltb rec (c .records)) where
+module _ (w : List ℕ) (c : Counts) (P : soundWords (lent w) ≡ true) (E : c ≡ countsOf w) (rec : ℕ) (q : Bool)
+    (eq : q ≡ ltb rec (c .records)) where
   has-is : (b : Bool) → q ≡ b → hasRecord (decodeAt c w) rec ≡ b
   unfolding hasRecord
   has-is b z = rw (records-count c w) (sym eq ∙ z)
 
   pub purge-refused : (b : ℕ) → q ≡ false → Acts (purging rec b) (lent w) (lent w) (refusing 5 [])
-  purge-refused b z = acts-refused (purging rec b) (purge-keeps rec b) w c P E 5 (PurgeExits.purge-no-record (decodeAt c w) rec b (has-is false z))
+  purge-refused b z =
+      acts-refused (purging rec b) (purge-keeps rec b) w c P E 5
+      (PurgeExits.purge-no-record (decodeAt c w) rec b (has-is false z))
 
   module _ (z : q ≡ true) (b p : ℕ) (ep : p ≡ b) where
     pub purge-bad-point : LAST < p → Acts (purging rec b) (lent w) (lent w) (refusing 6 [])
     purge-bad-point l =
-        acts-refused (purging rec b) (purge-keeps rec b) w c P E 6 (PurgeExits.purge-bad-point (decodeAt c w) rec b (has-is true z) (rw ep at l))
+        acts-refused (purging rec b) (purge-keeps rec b) w c P E 6
+        (PurgeExits.purge-bad-point (decodeAt c w) rec b (has-is true z) (rw ep at l))
 
     module _ (l : p ≤ LAST) (r : ℕ) (er : r ≡ rec) where
       pub purge-row : r < c .records
@@ -115,13 +123,21 @@ module _ (w : List ℕ) (c : Counts) (P : soundWords (lent w) ≡ true) (E : c �
 
       module _ (v : Version) (ev : v ≡ newestAt (recordAt c w r .versions) p) where
         pub purge-needs : Well c w × (r < c .records) × (v .point ≤ LAST)
-        purge-needs = (ready w P c E .well, purge-row, omega (arith, ap (λ (y : Version). y .point) ev, newest-below (recordAt c w r .versions) p))
+        purge-needs = (
+          ready w P c E .well,
+          purge-row,
+          omega (arith, ap (λ (y : Version). y .point) ev, newest-below (recordAt c w r .versions) p),
+        )
 
         newest-is : v .point ≡ newestAt (recAt (decodeAt c w) rec .versions) b .point
         newest-is =
-            ap (λ (y : Version). y .point) ev ∙ rw (er, ep) (ap (λ (y : Rec). newestAt (y .versions) b .point) (sym (rec-at c w rec (rw er at purge-row))))
+            ap (λ (y : Version). y .point) ev
+            ∙ rw (er, ep)
+            (ap (λ (y : Rec). newestAt (y .versions) b .point) (sym (rec-at c w rec (rw er at purge-row))))
 
-        pub purge-acts : (w′ : List ℕ) (t : Reply) → Makes c (purgeTo (decodeAt c w) r (v .point)) w w′ t → Acts (purging rec b) (lent w) (lent w′) t
+        pub purge-acts : (w′ : List ℕ) (t : Reply) → Makes c (purgeTo (decodeAt c w) r (v .point)) w w′ t
+            → Acts (purging rec b) (lent w) (lent w′) t
         purge-acts w′ t M =
             acts (purging rec b) (purge-keeps rec b) c w w′ t P E
-            (makes-as c w (PurgeExits.purge-passes (decodeAt c w) rec b (has-is true z) (rw ep at l)) (rw (er, newest-is) at M))
+            (makes-as c w (PurgeExits.purge-passes (decodeAt c w) rec b (has-is true z) (rw ep at l))
+            (rw (er, newest-is) at M))

@@ -24,11 +24,16 @@ module _ (s : Store) (r b : ℕ) where
 
   pub purge-bad-point : hasRecord s r ≡ true → LAST < b → purging r b s ≡ replies s (refusing 6 [])
   unfolding purging purgeChecks
-  purge-bad-point e l = needs-holds s rest (hasRecord s r) 5 (needs (leb b LAST) 6 pass) e ∙ needs-fails s rest (leb b LAST) 6 pass (lt-leb b LAST l)
+  purge-bad-point e l =
+      needs-holds s rest (hasRecord s r) 5 (needs (leb b LAST) 6 pass) e
+      ∙ needs-fails s rest (leb b LAST) 6 pass (lt-leb b LAST l)
 
-  pub purge-passes : hasRecord s r ≡ true → b ≤ LAST → purging r b s ≡ purgeTo s r (newestAt (recAt s r .versions) b .point)
+  pub purge-passes : hasRecord s r ≡ true → b ≤ LAST
+      → purging r b s ≡ purgeTo s r (newestAt (recAt s r .versions) b .point)
   unfolding purging purgeChecks
-  purge-passes e l = needs-holds s rest (hasRecord s r) 5 (needs (leb b LAST) 6 pass) e ∙ needs-holds s rest (leb b LAST) 6 pass (le-leb b LAST l)
+  purge-passes e l =
+      needs-holds s rest (hasRecord s r) 5 (needs (leb b LAST) 6 pass) e
+      ∙ needs-holds s rest (leb b LAST) 6 pass (le-leb b LAST l)
 
 module _ (s : Store) (r v : ℕ) where
   abbrev x : Rec

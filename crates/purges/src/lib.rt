@@ -1,5 +1,6 @@
-// Purge on sound words: equal to its definition in the crate `meaning`, and leaving sound words. For callers who prove the words sound
-// (`requires soundWords`), as the calls of `calls` and `endings`. It goes along one record's versions and locks.
+// Purge on sound words: equal to its definition in the crate `meaning`, and leaving sound words. For callers who prove
+// the words sound (`requires soundWords`), as the calls of `calls` and `endings`. It goes along one record's versions
+// and locks.
 ghost use mathlib.Core.Path.{_≡_};
 ghost use mathlib.Core.Bool.{true, not, _&&_};
 ghost use Prim.Native.Nat.{_≤_, _<_};
@@ -51,7 +52,9 @@ fn locked_below(w: &[u64], c: Counts, r: usize, v: u64) -> bool
 // Versions are cut, locks trimmed and the floor set, with no lock in the way.
 fn purge_record(w: &mut [u64], c: Counts, r: usize, v: u64) -> PurgeReply
     requires { ⌜ Well c (now w) × (r < c .records) × (v ≤ LAST) ⌝ }
-    ensures { λ q. ⌜ Makes c (purgeAll (decodeAt c (now (w .entry))) r v) (now (w .entry)) (now (w .exit)) (ofPurge q) ⌝ }
+    ensures { λ q. ⌜
+        Makes c (purgeAll (decodeAt c (now (w .entry))) r v) (now (w .entry)) (now (w .exit)) (ofPurge q)
+        ⌝ }
 {
     let versions = changes::cut_versions(w, c, r, v);
     let locks = changes::trim_locks(w, c, r, v);
@@ -61,7 +64,9 @@ fn purge_record(w: &mut [u64], c: Counts, r: usize, v: u64) -> PurgeReply
 
 fn purge_to(w: &mut [u64], c: Counts, r: usize, v: u64) -> PurgeReply
     requires { ⌜ Well c (now w) × (r < c .records) × (v ≤ LAST) ⌝ }
-    ensures { λ q. ⌜ Makes c (purgeTo (decodeAt c (now (w .entry))) r v) (now (w .entry)) (now (w .exit)) (ofPurge q) ⌝ }
+    ensures { λ q. ⌜
+        Makes c (purgeTo (decodeAt c (now (w .entry))) r v) (now (w .entry)) (now (w .exit)) (ofPurge q)
+        ⌝ }
 {
     let floor = tables::floor_of(w, c, r);
     if v <= floor {

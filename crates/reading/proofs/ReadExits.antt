@@ -9,8 +9,10 @@ use Rattle.meaning.specs.Limits.{READ, SLOTS}
 use Rattle.meaning.specs.Store.{Store, slotOf, editAt, recAt, accessOf, hasRead, versionOn}
 use Rattle.meaning.specs.Points.{firstBlocked}
 use Rattle.meaning.specs.Replies.{read, own, again, refusing}
-use Rattle.meaning.specs.Outcomes.{Outcome, replies, Verdict, pass, refuse, orElse, needs, unless, knows, isOpen, hasRecord, isPoint, judge, accessRoom, lockRoom}
-use Rattle.meaning.specs.Locking.{readVersion, readFrom, readEnd, readGranted, readVerdict, readStore, readNew, readOpen, readChecks, reading}
+use Rattle.meaning.specs.Outcomes.{Outcome, replies, Verdict, pass, refuse, orElse, needs, unless, knows, isOpen}
+use Rattle.meaning.specs.Outcomes.{hasRecord, isPoint, judge, accessRoom, lockRoom}
+use Rattle.meaning.specs.Locking.{readVersion, readFrom, readEnd, readGranted, readVerdict, readStore, readNew}
+use Rattle.meaning.specs.Locking.{readOpen, readChecks, reading}
 use Rattle.meaning.specs.declared.Version.{Version}
 use Rattle.meaning.specs.declared.Access.{Access}
 use Rattle.meaning.specs.declared.Extent.{Extent}
@@ -38,14 +40,17 @@ module _ (s : Store) (h r m : ℕ) (w : Extent) where
   unfolding reading readChecks
   read-ended e f = edit-ended s read-next h read-rest e f
 
-  pub read-no-record : knows s h ≡ true → isOpen s h ≡ true → hasRecord s r ≡ false → reading h r m w s ≡ replies s (refusing 5 [])
+  pub read-no-record : knows s h ≡ true → isOpen s h ≡ true → hasRecord s r ≡ false
+      → reading h r m w s ≡ replies s (refusing 5 [])
   unfolding reading readChecks
-  read-no-record e f g = edit-open s read-next h read-rest e f ∙ needs-fails s read-next (hasRecord s r) 5 (needs (isPoint m) 6 pass) g
+  read-no-record e f g =
+      edit-open s read-next h read-rest e f ∙ needs-fails s read-next (hasRecord s r) 5 (needs (isPoint m) 6 pass) g
 
   module _ (e : knows s h ≡ true) (f : isOpen s h ≡ true) (g : hasRecord s r ≡ true) where
     read-edit : reading h r m w s ≡ unless s (needs (isPoint m) 6 pass) read-next
     unfolding reading readChecks
-    read-edit = edit-open s read-next h read-rest e f ∙ needs-holds s read-next (hasRecord s r) 5 (needs (isPoint m) 6 pass) g
+    read-edit =
+        edit-open s read-next h read-rest e f ∙ needs-holds s read-next (hasRecord s r) 5 (needs (isPoint m) 6 pass) g
 
     pub read-bad-point : isPoint m ≡ false → reading h r m w s ≡ replies s (refusing 6 [])
     read-bad-point o = read-edit ∙ needs-fails s read-next (isPoint m) 6 pass o
@@ -81,7 +86,8 @@ module _ (s : Store) (k r m : ℕ) (w : Extent) where
 
   abbrev read-made : Outcome
   read-made =
-      replies (readStore s k r (readFrom s r m) (readEnd s k r m w)) (read (readVersion s r m .point) (readEnd s k r m w) (readVersion s r m .value))
+      replies (readStore s k r (readFrom s r m) (readEnd s k r m w))
+      (read (readVersion s r m .point) (readEnd s k r m w) (readVersion s r m .value))
 
   abbrev read-rooms : Verdict
   read-rooms = needs (accessRoom s k r) 10 (needs (lockRoom s) 11 pass)
@@ -122,7 +128,9 @@ module _ (s : Store) (k r m : ℕ) (w : Extent) where
         let v = readVersion s r m in
         read-above
         ∙ else-holds s read-made read-granted (judge s r READ k read-blocked-at) read-rooms (g .0)
-        ∙ ap (λ (x : ℕ). unless s read-rooms (replies (readStore s k r x (readEnd s k r m w)) (read (v .point) (readEnd s k r m w) (v .value)))) (g .1)
+        ∙ ap (λ (x : ℕ). unless s read-rooms
+        (replies (readStore s k r x (readEnd s k r m w)) (read (v .point) (readEnd s k r m w) (v .value))))
+        (g .1)
         ∙ ap (λ (x : ℕ). unless s read-rooms (replies (readStore s k r from x) (read (v .point) x (v .value)))) (g .2)
 
 module _ (s : Store) (k r from end : ℕ) (v : Version) where
@@ -136,8 +144,12 @@ module _ (s : Store) (k r from end : ℕ) (v : Version) where
   module _ (e : accessRoom s k r ≡ true) where
     pub read-no-lock : lockRoom s ≡ false → readTaken s k r from end v ≡ replies s (refusing 11 [])
     unfolding readTaken
-    read-no-lock f = needs-holds s taken-end (accessRoom s k r) 10 (needs (lockRoom s) 11 pass) e ∙ needs-fails s taken-end (lockRoom s) 11 pass f
+    read-no-lock f =
+        needs-holds s taken-end (accessRoom s k r) 10 (needs (lockRoom s) 11 pass) e
+        ∙ needs-fails s taken-end (lockRoom s) 11 pass f
 
     pub read-done : lockRoom s ≡ true → readTaken s k r from end v ≡ taken-end
     unfolding readTaken
-    read-done f = needs-holds s taken-end (accessRoom s k r) 10 (needs (lockRoom s) 11 pass) e ∙ needs-holds s taken-end (lockRoom s) 11 pass f
+    read-done f =
+        needs-holds s taken-end (accessRoom s k r) 10 (needs (lockRoom s) 11 pass) e
+        ∙ needs-holds s taken-end (lockRoom s) 11 pass f

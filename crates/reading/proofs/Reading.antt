@@ -41,15 +41,22 @@ use Rattle.reading.proofs.ReadExits.{read-blocked, read-granted-is, rea
 
 -- the lock and the access of a read, of the version v
 module _ (c : Counts) (w : List ℕ) (R : Ready c w) (k r from end : ℕ) (v : Version) where
-  pub taken-no-access : accessRoom (decodeAt c w) k r ≡ false → Makes c (readTaken (decodeAt c w) k r from end v) w w (refusing 10 [])
-  taken-no-access e = makes-refused c w (readTaken (decodeAt c w) k r from end v) 10 [] (R .well) (read-no-access (decodeAt c w) k r from end v e)
+  pub taken-no-access : accessRoom (decodeAt c w) k r ≡ false
+      → Makes c (readTaken (decodeAt c w) k r from end v) w w (refusing 10 [])
+  taken-no-access e =
+      makes-refused c w (readTaken (decodeAt c w) k r from end v) 10 [] (R .well)
+      (read-no-access (decodeAt c w) k r from end v e)
 
   module _ (a : accessRoom (decodeAt c w) k r ≡ true) where
-    pub taken-no-lock : lockRoom (decodeAt c w) ≡ false → Makes c (readTaken (decodeAt c w) k r from end v) w w (refusing 11 [])
-    taken-no-lock e = makes-refused c w (readTaken (decodeAt c w) k r from end v) 11 [] (R .well) (read-no-lock (decodeAt c w) k r from end v a e)
+    pub taken-no-lock : lockRoom (decodeAt c w) ≡ false
+        → Makes c (readTaken (decodeAt c w) k r from end v) w w (refusing 11 [])
+    taken-no-lock e =
+        makes-refused c w (readTaken (decodeAt c w) k r from end v) 11 [] (R .well)
+        (read-no-lock (decodeAt c w) k r from end v a e)
 
     module _ (l : lockRoom (decodeAt c w) ≡ true) (w₁ : List ℕ)
-        (B : Becomes c w₁ (onEdit (decodeAt c w) k (λ x. withAccess x (record { rec = r; from = from; written = false; value = 0 })))) where
+        (B : Becomes c w₁ (onEdit (decodeAt c w) k
+        (λ x. withAccess x (record { rec = r; from = from; written = false; value = 0 })))) where
       abbrev changed : Edit
       changed = withAccess (editAt (decodeAt c w) k) (record { rec = r; from = from; written = false; value = 0 })
 
@@ -57,7 +64,8 @@ module _ (c : Counts) (w : List ℕ) (R : Ready c w) (k r from end : ℕ) (v : V
       taken-room = lock-free c w₁ (ap lockRoom (B .means) ∙ edit-leaves-room (decodeAt c w) k changed ∙ l)
 
       pub taken-done : (w′ : List ℕ) (p q : ℕ)
-          → Becomes c w′ (onLocks (decodeAt c w₁) r (addLock (record { low = from; high = end; mode = READ; owner = k })))
+          → Becomes c w′
+          (onLocks (decodeAt c w₁) r (addLock (record { low = from; high = end; mode = READ; owner = k })))
           → p ≡ v .point → q ≡ end → Makes c (readTaken (decodeAt c w) k r from end v) w w′ (read p q (v .value))
       unfolding readStore withLock
       taken-done w′ p q D i j =
@@ -66,11 +74,13 @@ module _ (c : Counts) (w : List ℕ) (R : Ready c w) (k r from end : ℕ) (v : V
           ∙ ap (λ (s : Store). withLock s r READ k from end) (B .means)
           ∙ edit-then-lock (decodeAt c w) k changed r READ k from end in
           rw (i, j)
-          (makes-done c w (readTaken (decodeAt c w) k r from end v) w′ (readStore (decodeAt c w) k r from end) (read (v .point) end (v .value)) (D .well) m
+          (makes-done c w (readTaken (decodeAt c w) k r from end v) w′ (readStore (decodeAt c w) k r from end)
+          (read (v .point) end (v .value)) (D .well) m
           (read-done (decodeAt c w) k r from end v a l) refl)
 
 -- of a record that the edit has neither written nor read
-module _ (c : Counts) (w : List ℕ) (R : Ready c w) (k r m : ℕ) (x : Extent) (l : r < c .records) (floor : ℕ) (f : floor ≡ recordAt c w r .floor) where
+module _ (c : Counts) (w : List ℕ) (R : Ready c w) (k r m : ℕ) (x : Extent) (l : r < c .records) (floor : ℕ)
+    (f : floor ≡ recordAt c w r .floor) where
   here : recAt (decodeAt c w) r ≡ recordAt c w r
   here = rec-at c w r l
 
@@ -115,10 +125,12 @@ module _ (c : Counts) (w : List ℕ) (R : Ready c w) (k r m : ℕ) (x : Extent) 
             makes-refused c w (readNew (decodeAt c w) k r m x) j more (R .well)
             (read-blocked (decodeAt c w) k r m x above b (granted q) j more order u)
 
-      pub new-taken : (from end : ℕ) (w′ : List ℕ) (q : Reply) → g ≡ Taken from end → Makes c (readTaken (decodeAt c w) k r from end v) w w′ q
+      pub new-taken : (from end : ℕ) (w′ : List ℕ) (q : Reply) → g ≡ Taken from end
+          → Makes c (readTaken (decodeAt c w) k r from end v) w w′ q
           → Makes c (readNew (decodeAt c w) k r m x) w w′ q
       new-taken from end w′ q u M =
-          makes-as c w (read-granted-is (decodeAt c w) k r m x above from end (granted u) ∙ ap (readTaken (decodeAt c w) k r from end) (sym version-is)) M
+          makes-as c w (read-granted-is (decodeAt c w) k r m x above from end (granted u)
+          ∙ ap (readTaken (decodeAt c w) k r from end) (sym version-is)) M
 
 -- by the open edit of slot k
 module _ (c : Counts) (w : List ℕ) (R : Ready c w) (k r m : ℕ) (x : Extent) (i : IsRow (c .edits) k) (a : Access)
@@ -132,14 +144,18 @@ module _ (c : Counts) (w : List ℕ) (R : Ready c w) (k r m : ℕ) (x : Extent) 
       (read-own (decodeAt c w) k r m x a access-is f) refl
 
   module _ (f : a .written ≡ false) where
-    pub opened-again : (v : Version) (p : ℕ) → r < c .records → 0 < a .from → v ≡ versionOn (recordAt c w r .versions) (a .from - 1) → p ≡ a .from - 1
+    pub opened-again : (v : Version) (p : ℕ) → r < c .records → 0 < a .from
+        → v ≡ versionOn (recordAt c w r .versions) (a .from - 1) → p ≡ a .from - 1
         → Makes c (readOpen (decodeAt c w) k r m x) w w (again p (v .value))
     opened-again v p l g h q =
         rw q
-        (makes-done c w (readOpen (decodeAt c w) k r m x) w (decodeAt c w) (again (a .from - 1) (v .value)) (R .well) refl
-        (read-again (decodeAt c w) k r m x a access-is v f g (h ∙ ap (λ (y : Rec). versionOn (y .versions) (a .from - 1)) (sym (rec-at c w r l)))) refl)
+        (makes-done c w (readOpen (decodeAt c w) k r m x) w (decodeAt c w) (again (a .from - 1) (v .value)) (R .well)
+        refl
+        (read-again (decodeAt c w) k r m x a access-is v f g
+        (h ∙ ap (λ (y : Rec). versionOn (y .versions) (a .from - 1)) (sym (rec-at c w r l)))) refl)
 
-    pub opened-new : (w′ : List ℕ) (q : Reply) → a .from ≤ 0 → Makes c (readNew (decodeAt c w) k r m x) w w′ q → Makes c (readOpen (decodeAt c w) k r m x) w w′ q
+    pub opened-new : (w′ : List ℕ) (q : Reply) → a .from ≤ 0 → Makes c (readNew (decodeAt c w) k r m x) w w′ q
+        → Makes c (readOpen (decodeAt c w) k r m x) w w′ q
     opened-new w′ q g M = makes-as c w (read-first (decodeAt c w) k r m x a access-is f (omega arith)) M
 
 -- the call: its word n is the point m
@@ -172,10 +188,14 @@ module _ (c : Counts) (w : List ℕ) (hs : soundWords (lent w) ≡ true) (e : c 
       module _ (low : 1 ≤ n) where
         pub reads-too-large : LAST < n → Ends w (refusing 6 [])
         reads-too-large l =
-            refuses 6 (read-bad-point (decodeAt c w) h r m x k o there (rw (le-leb 1 m (omega arith), lt-leb m LAST (omega arith))))
+            refuses 6 (read-bad-point (decodeAt c w) h r m x k o there
+            (rw (le-leb 1 m (omega arith), lt-leb m LAST (omega arith))))
 
-        pub read-acts : n ≤ LAST → (w′ : List ℕ) (q : Reply) (j : ℕ) → j ≡ slotOf h → Makes c (readOpen (decodeAt c w) j r n x) w w′ q → Ends w′ q
+        pub read-acts : n ≤ LAST → (w′ : List ℕ) (q : Reply) (j : ℕ) → j ≡ slotOf h
+            → Makes c (readOpen (decodeAt c w) j r n x) w w′ q → Ends w′ q
         read-acts l w′ q j i M =
             let same : readOpen (decodeAt c w) j r n x ≡ readOpen (decodeAt c w) (slotOf h) r m x = rw (i, a) in
             acts (reading h r m x) (read-keeps h r m x) c w w′ q hs e
-            (makes-as c w (read-passes (decodeAt c w) h r m x k o there (and-in (le-leb 1 m (omega arith)) (le-leb m LAST (omega arith))) ∙ sym same) M)
+            (makes-as c w (read-passes (decodeAt c w) h r m x k o there
+            (and-in (le-leb 1 m (omega arith)) (le-leb m LAST (omega arith)))
+            ∙ sym same) M)

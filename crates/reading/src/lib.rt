@@ -62,7 +62,9 @@ fn read_taken(
     v: Version,
 ) -> ReadReply
     requires { ⌜ Ready c (now w) × IsRow (c .edits) k × (r < c .records) × AccessRow c (now w) k r i ⌝ }
-    ensures { λ q. ⌜ Makes c (readTaken (decodeAt c (now (w .entry))) k r from end v) (now (w .entry)) (now (w .exit)) (ofRead q) ⌝ }
+    ensures { λ q. ⌜
+        Makes c (readTaken (decodeAt c (now (w .entry))) k r from end v) (now (w .entry)) (now (w .exit)) (ofRead q)
+        ⌝ }
 {
     if !lookups::access_room(w, c, i) {
         return ReadReply::Refused(Refusal::NoAccessRow);
@@ -112,7 +114,9 @@ fn read_new(
     extent: Extent,
 ) -> ReadReply
     requires { ⌜ Ready c (now w) × IsRow (c .edits) k × (r < c .records) × (m ≤ LAST) × AccessRow c (now w) k r i ⌝ }
-    ensures { λ q. ⌜ Makes c (readNew (decodeAt c (now (w .entry))) k r m extent) (now (w .entry)) (now (w .exit)) (ofRead q) ⌝ }
+    ensures { λ q. ⌜
+        Makes c (readNew (decodeAt c (now (w .entry))) k r m extent) (now (w .entry)) (now (w .exit)) (ofRead q)
+        ⌝ }
 {
     if m <= tables::floor_of(w, c, r) {
         return ReadReply::Refused(Refusal::BelowFloor);
@@ -127,7 +131,9 @@ fn read_new(
 // Read, once its first tests have passed: an own pending value, the version read before, or a new read.
 fn read_open(w: &mut [u64], c: Counts, k: usize, r: usize, m: u64, extent: Extent) -> ReadReply
     requires { ⌜ Ready c (now w) × IsRow (c .edits) k × (r < c .records) × (m ≤ LAST) ⌝ }
-    ensures { λ q. ⌜ Makes c (readOpen (decodeAt c (now (w .entry))) k r m extent) (now (w .entry)) (now (w .exit)) (ofRead q) ⌝ }
+    ensures { λ q. ⌜
+        Makes c (readOpen (decodeAt c (now (w .entry))) k r m extent) (now (w .entry)) (now (w .exit)) (ofRead q)
+        ⌝ }
 {
     let i = lookups::access_row(w, c, k, r as u64);
     let a = lookups::access_in(w, c, r as u64, i);
@@ -145,7 +151,9 @@ fn read_open(w: &mut [u64], c: Counts, k: usize, r: usize, m: u64, extent: Exten
 // The call Read.
 pub fn read(w: &mut [u64], h: Handle, rec: u64, m: Point, extent: Extent) -> ReadReply
     requires { ⌜ soundWords (lent (now w)) ≡ true ⌝ }
-    ensures { λ r. ⌜ Acts (reading (h .0) rec (m .0) extent) (lent (now (w .entry))) (lent (now (w .exit))) (ofRead r) ⌝ }
+    ensures { λ r. ⌜
+        Acts (reading (h .0) rec (m .0) extent) (lent (now (w .entry))) (lent (now (w .exit))) (ofRead r)
+        ⌝ }
 {
     let c = tables::counts_of(w);
     if !lookups::known(w, c, h) {

@@ -25,7 +25,11 @@ generation-of-requires : tie.Need-generation-of-requires
 generation-of-requires c κs = search needs
 
 cast-make-handle-2 : tie.Need-cast-make-handle-2
-cast-make-handle-2 c = let l = generation-here _ _ _ _ (c .before .before .before .if1 .left) (c .before .if2 .left) (c .generation-of .ensures) (c .before .before .before .before .before .pre .2) in omega arith
+cast-make-handle-2 c =
+    let l =
+    generation-here _ _ _ _ (c .before .before .before .if1 .left) (c .before .if2 .left) (c .generation-of .ensures)
+    (c .before .before .before .before .before .pre .2) in
+    omega arith
 
 cast-make-handle-3 : tie.Need-cast-make-handle-3
 cast-make-handle-3 c = search needs
@@ -34,7 +38,10 @@ make-handle-requires-3 : tie.Need-make-handle-requires-3
 make-handle-requires-3 c κs = search needs
 
 returns-3 : tie.Need-returns-3
-returns-3 c = c .make-handle3 .ensures ∙ handle-here _ _ _ _ (c .before .before .before .before .if1 .left) (c .before .before .if2 .left) (c .before .generation-of .ensures)
+returns-3 c =
+    c .make-handle3 .ensures
+    ∙ handle-here _ _ _ _ (c .before .before .before .before .if1 .left) (c .before .before .if2 .left)
+    (c .before .generation-of .ensures)
 
 pub handle-at-spec : {M : Type 1} → statement M
 handle-at-spec =

@@ -17,19 +17,46 @@ same-length : tie.Need-same-length
 same-length c = search needs
 
 returns : tie.Need-returns
-returns c = let s = c .before .before .before .before .before .before in open-no-room _ _ (s .pre .0) _ _ _ (off (c .before .access-room .ensures (s .args .k) (s .args .rec) (s .pre .1) (c .before .before .before .access-row .ensures)) (c .if1 .taken))
+returns c =
+    let s = c .before .before .before .before .before .before in
+    open-no-room _ _ (s .pre .0) _ _ _
+    (off (c .before .access-room .ensures (s .args .k) (s .args .rec) (s .pre .1)
+    (c .before .before .before .access-row .ensures))
+    (c .if1 .taken))
 
 access-in-requires : tie.Need-access-in-requires
-access-in-requires c κs = let s = c .before .before .before .before .before .before .before in (s .pre .0 .well .fits, access-within _ _ (s .args .k) (s .args .rec) _ (c .before .before .before .before .access-row .ensures))
+access-in-requires c κs =
+    let s = c .before .before .before .before .before .before .before in (
+      s .pre .0 .well .fits,
+      access-within _ _ (s .args .k) (s .args .rec) _ (c .before .before .before .before .access-row .ensures),
+    )
 
 set-access-requires : tie.Need-set-access-requires
-set-access-requires c κs = let s = c .before .before .before .before .before .before .before .before .before in (s .pre .0 .well, s .pre .1, once _ _ (s .pre .0) _, on (c .before .before .before .before .access-room .ensures (s .args .k) (s .args .rec) (s .pre .1) (c .before .before .before .before .before .before .access-row .ensures)) (c .before .before .before .if1 .left), c .before .before .before .before .before .before .access-row .ensures)
+set-access-requires c κs =
+    let s = c .before .before .before .before .before .before .before .before .before in (
+      s .pre .0 .well,
+      s .pre .1,
+      once _ _ (s .pre .0) _,
+      on (c .before .before .before .before .access-room .ensures (s .args .k) (s .args .rec) (s .pre .1)
+          (c .before .before .before .before .before .before .access-row .ensures))
+          (c .before .before .before .if1 .left),
+      c .before .before .before .before .before .before .access-row .ensures,
+    )
 
 same-length-2 : tie.Need-same-length-2
 same-length-2 c = search needs
 
 returns-2 : tie.Need-returns-2
-returns-2 c = let s = c .before .before .before .before .before .before .before .before .before .before .before .before in open-wrote _ _ (s .pre .0) _ _ _ (s .pre .1) (on (c .before .before .before .before .before .before .before .access-room .ensures (s .args .k) (s .args .rec) (s .pre .1) (c .before .before .before .before .before .before .before .before .before .access-row .ensures)) (c .before .before .before .before .before .before .if1 .left)) _ (c .before .before .before .before .access-in .ensures (s .args .k) (c .before .before .before .before .before .before .before .before .before .access-row .ensures)) _ (c .before .before .set-access .ensures)
+returns-2 c =
+    let middle = c .before .before .before .before .before .before in
+    let start = middle .before .before .before .before .before .before in
+    let s = start in
+    open-wrote _ _ (s .pre .0) _ _ _ (s .pre .1)
+    (on (middle .before .access-room .ensures (s .args .k) (s .args .rec) (s .pre .1)
+    (middle .before .before .before .access-row .ensures))
+    (middle .if1 .left)) _
+    (c .before .before .before .before .access-in .ensures (s .args .k)
+    (middle .before .before .before .access-row .ensures)) _ (c .before .before .set-access .ensures)
 
 pub write-open-spec : {M : Type 1} → statement M
 write-open-spec =

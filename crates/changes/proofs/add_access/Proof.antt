@@ -8,13 +8,24 @@ take-access-requires : tie.Need-take-access-requires
 take-access-requires c κs = search needs
 
 put-access-requires : tie.Need-put-access-requires
-put-access-requires c κs = (access-moved-fits (c .before .before .before .before .before .before .pre .0) (c .before .before .before .before .before .before .pre .1) (c .before .before .before .take-access .ensures) (c .before .before .before .before .before .before .pre .3), access-row (c .before .before .before .before .before .before .pre .0) (c .before .before .before .before .before .before .pre .1) (c .before .before .before .take-access .ensures) (c .before .before .before .before .before .before .pre .3))
+put-access-requires c κs = (
+  access-moved-fits (c .before .before .before .before .before .before .pre .0)
+      (c .before .before .before .before .before .before .pre .1) (c .before .before .before .take-access .ensures)
+      (c .before .before .before .before .before .before .pre .3),
+  access-row (c .before .before .before .before .before .before .pre .0)
+      (c .before .before .before .before .before .before .pre .1) (c .before .before .before .take-access .ensures)
+      (c .before .before .before .before .before .before .pre .3),
+)
 
 same-length : tie.Need-same-length
 same-length c = search needs
 
 returns : tie.Need-returns
-returns c = add-access-law (c .before .before .before .before .before .before .before .before .before .pre .0) (c .before .before .before .before .before .before .before .before .before .pre .1) (c .before .before .before .before .before .before .take-access .ensures) (c .before .before .before .before .before .before .before .before .before .pre .3) _ (c .before .before .before .before .before .before .before .before .before .pre .2) (c .before .before .put-access .ensures)
+returns c =
+    let start = c .before .before .before .before .before .before .before .before .before in
+    add-access-law (start .pre .0) (start .pre .1)
+    (c .before .before .before .before .before .before .take-access .ensures) (start .pre .3) _ (start .pre .2)
+    (c .before .before .put-access .ensures)
 
 pub add-access-spec : {M : Type 1} → statement M
 add-access-spec =

@@ -1,4 +1,5 @@
--- `changes::drop_owner` meets its contract. The loop's invariant: record r's locks up to the place have lost those of owner k.
+-- `changes::drop_owner` meets its contract. The loop's invariant: record r's locks up to the place have lost those of
+-- owner k.
 use mathlib.Core.Path.{refl, _∙_}
 use native.Mathlib.Omega.{arith}
 use Rattle.meaning.specs.Points.{isOwned, dropOwner}
@@ -6,7 +7,8 @@ use Rattle.chains.proofs.Walks.{fuel-of}
 use Rattle.tables.specs.Decode.{lockAt}
 use Rattle.changes.proofs.Locks.{drop-locks-law, locks-dropped}
 use Rattle.changes.proofs.Lists.{drop-keep}
-use Rattle.changes.proofs.Turns.{LockTurns, lock-turns-start, lock-turns-row, lock-turns-ready, lock-turns-again, lock-turns-end}
+use Rattle.changes.proofs.Turns.{LockTurns, lock-turns-start, lock-turns-row, lock-turns-ready, lock-turns-again}
+use Rattle.changes.proofs.Turns.{lock-turns-end}
 use borrow.Author.Needs.{needs}
 use Rattle.changes.proofs.drop_owner.Statement.{statement}
 use Rattle.changes.proofs.drop_owner.Tie as tie
@@ -21,28 +23,54 @@ first-lock-requires : tie.Need-first-lock-requires Inv-loop μ-loop
 first-lock-requires c κs = (c .before .before .pre .0 .fits, c .before .before .pre .1)
 
 loop-holds : tie.Need-loop-holds Inv-loop μ-loop
-loop-holds c = lock-turns-start (isOwned _) (c .before .before .before .pre .0) (c .before .before .before .pre .1) (c .first-lock .ensures)
+loop-holds c =
+    lock-turns-start (isOwned _) (c .before .before .before .pre .0) (c .before .before .before .pre .1)
+    (c .first-lock .ensures)
 
 more-requires : tie.Need-more-requires Inv-loop μ-loop
 more-requires c κs = search needs
 
 next-lock-requires : tie.Need-next-lock-requires Inv-loop μ-loop
-next-lock-requires c κs = lock-turns-row (c .before .before .before .loop .inv) (c .before .before .more .ensures) (c .before .if1 .taken)
+next-lock-requires c κs =
+    lock-turns-row (c .before .before .before .loop .inv) (c .before .before .more .ensures) (c .before .if1 .taken)
 
 owned-by-requires : tie.Need-owned-by-requires Inv-loop μ-loop
-owned-by-requires c κs = lock-turns-row (c .before .before .before .before .before .loop .inv) (c .before .before .before .before .more .ensures) (c .before .before .before .if1 .taken)
+owned-by-requires c κs =
+    lock-turns-row (c .before .before .before .before .before .loop .inv)
+    (c .before .before .before .before .more .ensures) (c .before .before .before .if1 .taken)
 
 unlink-lock-requires : tie.Need-unlink-lock-requires Inv-loop μ-loop
-unlink-lock-requires c κs = lock-turns-ready (c .before .before .before .before .before .before .before .loop .inv) (c .before .before .before .before .before .before .more .ensures) (c .before .before .before .before .before .if1 .taken)
+unlink-lock-requires c κs =
+    lock-turns-ready (c .before .before .before .before .before .before .before .loop .inv)
+    (c .before .before .before .before .before .before .more .ensures)
+    (c .before .before .before .before .before .if1 .taken)
 
 sub-left : tie.Need-sub-left Inv-loop μ-loop
-sub-left c = omega (arith, fuel-of _ _ _ (c .before .before .before .before .before .before .before .before .before .more .ensures) (c .before .before .before .before .before .before .before .before .if1 .taken))
+sub-left c =
+    let start = c .before .before .before .before .before .before .before .before .before in
+    omega (
+      arith,
+      fuel-of _ _ _ (start .more .ensures)
+          (c .before .before .before .before .before .before .before .before .if1 .taken),
+    )
 
 loop-less : tie.Need-loop-less Inv-loop μ-loop
-loop-less c = omega (arith, fuel-of _ _ _ (c .before .before .before .before .before .before .before .before .before .more .ensures) (c .before .before .before .before .before .before .before .before .if1 .taken))
+loop-less c =
+    let start = c .before .before .before .before .before .before .before .before .before in
+    omega (
+      arith,
+      fuel-of _ _ _ (start .more .ensures)
+          (c .before .before .before .before .before .before .before .before .if1 .taken),
+    )
 
 loop-again : tie.Need-loop-again Inv-loop μ-loop
-loop-again c = lock-turns-again (c .before .before .before .before .before .before .before .before .before .before .loop .inv) (c .before .before .before .before .before .before .before .before .before .more .ensures) (c .before .before .before .before .before .before .before .before .if1 .taken) (c .before .before .before .before .before .before .next-lock .ensures) (c .before .before .before .before .owned-by .ensures) (c .before .before .unlink-lock .ensures)
+loop-again c =
+    let start = c .before .before .before .before .before .before .before .before .before .before in
+    lock-turns-again (start .loop .inv)
+    (c .before .before .before .before .before .before .before .before .before .more .ensures)
+    (c .before .before .before .before .before .before .before .before .if1 .taken)
+    (c .before .before .before .before .before .before .next-lock .ensures)
+    (c .before .before .before .before .owned-by .ensures) (c .before .before .unlink-lock .ensures)
 
 same-length : tie.Need-same-length Inv-loop μ-loop
 same-length c = c .before .before .loop .inv .turns .elsewhere .size

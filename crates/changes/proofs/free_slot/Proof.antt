@@ -9,13 +9,19 @@ empty-accesses-requires : tie.Need-empty-accesses-requires
 empty-accesses-requires c κs = search needs
 
 set-state-requires : tie.Need-set-state-requires
-set-state-requires c κs = (c .before .before .before .empty-accesses .ensures .well, c .before .before .before .before .before .before .pre .1)
+set-state-requires c κs = (
+  c .before .before .before .empty-accesses .ensures .well,
+  c .before .before .before .before .before .before .pre .1,
+)
 
 same-length : tie.Need-same-length
 same-length c = search needs
 
 returns : tie.Need-returns
-returns c = then-edit _ _ (λ e. ended e 0 0) (c .before .before .before .before .before .before .before .before .before .pre .1) (c .before .before .before .before .before .before .empty-accesses .ensures) (c .before .before .set-state .ensures)
+returns c =
+    let start = c .before .before .before .before .before .before .before .before .before in
+    then-edit _ _ (λ e. ended e 0 0) (start .pre .1)
+    (c .before .before .before .before .before .before .empty-accesses .ensures) (c .before .before .set-state .ensures)
 
 pub free-slot-spec : {M : Type 1} → statement M
 free-slot-spec =

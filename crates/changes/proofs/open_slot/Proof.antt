@@ -11,7 +11,13 @@ generation-of-requires : tie.Need-generation-of-requires
 generation-of-requires c κs = (c .before .before .pre .0 .fits, c .before .before .pre .1)
 
 cast-next-generation : tie.Need-cast-next-generation
-cast-next-generation c = omega (arith, c .before .before .before .pre .2, generation-is (c .before .before .before .pre .0) (c .before .before .before .pre .1) (c .generation-of .ensures))
+cast-next-generation c =
+    omega (
+      arith,
+      c .before .before .before .pre .2,
+      generation-is (c .before .before .before .pre .0) (c .before .before .before .pre .1)
+          (c .generation-of .ensures),
+    )
 
 next-generation-requires : tie.Need-next-generation-requires
 next-generation-requires c κs = search needs
@@ -23,13 +29,22 @@ set-generation-requires : tie.Need-set-generation-requires
 set-generation-requires c κs = search needs
 
 set-state-requires : tie.Need-set-state-requires
-set-state-requires c κs = (c .before .before .before .set-generation .ensures .well, c .before .before .before .before .before .before .before .before .before .pre .1)
+set-state-requires c κs =
+    let start = c .before .before .before .before .before .before .before .before .before in
+    (c .before .before .before .set-generation .ensures .well, start .pre .1)
 
 same-length : tie.Need-same-length
 same-length c = search needs
 
 returns : tie.Need-returns
-returns c = open-slot-law _ (c .before .before .before .before .before .before .before .before .before .before .before .before .pre .0) (c .before .before .before .before .before .before .before .before .before .before .before .before .pre .1) (c .before .before .before .before .before .before .before .before .next-generation .ensures ∙ ap nextGeneration (generation-is (c .before .before .before .before .before .before .before .before .before .before .before .before .pre .0) (c .before .before .before .before .before .before .before .before .before .before .before .before .pre .1) (c .before .before .before .before .before .before .before .before .before .generation-of .ensures))) (c .before .before .before .before .before .before .before .before .before .before .before .before .pre .3) (c .before .before .before .before .before .before .set-generation .ensures) (c .before .before .set-state .ensures)
+returns c =
+    let middle = c .before .before .before .before .before .before in
+    let start = middle .before .before .before .before .before .before in
+    open-slot-law _ (start .pre .0) (start .pre .1)
+    (middle .before .before .next-generation .ensures
+    ∙ ap nextGeneration
+    (generation-is (start .pre .0) (start .pre .1) (middle .before .before .before .generation-of .ensures)))
+    (start .pre .3) (middle .set-generation .ensures) (c .before .before .set-state .ensures)
 
 pub open-slot-spec : {M : Type 1} → statement M
 open-slot-spec =

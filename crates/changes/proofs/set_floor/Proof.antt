@@ -11,7 +11,10 @@ same-length : tie.Need-same-length
 same-length c = search needs
 
 returns : tie.Need-returns
-returns c = rw (c .before .before .put-floor .ensures) (floor-becomes (c .before .before .before .before .before .pre .0) _ (c .before .before .before .before .before .pre .1) _)
+returns c =
+    rw (c .before .before .put-floor .ensures)
+    (floor-becomes (c .before .before .before .before .before .pre .0) _
+    (c .before .before .before .before .before .pre .1) _)
 
 pub set-floor-spec : {M : Type 1} → statement M
 set-floor-spec = tie.close (tie.spec put-floor-requires same-length returns)

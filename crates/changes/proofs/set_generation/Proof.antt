@@ -11,7 +11,10 @@ same-length : tie.Need-same-length
 same-length c = search needs
 
 returns : tie.Need-returns
-returns c = rw (c .before .before .put-generation .ensures) (generation-becomes (c .before .before .before .before .before .pre .0) _ (c .before .before .before .before .before .pre .1) _)
+returns c =
+    rw (c .before .before .put-generation .ensures)
+    (generation-becomes (c .before .before .before .before .before .pre .0) _
+    (c .before .before .before .before .before .pre .1) _)
 
 pub set-generation-spec : {M : Type 1} → statement M
 set-generation-spec = tie.close (tie.spec put-generation-requires same-length returns)

@@ -11,13 +11,17 @@ access-heads-requires : tie.Need-access-heads-requires
 access-heads-requires c κs = search needs
 
 move-first-requires : tie.Need-move-first-requires
-move-first-requires c κs = rw (c .before .access-table .ensures, c .access-heads .ensures) (access-ready (c .before .before .before .before .pre .0) (c .before .before .before .before .pre .1))
+move-first-requires c κs =
+    rw (c .before .access-table .ensures, c .access-heads .ensures)
+    (access-ready (c .before .before .before .before .pre .0) (c .before .before .before .before .pre .1))
 
 same-length : tie.Need-same-length
 same-length c = search needs
 
 returns : tie.Need-returns
-returns c = rw (c .before .before .before .before .access-table .ensures, c .before .before .before .access-heads .ensures) at (c .before .before .move-first .ensures)
+returns c =
+    rw (c .before .before .before .before .access-table .ensures, c .before .before .before .access-heads .ensures) at
+    (c .before .before .move-first .ensures)
 
 pub take-access-spec : {M : Type 1} → statement M
 take-access-spec =

@@ -15,13 +15,18 @@ add-move-first : tie.Need-add-move-first
 add-move-first c = search needs
 
 move-first-requires : tie.Need-move-first-requires
-move-first-requires c κs = rw (c .before .lock-table .ensures, c .lock-heads .ensures, add-one) (lock-ready (c .before .before .before .before .pre .0) (c .before .before .before .before .pre .1))
+move-first-requires c κs =
+    rw (c .before .lock-table .ensures, c .lock-heads .ensures, add-one)
+    (lock-ready (c .before .before .before .before .pre .0) (c .before .before .before .before .pre .1))
 
 same-length : tie.Need-same-length
 same-length c = search needs
 
 returns : tie.Need-returns
-returns c = rw add-one at (rw (c .before .before .before .before .lock-table .ensures, c .before .before .before .lock-heads .ensures) at (c .before .before .move-first .ensures))
+returns c =
+    rw add-one at (rw
+    (c .before .before .before .before .lock-table .ensures, c .before .before .before .lock-heads .ensures) at
+    (c .before .before .move-first .ensures))
 
 pub take-lock-spec : {M : Type 1} → statement M
 take-lock-spec =

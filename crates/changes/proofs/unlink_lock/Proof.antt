@@ -16,13 +16,18 @@ add-unlink-turn c = search needs
 
 unlink-turn-requires : tie.Need-unlink-turn-requires
 unfolding lockTable
-unlink-turn-requires c κs = rw (c .before .lock-table .ensures, c .lock-heads .ensures, add-one) (c .before .before .before .before .pre .2, c .before .before .before .before .pre .3)
+unlink-turn-requires c κs =
+    rw (c .before .lock-table .ensures, c .lock-heads .ensures, add-one)
+    (c .before .before .before .before .pre .2, c .before .before .before .before .pre .3)
 
 same-length : tie.Need-same-length
 same-length c = search needs
 
 returns : tie.Need-returns
-returns c = rw add-one at (rw (c .before .before .before .before .lock-table .ensures, c .before .before .before .lock-heads .ensures) at (c .before .before .unlink-turn .ensures))
+returns c =
+    rw add-one at (rw
+    (c .before .before .before .before .lock-table .ensures, c .before .before .before .lock-heads .ensures) at
+    (c .before .before .unlink-turn .ensures))
 
 pub unlink-lock-spec : {M : Type 1} → statement M
 unlink-lock-spec =

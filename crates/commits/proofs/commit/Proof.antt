@@ -17,16 +17,24 @@ same-length : tie.Need-same-length
 same-length c = search needs
 
 returns : tie.Need-returns
-returns c = commit-refused _ _ (c .before .before .before .before .before .before .pre) (c .before .before .before .counts-of .ensures) _ _ _ (off (c .before .known .ensures) (c .if1 .taken))
+returns c =
+    commit-refused _ _ (c .before .before .before .before .before .before .pre)
+    (c .before .before .before .counts-of .ensures) _ _ _ (off (c .before .known .ensures) (c .if1 .taken))
 
 is-open-requires : tie.Need-is-open-requires
-is-open-requires c κs = ready _ (c .before .before .before .before .before .before .before .pre) _ (c .before .before .before .before .counts-of .ensures) .well .fits
+is-open-requires c κs =
+    ready _ (c .before .before .before .before .before .before .before .pre) _
+    (c .before .before .before .before .counts-of .ensures) .well .fits
 
 same-length-2 : tie.Need-same-length-2
 same-length-2 c = search needs
 
 returns-2 : tie.Need-returns-2
-returns-2 c = commit-too-late _ _ (c .before .before .before .before .before .before .before .before .before .pre) (c .before .before .before .before .before .before .counts-of .ensures) _ _ _ (on (c .before .before .before .before .known .ensures) (c .before .before .before .if1 .left)) (off (c .before .is-open .ensures) (c .if2 .taken))
+returns-2 c =
+    let start = c .before .before .before .before .before .before .before .before .before in
+    commit-too-late _ _ (start .pre) (c .before .before .before .before .before .before .counts-of .ensures) _ _ _
+    (on (c .before .before .before .before .known .ensures) (c .before .before .before .if1 .left))
+    (off (c .before .is-open .ensures) (c .if2 .taken))
 
 good-pick-requires : tie.Need-good-pick-requires
 good-pick-requires c κs = search needs
@@ -35,19 +43,40 @@ same-length-3 : tie.Need-same-length-3
 same-length-3 c = search needs
 
 returns-3 : tie.Need-returns-3
-returns-3 c = commit-bad-point _ _ (c .before .before .before .before .before .before .before .before .before .before .before .pre) (c .before .before .before .before .before .before .before .before .counts-of .ensures) _ _ _ (on (c .before .before .before .before .before .before .known .ensures) (c .before .before .before .before .before .if1 .left)) (on (c .before .before .before .is-open .ensures) (c .before .before .if2 .left)) (off (c .before .good-pick .ensures) (c .if3 .taken))
+returns-3 c =
+    let start = c .before .before .before .before .before .before .before .before .before .before .before in
+    commit-bad-point _ _ (start .pre)
+    (c .before .before .before .before .before .before .before .before .counts-of .ensures) _ _ _
+    (on (c .before .before .before .before .before .before .known .ensures)
+    (c .before .before .before .before .before .if1 .left))
+    (on (c .before .before .before .is-open .ensures) (c .before .before .if2 .left))
+    (off (c .before .good-pick .ensures) (c .if3 .taken))
 
 slot-requires : tie.Need-slot-requires
 slot-requires c κs = search needs
 
 commit-open-requires : tie.Need-commit-open-requires
-commit-open-requires c κs = open-needs _ _ (c .before .before .before .before .before .before .before .before .before .before .before .before .before .pre) (c .before .before .before .before .before .before .before .before .before .before .counts-of .ensures) _ (on (c .before .before .before .before .before .before .before .before .known .ensures) (c .before .before .before .before .before .before .before .if1 .left)) (on (c .before .before .before .before .before .is-open .ensures) (c .before .before .before .before .if2 .left)) _ (c .slot .ensures)
+commit-open-requires c κs =
+    let middle = c .before .before .before .before .before .before in
+    let start = middle .before .before .before .before .before .before .before in
+    open-needs _ _ (start .pre) (middle .before .before .before .before .counts-of .ensures) _
+    (on (middle .before .before .known .ensures) (middle .before .if1 .left))
+    (on (c .before .before .before .before .before .is-open .ensures) (c .before .before .before .before .if2 .left)) _
+    (c .slot .ensures)
 
 same-length-4 : tie.Need-same-length-4
 same-length-4 c = search needs
 
 returns-4 : tie.Need-returns-4
-returns-4 c = commit-acts _ _ (c .before .before .before .before .before .before .before .before .before .before .before .before .before .before .before .before .pre) (c .before .before .before .before .before .before .before .before .before .before .before .before .before .counts-of .ensures) _ _ _ (on (c .before .before .before .before .before .before .before .before .before .before .before .known .ensures) (c .before .before .before .before .before .before .before .before .before .before .if1 .left)) (on (c .before .before .before .before .before .before .before .before .is-open .ensures) (c .before .before .before .before .before .before .before .if2 .left)) (on (c .before .before .before .before .before .before .good-pick .ensures) (c .before .before .before .before .before .if3 .left)) _ (c .before .before .before .slot .ensures) _ _ (c .before .before .commit-open .ensures)
+returns-4 c =
+    let middle = c .before .before .before .before .before .before .before .before in
+    let start = middle .before .before .before .before .before .before .before .before in
+    commit-acts _ _ (start .pre) (middle .before .before .before .before .before .counts-of .ensures) _ _ _
+    (on (middle .before .before .before .known .ensures) (middle .before .before .if1 .left))
+    (on (middle .is-open .ensures) (c .before .before .before .before .before .before .before .if2 .left))
+    (on (c .before .before .before .before .before .before .good-pick .ensures)
+    (c .before .before .before .before .before .if3 .left)) _ (c .before .before .before .slot .ensures) _ _
+    (c .before .before .commit-open .ensures)
 
 pub commit-spec : {M : Type 1} → statement M
 commit-spec =

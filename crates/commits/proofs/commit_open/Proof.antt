@@ -19,7 +19,8 @@ enum-known-pick : tie.Need-enum-known-pick
 enum-known-pick c = search needs
 
 commit-named-requires : tie.Need-commit-named-requires
-commit-named-requires c κs = (c .before .before .before .before .before .pre .0, c .before .before .before .before .before .pre .1)
+commit-named-requires c κs =
+    (c .before .before .before .before .before .pre .0, c .before .before .before .before .before .pre .1)
 
 same-length : tie.Need-same-length
 same-length c = search needs

@@ -16,28 +16,48 @@ same-length : tie.Need-same-length
 same-length c = search needs
 
 returns : tie.Need-returns
-returns c = abort-refused _ _ (c .before .before .before .before .before .before .pre) (c .before .before .before .counts-of .ensures) _ _ (off (c .before .known .ensures) (c .if1 .taken))
+returns c =
+    abort-refused _ _ (c .before .before .before .before .before .before .pre)
+    (c .before .before .before .counts-of .ensures) _ _ (off (c .before .known .ensures) (c .if1 .taken))
 
 is-open-requires : tie.Need-is-open-requires
-is-open-requires c κs = ready _ (c .before .before .before .before .before .before .before .pre) _ (c .before .before .before .before .counts-of .ensures) .well .fits
+is-open-requires c κs =
+    ready _ (c .before .before .before .before .before .before .before .pre) _
+    (c .before .before .before .before .counts-of .ensures) .well .fits
 
 same-length-2 : tie.Need-same-length-2
 same-length-2 c = search needs
 
 returns-2 : tie.Need-returns-2
-returns-2 c = abort-too-late _ _ (c .before .before .before .before .before .before .before .before .before .pre) (c .before .before .before .before .before .before .counts-of .ensures) _ (on (c .before .before .before .before .known .ensures) (c .before .before .before .if1 .left)) _ (off (c .before .is-open .ensures) (c .if2 .taken))
+returns-2 c =
+    let start = c .before .before .before .before .before .before .before .before .before in
+    abort-too-late _ _ (start .pre) (c .before .before .before .before .before .before .counts-of .ensures) _
+    (on (c .before .before .before .before .known .ensures) (c .before .before .before .if1 .left)) _
+    (off (c .before .is-open .ensures) (c .if2 .taken))
 
 slot-requires : tie.Need-slot-requires
 slot-requires c κs = search needs
 
 end-aborted-requires : tie.Need-end-aborted-requires
-end-aborted-requires c κs = open-needs _ _ (c .before .before .before .before .before .before .before .before .before .before .before .pre) (c .before .before .before .before .before .before .before .before .counts-of .ensures) _ (on (c .before .before .before .before .before .before .known .ensures) (c .before .before .before .before .before .if1 .left)) (on (c .before .before .before .is-open .ensures) (c .before .before .if2 .left)) _ (c .slot .ensures)
+end-aborted-requires c κs =
+    let start = c .before .before .before .before .before .before .before .before .before .before .before in
+    open-needs _ _ (start .pre) (c .before .before .before .before .before .before .before .before .counts-of .ensures)
+    _ (on (c .before .before .before .before .before .before .known .ensures)
+    (c .before .before .before .before .before .if1 .left))
+    (on (c .before .before .before .is-open .ensures) (c .before .before .if2 .left)) _ (c .slot .ensures)
 
 same-length-3 : tie.Need-same-length-3
 same-length-3 c = search needs
 
 returns-3 : tie.Need-returns-3
-returns-3 c = abort-acts _ _ (c .before .before .before .before .before .before .before .before .before .before .before .before .before .before .pre) (c .before .before .before .before .before .before .before .before .before .before .before .counts-of .ensures) _ (on (c .before .before .before .before .before .before .before .before .before .known .ensures) (c .before .before .before .before .before .before .before .before .if1 .left)) _ (on (c .before .before .before .before .before .before .is-open .ensures) (c .before .before .before .before .before .if2 .left)) _ (c .before .before .before .slot .ensures) _ (c .before .before .end-aborted .ensures)
+returns-3 c =
+    let middle = c .before .before .before .before .before .before .before in
+    let start = middle .before .before .before .before .before .before .before in
+    abort-acts _ _ (start .pre) (middle .before .before .before .before .counts-of .ensures) _
+    (on (middle .before .before .known .ensures) (middle .before .if1 .left)) _
+    (on (c .before .before .before .before .before .before .is-open .ensures)
+    (c .before .before .before .before .before .if2 .left)) _ (c .before .before .before .slot .ensures) _
+    (c .before .before .end-aborted .ensures)
 
 pub abort-spec : {M : Type 1} → statement M
 abort-spec =

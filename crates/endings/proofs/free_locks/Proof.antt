@@ -17,7 +17,9 @@ word-requires : tie.Need-word-requires Inv-loop μ-loop
 word-requires c κs = search needs
 
 loop-holds : tie.Need-loop-holds Inv-loop μ-loop
-loop-holds c = free-start (c .before .before .args .k) (c .before .before .args .c) (c .before .before .args .w .now) (c .before .before .pre)
+loop-holds c =
+    free-start (c .before .before .args .k) (c .before .before .args .c) (c .before .before .args .w .now)
+    (c .before .before .pre)
 
 sub-r : tie.Need-sub-r Inv-loop μ-loop
 sub-r c = omega arith
@@ -29,13 +31,21 @@ loop-less : tie.Need-loop-less Inv-loop μ-loop
 loop-less c = omega arith
 
 loop-again : tie.Need-loop-again Inv-loop μ-loop
-loop-again c = free-again (c .before .before .before .before .before .before .before .before .args .k) (c .before .before .before .before .before .before .before .before .args .c) _ _ _ _ (c .before .before .before .before .before .before .word .result) (c .before .before .before .before .before .loop .inv) (omega arith) (c .before .before .before .before .before .before .word .ensures) (c .before .before .drop-owner .ensures)
+loop-again c =
+    free-again (c .before .before .before .before .before .before .before .before .args .k)
+    (c .before .before .before .before .before .before .before .before .args .c) _ _ _ _
+    (c .before .before .before .before .before .before .word .result)
+    (c .before .before .before .before .before .loop .inv) (omega arith)
+    (c .before .before .before .before .before .before .word .ensures) (c .before .before .drop-owner .ensures)
 
 same-length : tie.Need-same-length Inv-loop μ-loop
-same-length c = omega (arith, c .before .loop .inv .well .fits .size, c .before .before .before .before .pre .fits .size)
+same-length c =
+    omega (arith, c .before .loop .inv .well .fits .size, c .before .before .before .before .pre .fits .size)
 
 returns : tie.Need-returns Inv-loop μ-loop
-returns c = free-end (c .before .before .before .before .args .k) (c .before .before .before .before .args .c) _ _ _ (c .before .loop .inv) (omega arith)
+returns c =
+    free-end (c .before .before .before .before .args .k) (c .before .before .before .before .args .c) _ _ _
+    (c .before .loop .inv) (omega arith)
 
 pub free-locks-spec : {M : Type 1} → statement M
 free-locks-spec =

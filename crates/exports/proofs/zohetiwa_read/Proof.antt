@@ -24,13 +24,15 @@ same-length c = search needs
 
 returns : tie.Need-returns
 returns c =
+    let middle = c .before .before .before .before .before .before in
+    let start = middle .before .before .before .before .before .before in
     answered (c .read2 .ensures)
     (rw (
-      c .before .before .before .before .before .before .before .before .before .before .before .before .handle-of-word .ensures,
-      c .before .before .before .before .before .before .before .before .before .before .before .point-of-word .ensures,
-      c .before .before .before .before .before .before .before .before .before .extent .ensures,
+      start .handle-of-word .ensures,
+      middle .before .before .before .before .before .point-of-word .ensures,
+      middle .before .before .before .extent .ensures,
     )
-    at (c .before .before .before .before .before .before .before .before .read .ensures))
+    at (middle .before .before .read .ensures))
 
 pub zohetiwa-read-spec : {M : Type 1} → statement M
 zohetiwa-read-spec =

@@ -1,4 +1,5 @@
--- `locking::lock_grant` meets its contract: all points or none, or the run from the first free point. Rests on Granting.
+-- `locking::lock_grant` meets its contract: all points or none, or the run from the first free point. Rests on
+-- Granting.
 use native.Mathlib.Omega.{arith}
 use Rattle.meaning.proofs.JudgeLocking.{proper}
 use Rattle.calls.proofs.Granting.{lock-all-taken, lock-all-judged, lock-part-low}

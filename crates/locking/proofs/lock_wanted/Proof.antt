@@ -39,7 +39,14 @@ returns c =
     (c .before .before .before .before .from .given .1) (off (c .before .lock-room .ensures) (c .if1 .taken))
 
 add-lock-requires : tie.Need-add-lock-requires
-add-lock-requires c κs = (c .before .before .before .before .before .before .before .before .before .before .pre .0 .well, c .before .before .before .before .before .before .before .before .before .before .pre .2, omega arith, owner-small _ _ (c .before .before .before .before .before .before .before .before .before .before .pre .0 .well .fits) _ (c .before .before .before .before .before .before .before .before .before .before .pre .1), lock-free _ _ (on (c .before .before .lock-room .ensures) (c .before .if1 .left)))
+add-lock-requires c κs =
+    let start = c .before .before .before .before .before .before .before .before .before .before in (
+      start .pre .0 .well,
+      start .pre .2,
+      omega arith,
+      owner-small _ _ (start .pre .0 .well .fits) _ (start .pre .1),
+      lock-free _ _ (on (c .before .before .lock-room .ensures) (c .before .if1 .left)),
+    )
 
 point-of-word-requires : tie.Need-point-of-word-requires
 point-of-word-requires c κs = search needs
@@ -61,9 +68,11 @@ same-length-3 c = search needs
 
 returns-3 : tie.Need-returns-3
 returns-3 c =
-    let g = c .before .before .before .before .before .before .before .before .before .before .before .before in
+    let middle = c .before .before .before .before .before .before in
+    let start = middle .before .before .before .before .before .before in
+    let g = start in
     let s = g .before .before .before in
-    let t = c .before .before .before .before .before .before in
+    let t = middle in
     wanted-done _ _ (s .pre .0) _ _ _ _ _ _ (g .lock-grant .ensures) _ _
     (t .before .before .before .before .from .given .1)
     (on (t .before .lock-room .ensures) (t .if1 .left)) _ _ _ (c .before .before .before .before .add-lock .ensures)

@@ -1,4 +1,5 @@
--- `reading::read_grant` meets its contract: all points or none, or those up to the first blocked one. Rests on Granting.
+-- `reading::read_grant` meets its contract: all points or none, or those up to the first blocked one. Rests on
+-- Granting.
 use native.Mathlib.Omega.{arith}
 use Rattle.meaning.proofs.JudgeLocking.{proper}
 use Rattle.calls.proofs.Granting.{read-all-taken, read-all-judged, read-part-taken, read-part-judged}

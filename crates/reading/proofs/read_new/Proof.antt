@@ -12,13 +12,22 @@ same-length : tie.Need-same-length
 same-length c = search needs
 
 returns : tie.Need-returns
-returns c = new-below _ _ (c .before .before .before .before .pre .0) _ _ _ _ (c .before .before .before .before .pre .2) _ (c .before .floor-of .ensures) (c .if1 .taken)
+returns c =
+    new-below _ _ (c .before .before .before .before .pre .0) _ _ _ _ (c .before .before .before .before .pre .2) _
+    (c .before .floor-of .ensures) (c .if1 .taken)
 
 newest-below-requires : tie.Need-newest-below-requires
-newest-below-requires c κs = (c .before .before .before .before .before .pre .0 .well .fits, c .before .before .before .before .before .pre .2)
+newest-below-requires c κs =
+    (c .before .before .before .before .before .pre .0 .well .fits, c .before .before .before .before .before .pre .2)
 
 add-read-grant : tie.Need-add-read-grant
-add-read-grant c = let l = version-below _ _ (c .before .before .before .before .before .before .before .before .pre .0) (c .before .before .before .before .before .before .before .before .args .k) _ _ (c .before .before .before .before .before .before .before .before .args .extent) (c .before .before .before .before .before .before .before .before .pre .2) _ (c .before .before .before .before .before .floor-of .ensures) (c .before .before .before .before .if1 .left) _ (c .before .before .newest-below .ensures) in omega (arith, c .before .before .before .before .before .before .before .before .pre .3)
+add-read-grant c =
+    let start = c .before .before .before .before .before .before .before .before in
+    let l =
+    version-below _ _ (start .pre .0) (start .args .k) _ _ (start .args .extent) (start .pre .2) _
+    (c .before .before .before .before .before .floor-of .ensures) (c .before .before .before .before .if1 .left) _
+    (c .before .before .newest-below .ensures) in
+    omega (arith, start .pre .3)
 
 read-grant-requires : tie.Need-read-grant-requires
 read-grant-requires c κs =
@@ -47,7 +56,10 @@ enum-known-from : tie.Need-enum-known-from
 enum-known-from c = search needs
 
 read-taken-requires : tie.Need-read-taken-requires
-read-taken-requires c κs = (c .before .before .before .before .before .before .before .before .before .before .before .before .before .pre .0, c .before .before .before .before .before .before .before .before .before .before .before .before .before .pre .1, c .before .before .before .before .before .before .before .before .before .before .before .before .before .pre .2, c .before .before .before .before .before .before .before .before .before .before .before .before .before .pre .4)
+read-taken-requires c κs =
+    let middle = c .before .before .before .before .before .before in
+    let start = middle .before .before .before .before .before .before .before in
+    (start .pre .0, start .pre .1, start .pre .2, start .pre .4)
 
 same-length-2 : tie.Need-same-length-2
 same-length-2 c = search needs
@@ -66,7 +78,14 @@ same-length-3 : tie.Need-same-length-3
 same-length-3 c = search needs
 
 returns-3 : tie.Need-returns-3
-returns-3 c = new-taken _ _ (c .before .before .before .before .before .before .before .before .before .before .before .before .before .before .before .before .pre .0) _ _ _ _ (c .before .before .before .before .before .before .before .before .before .before .before .before .before .before .before .before .pre .2) _ (c .before .before .before .before .before .before .before .before .before .before .before .before .before .floor-of .ensures) (c .before .before .before .before .before .before .before .before .before .before .before .before .if1 .left) _ (c .before .before .before .before .before .before .before .before .before .before .newest-below .ensures) _ (c .before .before .before .before .before .before .before .read-grant .ensures) _ _ _ _ (c .before .before .before .before .before .from .given .1) (c .before .before .read-taken .ensures)
+returns-3 c =
+    let middle = c .before .before .before .before .before .before .before .before in
+    let start = middle .before .before .before .before .before .before .before .before in
+    new-taken _ _ (start .pre .0) _ _ _ _ (start .pre .2) _
+    (middle .before .before .before .before .before .floor-of .ensures)
+    (middle .before .before .before .before .if1 .left) _ (middle .before .before .newest-below .ensures) _
+    (c .before .before .before .before .before .before .before .read-grant .ensures) _ _ _ _
+    (c .before .before .before .before .before .from .given .1) (c .before .before .read-taken .ensures)
 
 pub read-new-spec : {M : Type 1} → statement M
 read-new-spec =

@@ -1,5 +1,5 @@
--- `lines::parsing::abort` meets its contract: the fields are found one after another, and none is left; each missing one
--- ends in `Malformed`. Assumes nothing.
+-- `lines::parsing::abort` meets its contract: the fields are found one after another, and none is left; each missing
+-- one ends in `Malformed`. Assumes nothing.
 use borrow.Author.Needs.{needs}
 use mathlib.Core.Path.{sym, _∙_}
 use Rattle.lines.specs.Calls.{aborting}
@@ -39,7 +39,8 @@ returns-2 c =
 returns-3 : tie.Need-returns-3
 unfolding aborting
 returns-3 c =
-    let start = c .before .before .before .before .before .before .before .before .before .before in
+    let middle = c .before .before .before .before .before .before .before .before .before .before in
+    let start = middle in
     sym (number-at _ _ _ _ _ (c .before .before .before .before .before .before .before .before .number .ensures)
     (c .before .before .before .before .before .before .h .given .1) _
     ∙ finish-at _ _ _ _ _ (c .before .before .before .before .finish .ensures) (c .before .before .f .given .1) _
@@ -51,7 +52,8 @@ handle-of-word-requires c κs = search needs
 returns-4 : tie.Need-returns-4
 unfolding aborting
 returns-4 c =
-    let start = c .before .before .before .before .before .before .before .before .before .before .before in
+    let middle = c .before .before .before .before .before .before .before .before .before .before .before in
+    let start = middle in
     rw (handle-is _ _ (c .handle-of-word .ensures))
     (sym (number-at _ _ _ _ _
     (c .before .before .before .before .before .before .before .before .before .number .ensures)

@@ -1,5 +1,5 @@
--- `lines::parsing::format` meets its contract: the fields are found one after another, and none is left; each missing one
--- ends in `Malformed`. Assumes nothing.
+-- `lines::parsing::format` meets its contract: the fields are found one after another, and none is left; each missing
+-- one ends in `Malformed`. Assumes nothing.
 use borrow.Author.Needs.{needs}
 use mathlib.Core.Path.{sym, _∙_}
 use Rattle.lines.specs.Calls.{formatting}
@@ -48,7 +48,8 @@ enum-told-3 c = search needs
 returns-3 : tie.Need-returns-3
 unfolding formatting
 returns-3 c =
-    let start = c .before .before .before .before .before .before .before .before .before .before in
+    let middle = c .before .before .before .before .before .before .before .before .before .before in
+    let start = middle in
     sym (number-at _ _ _ _ _ (start .number .ensures)
     (c .before .before .before .before .before .before .before .before .r .given .1) _
     ∙ number-at _ _ _ _ _ (c .before .before .before .before .before .before .number2 .ensures)
@@ -87,7 +88,8 @@ enum-told-5 c = search needs
 returns-5 : tie.Need-returns-5
 unfolding formatting
 returns-5 c =
-    let middle = c .before .before .before .before .before .before .before .before .before in
+    let s = c .before .before .before .before .before .before .before .before .before in
+    let middle = s in
     let start = middle .before .before .before .before .before .before .before .before .before in
     sym (number-at _ _ _ _ _ (start .number .ensures)
     (middle .before .before .before .before .before .before .before .r .given .1) _
@@ -102,7 +104,8 @@ returns-5 c =
 returns-6 : tie.Need-returns-6
 unfolding formatting
 returns-6 c =
-    let middle = c .before .before .before .before .before .before .before .before .before .before .before in
+    let s = c .before .before .before .before .before .before .before .before .before .before .before in
+    let middle = s in
     let start = middle .before .before .before .before .before .before .before .before .before .before .before in
     sym (number-at _ _ _ _ _
     (middle .before .before .before .before .before .before .before .before .before .number .ensures)
@@ -119,7 +122,8 @@ returns-6 c =
 returns-7 : tie.Need-returns-7
 unfolding formatting
 returns-7 c =
-    let middle = c .before .before .before .before .before .before .before .before .before .before .before in
+    let s = c .before .before .before .before .before .before .before .before .before .before .before in
+    let middle = s in
     let start = middle .before .before .before .before .before .before .before .before .before .before .before in
     sym (number-at _ _ _ _ _
     (middle .before .before .before .before .before .before .before .before .before .number .ensures)

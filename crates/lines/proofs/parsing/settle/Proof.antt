@@ -1,5 +1,5 @@
--- `lines::parsing::settle` meets its contract: the fields are found one after another, and none is left; each missing one
--- ends in `Malformed`. Assumes nothing.
+-- `lines::parsing::settle` meets its contract: the fields are found one after another, and none is left; each missing
+-- one ends in `Malformed`. Assumes nothing.
 use borrow.Author.Needs.{needs}
 use mathlib.Core.Path.{sym, ap, _∙_}
 use Rattle.meaning.specs.declared.Call.the-variants as C

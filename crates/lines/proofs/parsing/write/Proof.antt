@@ -1,5 +1,5 @@
--- `lines::parsing::write` meets its contract: the fields are found one after another, and none is left; each missing one
--- ends in `Malformed`. Assumes nothing.
+-- `lines::parsing::write` meets its contract: the fields are found one after another, and none is left; each missing
+-- one ends in `Malformed`. Assumes nothing.
 use borrow.Author.Needs.{needs}
 use mathlib.Core.Path.{sym, _∙_}
 use Rattle.lines.specs.Calls.{writing}
@@ -48,7 +48,8 @@ enum-told-3 c = search needs
 returns-3 : tie.Need-returns-3
 unfolding writing
 returns-3 c =
-    let start = c .before .before .before .before .before .before .before .before .before .before in
+    let middle = c .before .before .before .before .before .before .before .before .before .before in
+    let start = middle in
     sym (number-at _ _ _ _ _ (start .number .ensures)
     (c .before .before .before .before .before .before .before .before .h .given .1) _
     ∙ number-at _ _ _ _ _ (c .before .before .before .before .before .before .number2 .ensures)

@@ -19,7 +19,14 @@ write-on-requires : tie.Need-write-on-requires
 write-on-requires c κs = search needs
 
 returns-2 : tie.Need-returns-2
-returns-2 c = allowed-write (c .before .before .before .before .before .before .args .c) (now (c .before .before .before .before .before .before .args .w)) (c .before .before .before .before .before .before .args .k) (c .before .before .before .before .before .before .args .a) (c .before .before .before .before .before .before .pre .1) (c .before .before .word .ensures) (c .before .wide .ensures) (c .before .before .before .before .before .before .args .p) (not-false _ (c .before .before .before .if1 .left)) (c .write-on .ensures)
+returns-2 c =
+    allowed-write (c .before .before .before .before .before .before .args .c)
+    (now (c .before .before .before .before .before .before .args .w))
+    (c .before .before .before .before .before .before .args .k)
+    (c .before .before .before .before .before .before .args .a)
+    (c .before .before .before .before .before .before .pre .1) (c .before .before .word .ensures)
+    (c .before .wide .ensures) (c .before .before .before .before .before .before .args .p)
+    (not-false _ (c .before .before .before .if1 .left)) (c .write-on .ensures)
 
 pub allows-write-spec : {M : Type 1} → statement M
 allows-write-spec =

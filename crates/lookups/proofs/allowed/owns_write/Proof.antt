@@ -9,7 +9,8 @@ returns : tie.Need-returns
 returns c = rw (ne-eqb _ _ (c .if1 .taken)) refl
 
 returns-2 : tie.Need-returns-2
-returns-2 c = rw (eq-eqb (c .before .before .before .args .l .owner) (c .before .before .before .args .k) (search needs)) refl
+returns-2 c =
+    rw (eq-eqb (c .before .before .before .args .l .owner) (c .before .before .before .args .k) (search needs)) refl
 
 pub owns-write-spec : {M : Type 1} → statement M
 owns-write-spec = tie.close (tie.spec returns returns-2)

@@ -12,7 +12,10 @@ add-result : tie.Need-add-result
 add-result c = search needs
 
 returns : tie.Need-returns
-returns c = read-end-none (ownOn (recordsOf (c .before .before .before .args .c) (now (c .before .before .before .args .w))) (c .before .before .before .args .k) (c .before .before .before .args .a)) (c .before .before .before .args .a) (c .if1 .taken)
+returns c =
+    read-end-none (ownOn (recordsOf (c .before .before .before .args .c) (now (c .before .before .before .args .w)))
+    (c .before .before .before .args .k) (c .before .before .before .args .a))
+    (c .before .before .before .args .a) (c .if1 .taken)
 
 word-requires : tie.Need-word-requires
 word-requires c κs = search needs
@@ -24,7 +27,19 @@ first-free-requires : tie.Need-first-free-requires
 first-free-requires c κs = search needs
 
 returns-2 : tie.Need-returns-2
-returns-2 c = read-end-is (ownOn (recordsOf (c .before .before .before .before .before .before .args .c) (now (c .before .before .before .before .before .before .args .w))) (c .before .before .before .before .before .before .args .k) (c .before .before .before .before .before .before .args .a)) (c .before .before .before .before .before .before .args .a) (c .before .before .before .if1 .left) (own-reach (c .before .before .before .before .before .before .args .c) (now (c .before .before .before .before .before .before .args .w)) (c .before .before .before .before .before .before .args .k) (c .before .before .before .before .before .before .args .a) (c .before .before .before .before .before .before .pre .1) (c .before .before .word .ensures) (c .before .wide .ensures) _ (c .before .before .before .before .before .before .args .a .from) (c .first-free .ensures))
+returns-2 c =
+    read-end-is (ownOn (recordsOf (c .before .before .before .before .before .before .args .c)
+    (now (c .before .before .before .before .before .before .args .w)))
+    (c .before .before .before .before .before .before .args .k)
+    (c .before .before .before .before .before .before .args .a))
+    (c .before .before .before .before .before .before .args .a) (c .before .before .before .if1 .left)
+    (own-reach (c .before .before .before .before .before .before .args .c)
+    (now (c .before .before .before .before .before .before .args .w))
+    (c .before .before .before .before .before .before .args .k)
+    (c .before .before .before .before .before .before .args .a)
+    (c .before .before .before .before .before .before .pre .1) (c .before .before .word .ensures)
+    (c .before .wide .ensures) _ (c .before .before .before .before .before .before .args .a .from)
+    (c .first-free .ensures))
 
 pub read-end-spec : {M : Type 1} → statement M
 read-end-spec =

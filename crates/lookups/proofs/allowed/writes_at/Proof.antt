@@ -15,7 +15,8 @@ covers-requires : tie.Need-covers-requires
 covers-requires c κs = search needs
 
 returns-2 : tie.Need-returns-2
-returns-2 c = rw (sym (c .before .before .owns-write .ensures) ∙ not-false _ (c .before .if1 .left)) (c .covers .ensures)
+returns-2 c =
+    rw (sym (c .before .before .owns-write .ensures) ∙ not-false _ (c .before .if1 .left)) (c .covers .ensures)
 
 pub writes-at-spec : {M : Type 1} → statement M
 writes-at-spec = tie.close (tie.spec owns-write-requires returns covers-requires returns-2)

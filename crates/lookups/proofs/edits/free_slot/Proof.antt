@@ -18,7 +18,8 @@ state-of-requires : tie.Need-state-of-requires Inv-loop μ-loop
 state-of-requires c κs = (c .before .before .before .pre, passed-row (c .before .loop .inv) (search needs))
 
 returns : tie.Need-returns Inv-loop μ-loop
-returns c = passed-found _ (c .before .before .before .loop .inv) (search needs) (c .before .state-of .ensures) (c .if1 .taken)
+returns c =
+    passed-found _ (c .before .before .before .loop .inv) (search needs) (c .before .state-of .ensures) (c .if1 .taken)
 
 add-k : tie.Need-add-k Inv-loop μ-loop
 add-k c = search needs
@@ -27,7 +28,8 @@ loop-less : tie.Need-loop-less Inv-loop μ-loop
 loop-less c = search needs
 
 loop-again : tie.Need-loop-again Inv-loop μ-loop
-loop-again c = passed-on _ (c .before .before .before .loop .inv) (search needs) (c .before .state-of .ensures) (c .if1 .left)
+loop-again c =
+    passed-on _ (c .before .before .before .loop .inv) (search needs) (c .before .state-of .ensures) (c .if1 .left)
 
 returns-2 : tie.Need-returns-2 Inv-loop μ-loop
 returns-2 c = passed-done _ (c .before .loop .inv) (search needs)

@@ -13,16 +13,30 @@ slot-used-requires : tie.Need-slot-used-requires
 slot-used-requires c κs = search needs
 
 returns : tie.Need-returns
-returns c = open-no (c .before .before .before .before .args .c) (now (c .before .before .before .before .args .w)) (c .before .before .before .before .args .h .0) (c .before .before .slot-of .result) (c .before .before .slot-of .ensures) (c .before .slot-used .ensures) (not-true _ (c .if1 .taken))
+returns c =
+    open-no (c .before .before .before .before .args .c) (now (c .before .before .before .before .args .w))
+    (c .before .before .before .before .args .h .0) (c .before .before .slot-of .result)
+    (c .before .before .slot-of .ensures) (c .before .slot-used .ensures) (not-true _ (c .if1 .taken))
 
 wide-requires : tie.Need-wide-requires
 wide-requires c κs = search needs
 
 state-of-requires : tie.Need-state-of-requires
-state-of-requires c κs = (c .before .before .before .before .before .pre, rw (c .wide .ensures) (used-row (c .before .before .before .before .before .args .c) (now (c .before .before .before .before .before .args .w)) (c .before .before .before .slot-of .result) (c .before .before .slot-used .ensures) (not-false _ (c .before .if1 .left))))
+state-of-requires c κs = (
+  c .before .before .before .before .before .pre,
+  rw (c .wide .ensures)
+      (used-row (c .before .before .before .before .before .args .c)
+      (now (c .before .before .before .before .before .args .w)) (c .before .before .before .slot-of .result)
+      (c .before .before .slot-used .ensures) (not-false _ (c .before .if1 .left))),
+)
 
 returns-2 : tie.Need-returns-2
-returns-2 c = open-is (c .before .before .before .before .before .before .args .c) (now (c .before .before .before .before .before .before .args .w)) (c .before .before .before .before .before .before .args .h .0) (c .before .before .before .before .slot-of .result) (c .before .before .before .before .slot-of .ensures) (c .before .before .before .slot-used .ensures) (not-false _ (c .before .before .if1 .left)) (c .before .wide .ensures) (c .state-of .ensures)
+returns-2 c =
+    open-is (c .before .before .before .before .before .before .args .c)
+    (now (c .before .before .before .before .before .before .args .w))
+    (c .before .before .before .before .before .before .args .h .0) (c .before .before .before .before .slot-of .result)
+    (c .before .before .before .before .slot-of .ensures) (c .before .before .before .slot-used .ensures)
+    (not-false _ (c .before .before .if1 .left)) (c .before .wide .ensures) (c .state-of .ensures)
 
 pub is-open-spec : {M : Type 1} → statement M
 is-open-spec =

@@ -19,10 +19,15 @@ wide-requires : tie.Need-wide-requires
 wide-requires c κs = search needs
 
 state-of-requires : tie.Need-state-of-requires
-state-of-requires c κs = (c .before .before .before .before .before .pre, record { low = omega arith; high = omega arith })
+state-of-requires c κs =
+    (c .before .before .before .before .before .pre, record { low = omega arith; high = omega arith })
 
 returns-3 : tie.Need-returns-3
-returns-3 c = rw (c .before .wide .ensures) at (used-is (c .before .before .before .before .before .before .args .c) (now (c .before .before .before .before .before .before .args .w)) (c .before .wide .result) (record { low = omega arith; high = omega arith }) (c .state-of .ensures))
+returns-3 c =
+    rw (c .before .wide .ensures) at
+    (used-is (c .before .before .before .before .before .before .args .c)
+    (now (c .before .before .before .before .before .before .args .w)) (c .before .wide .result)
+    (record { low = omega arith; high = omega arith }) (c .state-of .ensures))
 
 pub slot-used-spec : {M : Type 1} → statement M
 slot-used-spec =

@@ -23,7 +23,8 @@ more-requires : tie.Need-more-requires Inv-loop μ-loop
 more-requires c κs = tt
 
 next-of-requires : tie.Need-next-of-requires Inv-loop μ-loop
-next-of-requires c κs = (lies (c .before .before .before .before .before .pre .0), row-of _ _ _ (c .before .more .ensures) (c .if1 .taken))
+next-of-requires c κs =
+    (lies (c .before .before .before .before .before .pre .0), row-of _ _ _ (c .before .more .ensures) (c .if1 .taken))
 
 sub-left : tie.Need-sub-left Inv-loop μ-loop
 sub-left c = fuel-of _ _ _ (c .before .before .more .ensures) (c .before .if1 .taken)
@@ -32,10 +33,15 @@ loop-less : tie.Need-loop-less Inv-loop μ-loop
 loop-less c = omega (arith, fuel-of _ _ _ (c .before .before .more .ensures) (c .before .if1 .taken))
 
 loop-again : tie.Need-loop-again Inv-loop μ-loop
-loop-again c = counting-on (c .before .before .before .loop .inv) (c .before .before .more .ensures) (c .before .if1 .taken) (fuel-of _ _ _ (c .before .before .more .ensures) (c .before .if1 .taken)) (c .next-of .ensures)
+loop-again c =
+    counting-on (c .before .before .before .loop .inv) (c .before .before .more .ensures) (c .before .if1 .taken)
+    (fuel-of _ _ _ (c .before .before .more .ensures) (c .before .if1 .taken)) (c .next-of .ensures)
 
 returns : tie.Need-returns Inv-loop μ-loop
-returns c = counting-says _ _ _ (c .before .before .before .before .before .pre .1) (c .before .before .before .head-of .ensures) (c .before .before .loop .inv) (c .before .more .ensures) (c .if1 .left)
+returns c =
+    counting-says _ _ _ (c .before .before .before .before .before .pre .1)
+    (c .before .before .before .head-of .ensures) (c .before .before .loop .inv) (c .before .more .ensures)
+    (c .if1 .left)
 
 pub has-free-spec : {M : Type 1} → statement M
 has-free-spec =

@@ -16,10 +16,19 @@ written-count-requires : tie.Need-written-count-requires
 written-count-requires c κs = search needs
 
 has-free-requires : tie.Need-has-free-requires
-has-free-requires c κs = rw (c .before .before .version-table .ensures, c .before .version-heads .ensures) (versions-laid (c .before .before .before .before .pre .0 .fits), c .before .before .before .before .pre .0 .versions-parted)
+has-free-requires c κs =
+    rw (c .before .before .version-table .ensures, c .before .version-heads .ensures) (
+      versions-laid (c .before .before .before .before .pre .0 .fits),
+      c .before .before .before .before .pre .0 .versions-parted,
+    )
 
 returns : tie.Need-returns
-returns c = version-room-is (c .before .before .before .before .before .args .c) (now (c .before .before .before .before .before .args .w)) (c .before .before .before .before .before .args .k) (c .before .before .before .before .before .pre .1) (c .before .written-count .ensures) (rw (c .before .before .before .version-table .ensures, c .before .before .version-heads .ensures) at (c .has-free .ensures))
+returns c =
+    version-room-is (c .before .before .before .before .before .args .c)
+    (now (c .before .before .before .before .before .args .w)) (c .before .before .before .before .before .args .k)
+    (c .before .before .before .before .before .pre .1) (c .before .written-count .ensures)
+    (rw (c .before .before .before .version-table .ensures, c .before .before .version-heads .ensures) at
+    (c .has-free .ensures))
 
 pub version-room-spec : {M : Type 1} → statement M
 version-room-spec =

@@ -23,13 +23,29 @@ smaller-requires : tie.Need-smaller-requires
 smaller-requires c κs = search needs
 
 returns-2 : tie.Need-returns-2
-returns-2 c = turn-off _ _ (c .before .before .before .before .owns-write .ensures) (not-false _ (c .before .before .before .if1 .left)) refl (lt-leb (max (c .before .before .before .before .before .args .low) (c .before .before .before .before .before .args .l .low)) (min LAST (c .before .before .before .before .before .args .l .high)) (omega (arith, c .before .smaller .ensures, c .before .before .larger .ensures, c .if2 .taken)))
+returns-2 c =
+    turn-off _ _ (c .before .before .before .before .owns-write .ensures)
+    (not-false _ (c .before .before .before .if1 .left)) refl
+    (lt-leb (max (c .before .before .before .before .before .args .low)
+    (c .before .before .before .before .before .args .l .low))
+    (min LAST (c .before .before .before .before .before .args .l .high))
+    (omega (arith, c .before .smaller .ensures, c .before .before .larger .ensures, c .if2 .taken)))
 
 smaller-requires-2 : tie.Need-smaller-requires-2
 smaller-requires-2 c κs = search needs
 
 returns-3 : tie.Need-returns-3
-returns-3 c = turn-on _ (c .before .before .before .before .before .owns-write .ensures) (not-false _ (c .before .before .before .before .if1 .left)) refl (le-leb (max (c .before .before .before .before .before .before .args .low) (c .before .before .before .before .before .before .args .l .low)) (min LAST (c .before .before .before .before .before .before .args .l .high)) (omega (arith, c .before .before .smaller .ensures, c .before .before .before .larger .ensures, c .before .if2 .left))) (c .smaller2 .ensures ∙ ap (min (c .before .before .before .before .before .before .args .best)) (c .before .before .before .larger .ensures))
+returns-3 c =
+    turn-on _ (c .before .before .before .before .before .owns-write .ensures)
+    (not-false _ (c .before .before .before .before .if1 .left)) refl
+    (le-leb (max (c .before .before .before .before .before .before .args .low)
+    (c .before .before .before .before .before .before .args .l .low))
+    (min LAST (c .before .before .before .before .before .before .args .l .high))
+    (omega
+    (arith, c .before .before .smaller .ensures, c .before .before .before .larger .ensures, c .before .if2 .left)))
+    (c .smaller2 .ensures
+    ∙ ap (min (c .before .before .before .before .before .before .args .best))
+    (c .before .before .before .larger .ensures))
 
 pub earlier-spec : {M : Type 1} → statement M
 earlier-spec =

@@ -21,13 +21,20 @@ loop-holds : tie.Need-loop-holds Inv-loop μ-loop
 loop-holds c = lift-start (c .before .pre .3)
 
 raise-requires : tie.Need-raise-requires Inv-loop μ-loop
-raise-requires c κs = (c .before .before .before .pre .0, c .before .before .before .pre .1, c .before .before .before .pre .2, c .before .loop .inv .top, c .before .before .before .pre .4)
+raise-requires c κs = (
+  c .before .before .before .pre .0,
+  c .before .before .before .pre .1,
+  c .before .before .before .pre .2,
+  c .before .loop .inv .top,
+  c .before .before .before .pre .4,
+)
 
 returns : tie.Need-returns Inv-loop μ-loop
 returns c = lift-stop (c .before .before .before .loop .inv) (c .before .raise .ensures) (c .if1 .taken)
 
 loop-less : tie.Need-loop-less Inv-loop μ-loop
-loop-less c = omega (arith, lift-moves (c .before .before .before .loop .inv) (c .before .raise .ensures) (c .if1 .left))
+loop-less c =
+    omega (arith, lift-moves (c .before .before .before .loop .inv) (c .before .raise .ensures) (c .if1 .left))
 
 loop-again : tie.Need-loop-again Inv-loop μ-loop
 loop-again c = lift-on (c .before .before .before .loop .inv) (c .before .raise .ensures)

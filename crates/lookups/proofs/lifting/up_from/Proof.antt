@@ -12,7 +12,10 @@ use Rattle.lookups.proofs.lifting.up_from.Statement.{statement}
 use Rattle.lookups.proofs.lifting.up_from.Tie as tie
 
 returns : tie.Need-returns
-returns c = up-stays (ownOn (recordsOf (c .before .before .before .args .c) (now (c .before .before .before .args .w))) (c .before .before .before .args .k) (c .before .before .before .args .a)) (c .before .before .before .args .a) (c .before .before .before .args .low) (not-true _ (c .if1 .taken))
+returns c =
+    up-stays (ownOn (recordsOf (c .before .before .before .args .c) (now (c .before .before .before .args .w)))
+    (c .before .before .before .args .k) (c .before .before .before .args .a))
+    (c .before .before .before .args .a) (c .before .before .before .args .low) (not-true _ (c .if1 .taken))
 
 word-requires : tie.Need-word-requires
 word-requires c κs = search needs
@@ -24,7 +27,21 @@ first-write-requires : tie.Need-first-write-requires
 first-write-requires c κs = search needs
 
 returns-2 : tie.Need-returns-2
-returns-2 c = up-asks (ownOn (recordsOf (c .before .before .before .before .before .before .args .c) (now (c .before .before .before .before .before .before .args .w))) (c .before .before .before .before .before .before .args .k) (c .before .before .before .before .before .before .args .a)) (c .before .before .before .before .before .before .args .a) (c .before .before .before .before .before .before .args .low) (not-false _ (c .before .before .before .if1 .left)) (c .first-write .ensures ∙ ap (λ ls. firstUnder (writes ls) (c .before .before .before .before .before .before .args .low)) (own-on (c .before .before .before .before .before .before .args .c) (now (c .before .before .before .before .before .before .args .w)) (c .before .before .before .before .before .before .args .k) (c .before .before .before .before .before .before .args .a) (c .before .before .before .before .before .before .pre .1) (c .before .before .word .ensures) (c .before .wide .ensures)))
+returns-2 c =
+    up-asks (ownOn (recordsOf (c .before .before .before .before .before .before .args .c)
+    (now (c .before .before .before .before .before .before .args .w)))
+    (c .before .before .before .before .before .before .args .k)
+    (c .before .before .before .before .before .before .args .a))
+    (c .before .before .before .before .before .before .args .a)
+    (c .before .before .before .before .before .before .args .low) (not-false _ (c .before .before .before .if1 .left))
+    (c .first-write .ensures
+    ∙ ap (λ ls. firstUnder (writes ls) (c .before .before .before .before .before .before .args .low))
+    (own-on (c .before .before .before .before .before .before .args .c)
+    (now (c .before .before .before .before .before .before .args .w))
+    (c .before .before .before .before .before .before .args .k)
+    (c .before .before .before .before .before .before .args .a)
+    (c .before .before .before .before .before .before .pre .1) (c .before .before .word .ensures)
+    (c .before .wide .ensures)))
 
 pub up-from-spec : {M : Type 1} → statement M
 up-from-spec =

@@ -18,13 +18,16 @@ loop-holds : tie.Need-loop-holds Inv-loop μ-loop
 loop-holds c = run-start _ _ _ (c .before .pre .2)
 
 past-requires : tie.Need-past-requires Inv-loop μ-loop
-past-requires c κs = (c .before .before .before .pre .0, c .before .before .before .pre .1, c .before .before .before .pre .3)
+past-requires c κs =
+    (c .before .before .before .pre .0, c .before .before .before .pre .1, c .before .before .before .pre .3)
 
 returns : tie.Need-returns Inv-loop μ-loop
-returns c = run-stop _ _ _ (c .before .before .before .loop .inv) (search needs) (c .before .past .ensures) (c .if1 .taken)
+returns c =
+    run-stop _ _ _ (c .before .before .before .loop .inv) (search needs) (c .before .past .ensures) (c .if1 .taken)
 
 loop-less : tie.Need-loop-less Inv-loop μ-loop
-loop-less c = omega (arith, run-moves _ _ _ (c .before .before .before .loop .inv) (c .before .past .ensures) (c .if1 .left))
+loop-less c =
+    omega (arith, run-moves _ _ _ (c .before .before .before .loop .inv) (c .before .past .ensures) (c .if1 .left))
 
 loop-again : tie.Need-loop-again Inv-loop μ-loop
 loop-again c = run-on _ _ _ (c .before .before .before .loop .inv) (c .before .past .ensures)

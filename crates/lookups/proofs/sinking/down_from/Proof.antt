@@ -12,7 +12,10 @@ use Rattle.lookups.proofs.sinking.down_from.Statement.{statement}
 use Rattle.lookups.proofs.sinking.down_from.Tie as tie
 
 returns : tie.Need-returns
-returns c = down-stays (ownOn (recordsOf (c .before .before .before .args .c) (now (c .before .before .before .args .w))) (c .before .before .before .args .k) (c .before .before .before .args .a)) (c .before .before .before .args .a) (c .before .before .before .args .high) (not-true _ (c .if1 .taken))
+returns c =
+    down-stays (ownOn (recordsOf (c .before .before .before .args .c) (now (c .before .before .before .args .w)))
+    (c .before .before .before .args .k) (c .before .before .before .args .a))
+    (c .before .before .before .args .a) (c .before .before .before .args .high) (not-true _ (c .if1 .taken))
 
 word-requires : tie.Need-word-requires
 word-requires c κs = search needs
@@ -24,7 +27,21 @@ last-write-requires : tie.Need-last-write-requires
 last-write-requires c κs = search needs
 
 returns-2 : tie.Need-returns-2
-returns-2 c = down-asks (ownOn (recordsOf (c .before .before .before .before .before .before .args .c) (now (c .before .before .before .before .before .before .args .w))) (c .before .before .before .before .before .before .args .k) (c .before .before .before .before .before .before .args .a)) (c .before .before .before .before .before .before .args .a) (c .before .before .before .before .before .before .args .high) (not-false _ (c .before .before .before .if1 .left)) (c .last-write .ensures ∙ ap (λ ls. lastUnder (writes ls) (c .before .before .before .before .before .before .args .high)) (own-on (c .before .before .before .before .before .before .args .c) (now (c .before .before .before .before .before .before .args .w)) (c .before .before .before .before .before .before .args .k) (c .before .before .before .before .before .before .args .a) (c .before .before .before .before .before .before .pre .1) (c .before .before .word .ensures) (c .before .wide .ensures)))
+returns-2 c =
+    down-asks (ownOn (recordsOf (c .before .before .before .before .before .before .args .c)
+    (now (c .before .before .before .before .before .before .args .w)))
+    (c .before .before .before .before .before .before .args .k)
+    (c .before .before .before .before .before .before .args .a))
+    (c .before .before .before .before .before .before .args .a)
+    (c .before .before .before .before .before .before .args .high) (not-false _ (c .before .before .before .if1 .left))
+    (c .last-write .ensures
+    ∙ ap (λ ls. lastUnder (writes ls) (c .before .before .before .before .before .before .args .high))
+    (own-on (c .before .before .before .before .before .before .args .c)
+    (now (c .before .before .before .before .before .before .args .w))
+    (c .before .before .before .before .before .before .args .k)
+    (c .before .before .before .before .before .before .args .a)
+    (c .before .before .before .before .before .before .pre .1) (c .before .before .word .ensures)
+    (c .before .wide .ensures)))
 
 pub down-from-spec : {M : Type 1} → statement M
 down-from-spec =

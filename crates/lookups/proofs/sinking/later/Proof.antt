@@ -19,13 +19,27 @@ smaller-requires : tie.Need-smaller-requires
 smaller-requires c κs = search needs
 
 returns-2 : tie.Need-returns-2
-returns-2 c = turn-off _ _ (c .before .before .before .before .owns-write .ensures) (not-false _ (c .before .before .before .if1 .left)) refl (lt-leb (c .before .before .before .before .before .args .l .low) (min (c .before .before .before .before .before .args .high) (c .before .before .before .before .before .args .l .high)) (omega (arith, c .before .before .smaller .ensures, c .if2 .taken)))
+returns-2 c =
+    turn-off _ _ (c .before .before .before .before .owns-write .ensures)
+    (not-false _ (c .before .before .before .if1 .left)) refl
+    (lt-leb (c .before .before .before .before .before .args .l .low)
+    (min (c .before .before .before .before .before .args .high)
+    (c .before .before .before .before .before .args .l .high))
+    (omega (arith, c .before .before .smaller .ensures, c .if2 .taken)))
 
 larger-requires : tie.Need-larger-requires
 larger-requires c κs = search needs
 
 returns-3 : tie.Need-returns-3
-returns-3 c = turn-on _ (c .before .before .before .before .before .owns-write .ensures) (not-false _ (c .before .before .before .before .if1 .left)) refl (le-leb (c .before .before .before .before .before .before .args .l .low) (min (c .before .before .before .before .before .before .args .high) (c .before .before .before .before .before .before .args .l .high)) (omega (arith, c .before .before .before .smaller .ensures, c .before .if2 .left))) (c .larger .ensures ∙ ap (max (c .before .before .before .before .before .before .args .best)) (c .before .before .before .smaller .ensures))
+returns-3 c =
+    turn-on _ (c .before .before .before .before .before .owns-write .ensures)
+    (not-false _ (c .before .before .before .before .if1 .left)) refl
+    (le-leb (c .before .before .before .before .before .before .args .l .low)
+    (min (c .before .before .before .before .before .before .args .high)
+    (c .before .before .before .before .before .before .args .l .high))
+    (omega (arith, c .before .before .before .smaller .ensures, c .before .if2 .left)))
+    (c .larger .ensures ∙ ap (max (c .before .before .before .before .before .before .args .best))
+    (c .before .before .before .smaller .ensures))
 
 pub later-spec : {M : Type 1} → statement M
 later-spec =

@@ -20,13 +20,20 @@ loop-holds : tie.Need-loop-holds Inv-loop μ-loop
 loop-holds c = sink-start
 
 lower-requires : tie.Need-lower-requires Inv-loop μ-loop
-lower-requires c κs = (c .before .before .before .pre .0, c .before .before .before .pre .1, c .before .before .before .pre .2, omega (arith, c .before .loop .inv .upto, c .before .before .before .pre .3), c .before .before .before .pre .4)
+lower-requires c κs = (
+  c .before .before .before .pre .0,
+  c .before .before .before .pre .1,
+  c .before .before .before .pre .2,
+  omega (arith, c .before .loop .inv .upto, c .before .before .before .pre .3),
+  c .before .before .before .pre .4,
+)
 
 returns : tie.Need-returns Inv-loop μ-loop
 returns c = sink-stop (c .before .before .before .loop .inv) (c .before .lower .ensures) (c .if1 .taken)
 
 loop-less : tie.Need-loop-less Inv-loop μ-loop
-loop-less c = omega (arith, sink-moves (c .before .before .before .loop .inv) (c .before .lower .ensures) (c .if1 .left))
+loop-less c =
+    omega (arith, sink-moves (c .before .before .before .loop .inv) (c .before .lower .ensures) (c .if1 .left))
 
 loop-again : tie.Need-loop-again Inv-loop μ-loop
 loop-again c = sink-on (c .before .before .before .loop .inv) (c .before .lower .ensures)

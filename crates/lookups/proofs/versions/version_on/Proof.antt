@@ -20,7 +20,9 @@ use Rattle.lookups.proofs.versions.version_on.Statement.{statement}
 use Rattle.lookups.proofs.versions.version_on.Tie as tie
 
 abbrev Inv-loop : tie.InvT-loop
-Inv-loop w c r p n cur₀ left₀ cur left = Walk (link (versionTable c) w) n (λ rs. find (λ v. eqb (v .point) p) first (map (versionAt c w) rs)) (versionOn (recordAt c w r .versions) p) cur left
+Inv-loop w c r p n cur₀ left₀ cur left =
+    Walk (link (versionTable c) w) n (λ rs. find (λ v. eqb (v .point) p) first (map (versionAt c w) rs))
+    (versionOn (recordAt c w r .versions) p) cur left
 
 abbrev μ-loop : tie.MeasureT-loop
 μ-loop w c r p n cur₀ left₀ cur left = left
@@ -30,31 +32,64 @@ first-version-requires c κs = search needs
 
 loop-holds : tie.Need-loop-holds Inv-loop μ-loop
 unfolding versionOn
-loop-holds c = versions-start _ _ _ (find (λ v. eqb (v .point) (c .before .before .args .p)) first) (c .first-version .ensures)
+loop-holds c =
+    versions-start _ _ _ (find (λ v. eqb (v .point) (c .before .before .args .p)) first) (c .first-version .ensures)
 
 more-requires : tie.Need-more-requires Inv-loop μ-loop
 more-requires c κs = tt
 
 version-at-requires : tie.Need-version-at-requires Inv-loop μ-loop
-version-at-requires c κs = (c .before .before .before .before .before .pre .0, row-of _ _ _ (c .before .more .ensures) (c .if1 .taken))
+version-at-requires c κs =
+    (c .before .before .before .before .before .pre .0, row-of _ _ _ (c .before .more .ensures) (c .if1 .taken))
 
 returns : tie.Need-returns Inv-loop μ-loop
-returns c = c .before .before .version-at .ensures ∙ find-out (λ (v : Version). eqb (v .point) (c .before .before .before .before .before .before .before .before .args .p)) (versionAt (c .before .before .before .before .before .before .before .before .args .c) (now (c .before .before .before .before .before .before .before .before .args .w))) first (c .before .before .before .before .before .loop .inv) (c .before .before .before .before .more .ensures) (c .before .before .before .if1 .taken) (of-entry (λ (v : Version). eqb (v .point) (c .before .before .before .before .before .before .before .before .args .p)) (c .before .before .version-at .ensures) (eq-eqb _ _ (c .if2 .taken)))
+returns c =
+    c .before .before .version-at .ensures
+    ∙ find-out
+    (λ (v : Version). eqb (v .point) (c .before .before .before .before .before .before .before .before .args .p))
+    (versionAt (c .before .before .before .before .before .before .before .before .args .c)
+    (now (c .before .before .before .before .before .before .before .before .args .w))) first
+    (c .before .before .before .before .before .loop .inv) (c .before .before .before .before .more .ensures)
+    (c .before .before .before .if1 .taken)
+    (of-entry
+    (λ (v : Version). eqb (v .point) (c .before .before .before .before .before .before .before .before .args .p))
+    (c .before .before .version-at .ensures) (eq-eqb _ _ (c .if2 .taken)))
 
 next-version-requires : tie.Need-next-version-requires Inv-loop μ-loop
-next-version-requires c κs = (c .before .before .before .before .before .before .before .before .pre .0, row-of _ _ _ (c .before .before .before .before .more .ensures) (c .before .before .before .if1 .taken))
+next-version-requires c κs = (
+  c .before .before .before .before .before .before .before .before .pre .0,
+  row-of _ _ _ (c .before .before .before .before .more .ensures) (c .before .before .before .if1 .taken),
+)
 
 sub-left : tie.Need-sub-left Inv-loop μ-loop
-sub-left c = fuel-of _ _ _ (c .before .before .before .before .before .more .ensures) (c .before .before .before .before .if1 .taken)
+sub-left c =
+    fuel-of _ _ _ (c .before .before .before .before .before .more .ensures)
+    (c .before .before .before .before .if1 .taken)
 
 loop-less : tie.Need-loop-less Inv-loop μ-loop
-loop-less c = omega (arith, fuel-of _ _ _ (c .before .before .before .before .before .more .ensures) (c .before .before .before .before .if1 .taken))
+loop-less c =
+    omega (
+      arith,
+      fuel-of _ _ _ (c .before .before .before .before .before .more .ensures)
+          (c .before .before .before .before .if1 .taken),
+    )
 
 loop-again : tie.Need-loop-again Inv-loop μ-loop
-loop-again c = find-on (λ (v : Version). eqb (v .point) (c .before .before .before .before .before .before .before .before .before .args .p)) (versionAt (c .before .before .before .before .before .before .before .before .before .args .c) (now (c .before .before .before .before .before .before .before .before .before .args .w))) first (c .before .before .before .before .before .before .loop .inv) (c .before .before .before .before .before .more .ensures) (c .before .before .before .before .if1 .taken) (of-entry (λ (v : Version). eqb (v .point) (c .before .before .before .before .before .before .before .before .before .args .p)) (c .before .before .before .version-at .ensures) (ne-eqb _ _ (c .before .if2 .left))) (c .next-version .ensures)
+loop-again c =
+    let start = c .before .before .before .before .before .before .before .before .before in
+    find-on (λ (v : Version). eqb (v .point) (start .args .p)) (versionAt (start .args .c) (now (start .args .w))) first
+    (c .before .before .before .before .before .before .loop .inv)
+    (c .before .before .before .before .before .more .ensures) (c .before .before .before .before .if1 .taken)
+    (of-entry (λ (v : Version). eqb (v .point) (start .args .p)) (c .before .before .before .version-at .ensures)
+    (ne-eqb _ _ (c .before .if2 .left)))
+    (c .next-version .ensures)
 
 returns-2 : tie.Need-returns-2 Inv-loop μ-loop
-returns-2 c = find-done (λ (v : Version). eqb (v .point) (c .before .before .before .before .before .args .p)) (versionAt (c .before .before .before .before .before .args .c) (now (c .before .before .before .before .before .args .w))) first (c .before .before .loop .inv) (c .before .more .ensures) (c .if1 .left)
+returns-2 c =
+    find-done (λ (v : Version). eqb (v .point) (c .before .before .before .before .before .args .p))
+    (versionAt (c .before .before .before .before .before .args .c)
+    (now (c .before .before .before .before .before .args .w))) first (c .before .before .loop .inv)
+    (c .before .more .ensures) (c .if1 .left)
 
 pub version-on-spec : {M : Type 1} → statement M
 version-on-spec =
