@@ -25,3 +25,25 @@ pub fn nanoseconds(runs: usize, before: &[u64], call: impl Fn(&mut [u64]) -> boo
     }
     median(times).saturating_sub(median(clock)) as f64
 }
+
+/// Medians of the times, in nanoseconds, of several ways to do the same, each run once a round: what else the machine
+/// does in a round then slows all of them.
+pub fn rounds<const N: usize>(runs: usize, mut ways: [&mut dyn FnMut() -> f64; N]) -> [f64; N] {
+    let mut times = [const { vec![] }; N];
+    for _ in 0..runs {
+        for (way, times) in ways.iter_mut().zip(&mut times) {
+            times.push(way());
+        }
+    }
+    times.map(|mut times: Vec<f64>| {
+        times.sort_unstable_by(f64::total_cmp);
+        times[times.len() / 2]
+    })
+}
+
+/// Nanoseconds of `work`, once.
+pub fn once(work: impl FnOnce()) -> f64 {
+    let start = Instant::now();
+    work();
+    start.elapsed().as_nanos() as f64
+}

@@ -25,6 +25,7 @@
 mod codes;
 mod types;
 
+pub use codes::NOPOINT;
 pub use types::*;
 
 // The declarations of include/zohetiwa.h.
