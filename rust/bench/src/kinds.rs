@@ -9,7 +9,7 @@ use crate::list::List;
 use crate::plain::Plain;
 use crate::rows::{self, ROW, VIEW};
 use crate::stores::{self, LARGEST};
-use crate::timing::{once, rounds};
+use crate::timing::{least, once};
 use crate::Size;
 use cases::Case;
 
@@ -52,7 +52,7 @@ fn times(runs: usize, base: &Base, case: &Case) -> [f64; 2] {
     let (mut ours, mut theirs) = (vec![0; case.calls.len()], vec![0; case.calls.len()]);
     let idle = [VIEW, LARGEST.records as u64, 0, 0, 0, 0];
     let mut idle_words = ready.words.clone();
-    let [all, check, vectors] = rounds(
+    let [all, check, vectors] = least(
         runs,
         [
             &mut || {
@@ -71,10 +71,7 @@ fn times(runs: usize, base: &Base, case: &Case) -> [f64; 2] {
 }
 
 pub fn table(size: Size, base: &Base) {
-    println!(
-        "Calls of one kind, many in one batch, its check taken off. Medians of {} runs, ns per call.\n",
-        size.kinds
-    );
+    println!("Calls of one kind, many in one batch, its check taken off. Least of {} runs, ns per call.\n", size.kinds);
     println!("| Call | how many | batch | plain vectors | batch / vectors |");
     println!("|---|---|---|---|---|");
     for case in base.cases() {

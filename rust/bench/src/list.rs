@@ -145,9 +145,9 @@ impl Maker {
         }
     }
 
-    /// Any record, and one of the first 32 a fifth of the time.
+    /// Any record, and half of the time one of the first 16, where edits get into each other's way.
     fn some_record(&mut self) -> u64 {
-        let among = if self.random.percent(20) { 32 } else { RECORDS };
+        let among = if self.random.percent(50) { 16 } else { RECORDS };
         self.random.below(among)
     }
 

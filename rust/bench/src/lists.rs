@@ -5,7 +5,7 @@ use crate::list::{self, List};
 use crate::plain::Plain;
 use crate::rows::{self, Row, KINDS, ROW};
 use crate::stores::{self, LARGEST};
-use crate::timing::{once, rounds};
+use crate::timing::{least, once};
 use crate::Size;
 
 pub const SEED: u64 = 1;
@@ -58,8 +58,8 @@ pub fn table(size: Size) {
     println!("A list of {} calls (seed {SEED}) from the fresh largest store, some 40 edits open.", list.len());
     println!("Edits that read 1,000 records and committed: {}. No refusal for want of room: at most", list.readings);
     println!("{versions} versions, {locks} locks and {accesses} accesses in use. All stores gave the same replies.");
-    println!("Medians of {} runs.\n", size.lists);
-    let [plain, bare, batch] = rounds(
+    println!("Least of {} runs.\n", size.lists);
+    let [plain, bare, batch] = least(
         size.lists,
         [&mut || plain_time::<true>(&list), &mut || plain_time::<false>(&list), &mut || batch_time(&list)],
     );

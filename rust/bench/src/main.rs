@@ -40,7 +40,7 @@ fn main() -> ExitCode {
     let words: Vec<String> = std::env::args().skip(1).collect();
     let words: Vec<&str> = words.iter().map(String::as_str).collect();
     let size = match words[..] {
-        [] => Size { runs: 201, rounds: stores::ROUNDS, calls: 100_000, lists: 11, prefix: 20_000, kinds: 101 },
+        [] => Size { runs: 201, rounds: stores::ROUNDS, calls: 100_000, lists: 21, prefix: 20_000, kinds: 101 },
         ["short"] => Size { runs: 3, rounds: 4, calls: 6_000, lists: 1, prefix: 1_000, kinds: 1 },
         _ => {
             eprintln!("usage: bench [short]");

@@ -1,4 +1,5 @@
-//! One call, timed many times from the same words; the median, without the time that the clock itself takes.
+//! One call, timed many times from the same words: the median, without the time that the clock itself takes. Many calls
+//! together: the least time.
 
 use std::hint::black_box;
 use std::time::Instant;
@@ -26,19 +27,16 @@ pub fn nanoseconds(runs: usize, before: &[u64], call: impl Fn(&mut [u64]) -> boo
     median(times).saturating_sub(median(clock)) as f64
 }
 
-/// Medians of the times, in nanoseconds, of several ways to do the same, each run once a round: what else the machine
-/// does in a round then slows all of them.
-pub fn rounds<const N: usize>(runs: usize, mut ways: [&mut dyn FnMut() -> f64; N]) -> [f64; N] {
-    let mut times = [const { vec![] }; N];
+/// The least times, in nanoseconds, of several ways to do the same, each run once a round: what else the machine does
+/// only adds to a time, and in a round it slows all ways.
+pub fn least<const N: usize>(runs: usize, mut ways: [&mut dyn FnMut() -> f64; N]) -> [f64; N] {
+    let mut times = [f64::INFINITY; N];
     for _ in 0..runs {
-        for (way, times) in ways.iter_mut().zip(&mut times) {
-            times.push(way());
+        for (way, time) in ways.iter_mut().zip(&mut times) {
+            *time = time.min(way());
         }
     }
-    times.map(|mut times: Vec<f64>| {
-        times.sort_unstable_by(f64::total_cmp);
-        times[times.len() / 2]
-    })
+    times
 }
 
 /// Nanoseconds of `work`, once.

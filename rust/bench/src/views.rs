@@ -5,7 +5,7 @@ use crate::library::views;
 use crate::list::Random;
 use crate::rows::{self, ASK, SHOWN};
 use crate::stores::LARGEST;
-use crate::timing::{once, rounds};
+use crate::timing::{least, once};
 use crate::Size;
 
 const ASKS: usize = 10_000;
@@ -16,7 +16,7 @@ pub fn table(size: Size, base: &Base) {
         (0..ASKS).flat_map(|_| [random.below(LARGEST.records as u64), random.below(base.late)]).collect();
     let mut replies = [vec![0; ASKS * SHOWN], vec![0; ASKS * SHOWN]];
     let [ours, theirs] = &mut replies;
-    let [all, one, vectors] = rounds(
+    let [all, one, vectors] = least(
         size.kinds,
         [
             &mut || once(|| views(&base.words, &asks, ours)),
@@ -27,7 +27,7 @@ pub fn table(size: Size, base: &Base) {
     assert!(replies[0] == replies[1], "the views and the vectors reply differently");
     let (ours, theirs) = ((all - one) / (ASKS - 1) as f64, vectors / ASKS as f64);
     println!("Views of records and points at random on the largest store after a long mixed list, {ASKS} in one");
-    println!("call, its check taken off. Medians of {} runs, ns per ask.\n", size.kinds);
+    println!("call, its check taken off. Least of {} runs, ns per ask.\n", size.kinds);
     println!("| Views after one check | plain vectors | views / vectors |");
     println!("|---|---|---|");
     println!("| {ours:.0} | {theirs:.0} | {:.1} |", ours / theirs);
