@@ -48,7 +48,7 @@ extern "C" {
 #define ZOHETIWA_BAD_FORMAT 16     /* a count is out of range, or the length is not the one that the counts need */
 
 /* No refusal: the Commit found no point, and the edit has ended as aborted. */
-#define ZOHETIWA_NOPOINT 17
+#define ZOHETIWA_NOPOINT 31
 
 /* `part` of Lock and Read: 0 wants all points or none (A), any other number takes a part (P). */
 #define ZOHETIWA_ALL UINT64_C(0)

@@ -9,31 +9,10 @@ ghost use Rattle.meaning.specs.Records.{purging, viewing, pointing};
 ghost use Rattle.meaning.specs.declared.Pick.the-variants.{Earliest, Latest};
 ghost use Rattle.format.specs.Format.{Formats};
 ghost use Rattle.store.specs.Answers.{Does, Shows};
-ghost use Rattle.exports.specs.Codes.{Answers, extentOf, finishOf, named, counts};
+ghost use Rattle.codes.specs.Codes.{Answers, extentOf, finishOf, named, counts};
+ghost use Rattle.batch.specs.Runs.{Runs};
 use meaning::Counts;
-use meaning::Extent;
-use meaning::Finish;
 use meaning::Pick;
-
-mod tell;
-
-// The flags A and P as numbers: 0 is A, any other number is P, so that every number has a meaning.
-fn extent(part: u64) -> Extent
-    ensures { λ x. ⌜ x ≡ extentOf part ⌝ }
-{
-    if part == 0 { Extent::All } else { Extent::Part }
-}
-
-// The flags S and K: 0 is S, any other number is K.
-fn finish(keep: u64) -> Finish
-    ensures { λ x. ⌜ x ≡ finishOf keep ⌝ }
-{
-    if keep == 0 {
-        Finish::Settle
-    } else {
-        Finish::Keep
-    }
-}
 
 // Point: the only call that needs no store.
 #[no_mangle]
@@ -45,7 +24,7 @@ pub extern "C" fn zohetiwa_point(clock: u64, seat: u64, point: &mut u64) -> u64
         ⌝ }
 {
     let reply = store::point(meaning::reading_of(clock), meaning::seat_of(seat));
-    tell::point(reply, point)
+    codes::point(reply, point)
 }
 
 // Format. The counts are lengths of tables, so they are sizes.
@@ -74,7 +53,7 @@ pub extern "C" fn zohetiwa_format(
             accesses: accesses,
         },
     );
-    tell::format(reply)
+    codes::format(reply)
 }
 
 // Begin: the handle of the edit.
@@ -87,7 +66,7 @@ pub extern "C" fn zohetiwa_begin(words: &mut [u64], handle: &mut u64) -> u64
         ⌝ }
 {
     let reply = store::begin(words);
-    tell::begin(reply, handle)
+    codes::begin(reply, handle)
 }
 
 // Write: no further values.
@@ -98,7 +77,7 @@ pub extern "C" fn zohetiwa_write(words: &mut [u64], handle: u64, rec: u64, value
         ⌝ }
 {
     let reply = store::write(words, meaning::handle_of_word(handle), rec, value);
-    tell::write(reply)
+    codes::write(reply)
 }
 
 // Lock: the first and the last point locked.
@@ -122,8 +101,8 @@ pub extern "C" fn zohetiwa_lock(
     let h = meaning::handle_of_word(handle);
     let from = meaning::point_of_word(low);
     let to = meaning::point_of_word(high);
-    let reply = store::lock(words, h, rec, from, to, extent(part));
-    tell::lock(reply, first, last)
+    let reply = store::lock(words, h, rec, from, to, codes::extent(part));
+    codes::lock(reply, first, last)
 }
 
 // Read: which of its three replies, the point of the version, the last point locked, whether the value was ever
@@ -149,8 +128,8 @@ pub extern "C" fn zohetiwa_read(
 {
     let h = meaning::handle_of_word(handle);
     let upto = meaning::point_of_word(m);
-    let reply = store::read(words, h, rec, upto, extent(part));
-    tell::read(reply, kind, tr, end, written, value)
+    let reply = store::read(words, h, rec, upto, codes::extent(part));
+    codes::read(reply, kind, tr, end, written, value)
 }
 
 // Commit, a function for each choice of the point: the commit point.
@@ -171,9 +150,9 @@ pub extern "C" fn zohetiwa_commit_earliest(
         words,
         meaning::handle_of_word(handle),
         Pick::Earliest,
-        finish(keep),
+        codes::finish(keep),
     );
-    tell::commit(reply, point)
+    codes::commit(reply, point)
 }
 
 #[no_mangle]
@@ -193,9 +172,9 @@ pub extern "C" fn zohetiwa_commit_latest(
         words,
         meaning::handle_of_word(handle),
         Pick::Latest,
-        finish(keep),
+        codes::finish(keep),
     );
-    tell::commit(reply, point)
+    codes::commit(reply, point)
 }
 
 #[no_mangle]
@@ -214,8 +193,8 @@ pub extern "C" fn zohetiwa_commit_at(
 {
     let h = meaning::handle_of_word(handle);
     let pick = Pick::Named(meaning::point_of_word(at));
-    let reply = store::commit(words, h, pick, finish(keep));
-    tell::commit(reply, point)
+    let reply = store::commit(words, h, pick, codes::finish(keep));
+    codes::commit(reply, point)
 }
 
 // Abort: no further values.
@@ -225,8 +204,8 @@ pub extern "C" fn zohetiwa_abort(words: &mut [u64], handle: u64, keep: u64) -> u
         Answers (Does (aborting handle (finishOf keep)) (now (words .entry)) (now (words .exit))) code [] []
         ⌝ }
 {
-    let reply = store::abort(words, meaning::handle_of_word(handle), finish(keep));
-    tell::abort(reply)
+    let reply = store::abort(words, meaning::handle_of_word(handle), codes::finish(keep));
+    codes::abort(reply)
 }
 
 // Settle: no further values.
@@ -235,7 +214,7 @@ pub extern "C" fn zohetiwa_settle(words: &mut [u64], handle: u64) -> u64
     ensures { λ code. ⌜ Answers (Does (settling handle) (now (words .entry)) (now (words .exit))) code [] [] ⌝ }
 {
     let reply = store::settle(words, meaning::handle_of_word(handle));
-    tell::settle(reply)
+    codes::settle(reply)
 }
 
 // Purge: the version rows and the lock rows freed.
@@ -254,7 +233,7 @@ pub extern "C" fn zohetiwa_purge(
         ⌝ }
 {
     let reply = store::purge(words, rec, meaning::point_of_word(b));
-    tell::purge(reply, versions, locks)
+    codes::purge(reply, versions, locks)
 }
 
 // View: the point of the version, whether it was ever written, its bits.
@@ -274,5 +253,18 @@ pub extern "C" fn zohetiwa_view(
         ⌝ }
 {
     let reply = store::view(words, rec, meaning::point_of_word(p));
-    tell::view(reply, point, written, value)
+    codes::view(reply, point, written, value)
+}
+
+// Many calls after one check of the words: how many were done. What the words of a call and of a reply say is in the
+// crate `batch`.
+#[no_mangle]
+pub extern "C" fn zohetiwa_batch(words: &mut [u64], calls: &[u64], replies: &mut [u64]) -> u64
+    ensures { λ n. ⌜
+        Runs (now (calls .entry))
+        (now (words .entry)) (now (words .exit))
+        (now (replies .entry)) (now (replies .exit)) n
+        ⌝ }
+{
+    batch::run(words, calls, replies) as u64
 }

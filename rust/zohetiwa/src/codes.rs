@@ -5,7 +5,7 @@
 use crate::types::{Answer, Extent, Finish, Handle, Point, Read, Refusal, Value};
 
 /// Returned by a Commit that found no point.
-pub const NOPOINT: u64 = 17;
+pub const NOPOINT: u64 = 31;
 
 /// `reply` if the number says granted, else the refusal.
 pub fn told<T>(code: u64, reply: T) -> Answer<T> {

@@ -1,0 +1,4 @@
+-- Laws of the rows of replies, of the kinds of calls and of lists of calls.
+pub mod Telling
+pub mod Decoding
+pub mod Running

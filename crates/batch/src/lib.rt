@@ -1,0 +1,76 @@
+// Many calls after one check of the words: a lent list of calls as rows of words, and a lent area for their replies.
+// The public functions have no `requires`. Each call leaves the words as sound as they were, so that one check serves
+// all.
+ghost use Prim.Native.Nat.{_+_, _*_, _≤_, min};
+ghost use mathlib.Core.Path.{_≡_};
+ghost use lib.ListN.{length};
+ghost use Rattle.tables.specs.Words.{lent, soundWords};
+ghost use Rattle.batch.specs.Encoding.{CALL-WORDS, REPLY-WORDS, wordsOf};
+ghost use Rattle.batch.specs.Runs.{Answers, Steps, Runs};
+use encoding::CALL_WORDS;
+use encoding::call_at;
+use known::perform;
+use meaning::Call;
+use meaning::Refusal;
+use rows::REPLY_WORDS;
+use rows::Row;
+use rows::put_row;
+use rows::row_0;
+use rows::row_of;
+
+mod encoding;
+mod known;
+mod rows;
+
+fn least(a: usize, b: usize) -> usize
+    ensures { λ r. ⌜ r ≡ min a b ⌝ }
+{
+    if a <= b { a } else { b }
+}
+
+// The call on words of which it is known whether they are sound, and its reply as a row.
+fn answer(words: &mut [u64], good: bool, call: Call) -> Row
+    requires { ⌜ soundWords (lent (now words)) ≡ good ⌝ }
+    ensures { λ r. ⌜ Answers call (now (words .entry)) (now (words .exit)) (wordsOf r) ⌝ }
+{
+    if good {
+        row_of(perform(words, call))
+    } else {
+        row_0(codes::refusal(Refusal::Unsound))
+    }
+}
+
+// Call i of the list, and its reply in row i.
+fn step(words: &mut [u64], good: bool, list: &[u64], i: usize, replies: &mut [u64])
+    requires { ⌜
+        (soundWords (lent (now words)) ≡ good)
+        × ((i + 1) * CALL-WORDS ≤ length (now list))
+        × ((i + 1) * REPLY-WORDS ≤ length (now replies))
+        ⌝ }
+    ensures { λ _. ⌜
+        Steps (now (list .entry)) i
+        (now (words .entry)) (now (words .exit))
+        (now (replies .entry)) (now (replies .exit))
+        ⌝ }
+{
+    let row = answer(words, good, call_at(list, i));
+    put_row(replies, i * REPLY_WORDS, row);
+}
+
+// Does the calls of the list in their order, until the list ends or the next reply has no room, and answers how many.
+pub fn run(words: &mut [u64], list: &[u64], replies: &mut [u64]) -> usize
+    ensures { λ n. ⌜
+        Runs (now (list .entry))
+        (now (words .entry)) (now (words .exit))
+        (now (replies .entry)) (now (replies .exit)) n
+        ⌝ }
+{
+    let good = soundness::check(words);
+    let n = least(list.len() / CALL_WORDS, replies.len() / REPLY_WORDS);
+    let mut i = 0;
+    while i < n {
+        step(words, good, list, i, replies);
+        i += 1;
+    }
+    n
+}
