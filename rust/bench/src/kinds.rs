@@ -12,9 +12,14 @@ use crate::stores::{self, LARGEST};
 use crate::timing::{least, once};
 use crate::Size;
 use cases::Case;
+use zohetiwa::Counts;
+
+/// Begin is timed on a store of 63 slots and one row of each kind: on a larger one the check would hide 63 Begins.
+const SLOTS: Counts = Counts { records: 1, edits: 63, versions: 1, locks: 1, accesses: 1 };
 
 /// The same store as vectors and as words.
 pub struct Base {
+    counts: Counts,
     pub plain: Plain<true>,
     pub words: Vec<u64>,
     /// A point later than all in it.
@@ -22,10 +27,15 @@ pub struct Base {
 }
 
 impl Base {
+    fn fresh(counts: Counts) -> Base {
+        Base { counts, plain: Plain::new(counts), words: stores::fresh(counts), late: 1 }
+    }
+
     /// The largest store after the list.
     pub fn after(list: &List) -> Base {
-        let mut base = Base { plain: Plain::new(LARGEST), words: stores::fresh(LARGEST), late: list.late };
+        let mut base = Base::fresh(LARGEST);
         base.run(&list.calls);
+        base.late = list.late;
         base
     }
 
@@ -38,9 +48,9 @@ impl Base {
     }
 
     fn copy(&self) -> Base {
-        let mut plain = Plain::new(LARGEST);
+        let mut plain = Plain::new(self.counts);
         plain.become_like(&self.plain);
-        Base { plain, words: self.words.clone(), late: self.late }
+        Base { plain, words: self.words.clone(), ..*self }
     }
 }
 
@@ -50,22 +60,16 @@ fn times(runs: usize, base: &Base, case: &Case) -> [f64; 2] {
     ready.run(&case.before);
     let Base { mut plain, mut words, .. } = ready.copy();
     let (mut ours, mut theirs) = (vec![0; case.calls.len()], vec![0; case.calls.len()]);
-    let idle = [VIEW, LARGEST.records as u64, 0, 0, 0, 0];
-    let mut idle_words = ready.words.clone();
-    let [all, check, vectors] = least(
-        runs,
-        [
-            &mut || {
-                words.copy_from_slice(&ready.words);
-                once(|| batch(&mut words, &case.calls, &mut ours))
-            },
-            &mut || once(|| batch(&mut idle_words, &idle, &mut [0; ROW])),
-            &mut || {
-                plain.become_like(&ready.plain);
-                once(|| rows::run(&mut plain, &case.calls, &mut theirs))
-            },
-        ],
-    );
+    let nothing = [VIEW, LARGEST.records as u64, 0, 0, 0, 0];
+    let [all, check, vectors] = least(runs, |way| {
+        words.copy_from_slice(&ready.words);
+        plain.become_like(&ready.plain);
+        match way {
+            0 => once(|| batch(&mut words, &case.calls, &mut ours)),
+            1 => once(|| batch(&mut words, &nothing, &mut [0; ROW])),
+            _ => once(|| rows::run(&mut plain, &case.calls, &mut theirs)),
+        }
+    });
     assert!(ours == theirs, "{}: the batch and the vectors reply differently", case.name);
     [(all - check) / case.count() as f64, vectors / case.count() as f64]
 }
@@ -74,8 +78,13 @@ pub fn table(size: Size, base: &Base) {
     println!("Calls of one kind, many in one batch, its check taken off. Least of {} runs, ns per call.\n", size.kinds);
     println!("| Call | how many | batch | plain vectors | batch / vectors |");
     println!("|---|---|---|---|---|");
-    for case in base.cases() {
-        let [ours, theirs] = times(size.kinds, base, &case);
+    let line = |base: &Base, case: &Case| {
+        let [ours, theirs] = times(size.kinds, base, case);
         println!("| {} | {} | {ours:.0} | {theirs:.0} | {:.1} |", case.name, case.count(), ours / theirs);
+    };
+    let slots = Base::fresh(SLOTS);
+    line(&slots, &slots.begins());
+    for case in base.cases() {
+        line(base, &case);
     }
 }

@@ -1,6 +1,6 @@
 //! The proved store as a store of rows: each call by its public function, and so with its own check; or many after one.
 
-use crate::rows::{self, Store};
+use crate::rows::{self, Store, ROW};
 use zohetiwa::*;
 
 pub struct Public<'a>(pub &'a mut [u64]);
@@ -45,7 +45,8 @@ impl Store for Public<'_> {
 
 /// Many calls after one check.
 pub fn batch(words: &mut [u64], calls: &[u64], replies: &mut [u64]) {
-    rows::run(&mut Public(words), calls, replies);
+    let done = zohetiwa::batch(words, calls, replies);
+    assert_eq!(done as usize, calls.len() / ROW);
 }
 
 /// Many views after one check.

@@ -5,7 +5,7 @@ use crate::list::{self, List};
 use crate::plain::Plain;
 use crate::rows::{self, Row, KINDS, ROW};
 use crate::stores::{self, LARGEST};
-use crate::timing::{least, once};
+use crate::timing::{least, median, once};
 use crate::Size;
 
 pub const SEED: u64 = 1;
@@ -31,20 +31,19 @@ fn batch_time(list: &List) -> f64 {
     timed(list, |calls, replies| batch(&mut words, calls, replies))
 }
 
-/// How many calls of each kind there were, and their nanoseconds through the public calls.
-fn by_kind(list: &List, count: usize) -> [(usize, f64); KINDS.len()] {
+/// The median nanoseconds of the public calls of each kind among the first of the list.
+fn by_kind(list: &List, count: usize) -> [f64; KINDS.len()] {
     let mut words = stores::fresh(LARGEST);
     let mut store = Public(&mut words);
-    let mut kinds = [(0, 0.0); KINDS.len()];
+    let mut times = [const { vec![] }; KINDS.len()];
     for (call, plain) in list.calls.chunks(ROW).zip(list.replies.chunks(ROW)).take(count) {
         let call: Row = call.try_into().expect("six words");
         let mut reply = [0; ROW];
         let time = once(|| reply = rows::answer(&mut store, call));
         assert_eq!(plain, reply, "{call:?}");
-        let kind = &mut kinds[call[0] as usize];
-        *kind = (kind.0 + 1, kind.1 + time);
+        times[call[0] as usize].push(time as u128);
     }
-    kinds
+    times.map(|times| median(times) as f64)
 }
 
 fn count(list: &List, kind: u64) -> (usize, usize) {
@@ -59,22 +58,22 @@ pub fn table(size: Size) {
     println!("Edits that read 1,000 records and committed: {}. No refusal for want of room: at most", list.readings);
     println!("{versions} versions, {locks} locks and {accesses} accesses in use. All stores gave the same replies.");
     println!("Least of {} runs.\n", size.lists);
-    let [plain, bare, batch] = least(
-        size.lists,
-        [&mut || plain_time::<true>(&list), &mut || plain_time::<false>(&list), &mut || batch_time(&list)],
-    );
+    let [plain, bare, batch] = least(size.lists, |way| match way {
+        0 => plain_time::<true>(&list),
+        1 => plain_time::<false>(&list),
+        _ => batch_time(&list),
+    });
     println!("| Store | ns per call | / vectors |");
     println!("|---|---|---|");
     let line = |name: &str, time: f64| println!("| {name} | {:.0} | {:.1} |", time / list.len() as f64, time / plain);
     line("plain vectors", plain);
     line("plain vectors without indexes", bare);
     line("batch, its check included", batch);
-    let kinds = by_kind(&list, size.prefix);
-    println!("\nThe kinds in the list, and the public calls by kind on its first {} calls, mean ns.\n", size.prefix);
+    println!("\nThe kinds in the list, and the public calls by kind on its first {} calls, median ns.\n", size.prefix);
     println!("| Call | in the list | refused | public call |");
     println!("|---|---|---|---|");
-    for (kind, (timed, time)) in kinds.into_iter().enumerate() {
+    for (kind, time) in by_kind(&list, size.prefix).into_iter().enumerate() {
         let (calls, refused) = count(&list, kind as u64);
-        println!("| {} | {calls} | {refused} | {:.0} |", KINDS[kind], time / timed as f64);
+        println!("| {} | {calls} | {refused} | {time:.0} |", KINDS[kind]);
     }
 }

@@ -4,7 +4,7 @@
 use std::hint::black_box;
 use std::time::Instant;
 
-fn median(mut times: Vec<u128>) -> u128 {
+pub fn median(mut times: Vec<u128>) -> u128 {
     times.sort_unstable();
     times[times.len() / 2]
 }
@@ -27,13 +27,13 @@ pub fn nanoseconds(runs: usize, before: &[u64], call: impl Fn(&mut [u64]) -> boo
     median(times).saturating_sub(median(clock)) as f64
 }
 
-/// The least times, in nanoseconds, of several ways to do the same, each run once a round: what else the machine does
-/// only adds to a time, and in a round it slows all ways.
-pub fn least<const N: usize>(runs: usize, mut ways: [&mut dyn FnMut() -> f64; N]) -> [f64; N] {
+/// The least times, in nanoseconds, of `N` ways to do the same; `time` runs the way of a number once. The ways take
+/// turns: what else the machine does only adds to a time, and slows all ways alike.
+pub fn least<const N: usize>(runs: usize, mut time: impl FnMut(usize) -> f64) -> [f64; N] {
     let mut times = [f64::INFINITY; N];
     for _ in 0..runs {
-        for (way, time) in ways.iter_mut().zip(&mut times) {
-            *time = time.min(way());
+        for (way, least) in times.iter_mut().enumerate() {
+            *least = least.min(time(way));
         }
     }
     times

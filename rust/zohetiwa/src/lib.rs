@@ -81,6 +81,14 @@ extern "C" {
         written: *mut u64,
         value: *mut u64,
     ) -> u64;
+    fn zohetiwa_batch(
+        words: *mut u64,
+        length: usize,
+        calls: *const u64,
+        calls_length: usize,
+        replies: *mut u64,
+        replies_length: usize,
+    ) -> u64;
 }
 
 /// A point of a clock reading (below 2^40) and a seat (below 64). Needs no store. Refusal: 6.
@@ -212,4 +220,13 @@ pub fn view(words: &[u64], record: u64, p: Point) -> Answer<Shown> {
     let code = unsafe { zohetiwa_view(lent, length, record, p.word(), &mut point, &mut written, &mut value) };
     codes::told(code, ())?;
     Ok(Shown { point: Point::of_word(point), value: codes::value(written, value) })
+}
+
+/// Many calls after one check: a call is six words, and so is its reply (include/zohetiwa.h). How many calls were done:
+/// as many as are in the list whole, and have room for their replies.
+pub fn batch(words: &mut [u64], calls: &[u64], replies: &mut [u64]) -> u64 {
+    let (lent, length) = (words.as_mut_ptr(), words.len());
+    let (answers, room) = (replies.as_mut_ptr(), replies.len());
+    // SAFETY: the three slices are lent with their lengths; the borrows keep them apart.
+    unsafe { zohetiwa_batch(lent, length, calls.as_ptr(), calls.len(), answers, room) }
 }

@@ -133,9 +133,12 @@ impl Base {
         })
     }
 
+    pub fn begins(&self) -> Case {
+        self.case("Begin", |m| _ = m.edits(LARGEST.edits))
+    }
+
     pub fn cases(&self) -> Vec<Case> {
         vec![
-            self.case("Begin", |m| _ = m.edits(LARGEST.edits)),
             self.by_forty("Write, new record, 25 by each of 40 edits", false, Maker::writes),
             self.by_forty("Write, again", true, Maker::writes),
             self.by_forty("Lock, all", false, |m, edits| m.locks(edits, 0)),
@@ -169,7 +172,11 @@ impl Base {
                 m.start();
                 m.each(&[0], |_, record| [PURGE, record, LAST.word(), 0, 0, 0]);
             }),
-            self.case("View", |m| m.each(&[0], |_, record| [VIEW, record, LAST.word(), 0, 0, 0])),
+            self.case("View", |m| {
+                for _ in 0..10 {
+                    m.each(&[0], |_, record| [VIEW, record, LAST.word(), 0, 0, 0]);
+                }
+            }),
         ]
     }
 }
