@@ -2,3 +2,4 @@
 pub mod Telling
 pub mod Decoding
 pub mod Running
+pub mod Viewing

@@ -1,3 +1,4 @@
 -- Calls and replies as words, and what the batch and the many views do.
 pub mod Encoding
 pub mod Runs
+pub mod Views

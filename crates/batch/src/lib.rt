@@ -7,6 +7,10 @@ ghost use lib.ListN.{length};
 ghost use Rattle.tables.specs.Words.{lent, soundWords};
 ghost use Rattle.batch.specs.Encoding.{CALL-WORDS, REPLY-WORDS, wordsOf};
 ghost use Rattle.batch.specs.Runs.{Answers, Steps, Runs};
+ghost use Rattle.batch.specs.Views.{Views};
+use asks::ASK_WORDS;
+use asks::VIEW_WORDS;
+use asks::view_step;
 use encoding::CALL_WORDS;
 use encoding::call_at;
 use known::perform;
@@ -18,6 +22,7 @@ use rows::put_row;
 use rows::row_0;
 use rows::row_of;
 
+mod asks;
 mod encoding;
 mod known;
 mod rows;
@@ -70,6 +75,22 @@ pub fn run(words: &mut [u64], list: &[u64], replies: &mut [u64]) -> usize
     let mut i = 0;
     while i < n {
         step(words, good, list, i, replies);
+        i += 1;
+    }
+    n
+}
+
+// Answers the asks of the list in their order, until the list ends or the next reply has no room, and how many.
+pub fn views(words: &[u64], list: &[u64], replies: &mut [u64]) -> usize
+    ensures { λ n. ⌜
+        Views (now (words .entry)) (now (list .entry)) (now (replies .entry)) (now (replies .exit)) n
+        ⌝ }
+{
+    let good = soundness::check(words);
+    let n = least(list.len() / ASK_WORDS, replies.len() / VIEW_WORDS);
+    let mut i = 0;
+    while i < n {
+        view_step(words, good, list, i, replies);
         i += 1;
     }
     n

@@ -1,5 +1,6 @@
-// The library that a product links: each call as a C function over lent words and numbers. A function returns 0 for
-// granted, else the number of the refusal. None has a `requires`; the contract of each is the promise of its call.
+// The library that a product links: each call as a C function over lent words and numbers, and many calls as one. A
+// call returns 0 for granted, else the number of the refusal. None has a `requires`; the contract of each is the promise
+// of its call.
 ghost use mathlib.Core.Path.{_≡_};
 ghost use mathlib.Core.List.{[], _∷_};
 ghost use Rattle.meaning.specs.Edits.{beginning, writing};
@@ -11,6 +12,7 @@ ghost use Rattle.format.specs.Format.{Formats};
 ghost use Rattle.store.specs.Answers.{Does, Shows};
 ghost use Rattle.codes.specs.Codes.{Answers, extentOf, finishOf, named, counts};
 ghost use Rattle.batch.specs.Runs.{Runs};
+ghost use Rattle.batch.specs.Views.{Views};
 use meaning::Counts;
 use meaning::Pick;
 
@@ -256,8 +258,8 @@ pub extern "C" fn zohetiwa_view(
     codes::view(reply, point, written, value)
 }
 
-// Many calls after one check of the words: how many were done. What the words of a call and of a reply say is in the
-// crate `batch`.
+// Many calls after one check of the words: how many were done. The crate `batch` says what the words of a call and of
+// a reply mean.
 #[no_mangle]
 pub extern "C" fn zohetiwa_batch(words: &mut [u64], calls: &[u64], replies: &mut [u64]) -> u64
     ensures { λ n. ⌜
@@ -267,4 +269,14 @@ pub extern "C" fn zohetiwa_batch(words: &mut [u64], calls: &[u64], replies: &mut
         ⌝ }
 {
     batch::run(words, calls, replies) as u64
+}
+
+// Many views after one check of the words: how many were answered.
+#[no_mangle]
+pub extern "C" fn zohetiwa_views(words: &[u64], asks: &[u64], replies: &mut [u64]) -> u64
+    ensures { λ n. ⌜
+        Views (now (words .entry)) (now (asks .entry)) (now (replies .entry)) (now (replies .exit)) n
+        ⌝ }
+{
+    batch::views(words, asks, replies) as u64
 }
