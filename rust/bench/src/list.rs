@@ -25,7 +25,7 @@ const EVERY: usize = 10_000;
 const FIRST: usize = 1_000;
 
 /// Clock readings that purges stay back.
-const HORIZON: u64 = 2_000;
+pub const HORIZON: u64 = 2_000;
 
 const RECORDS: u64 = LARGEST.records as u64;
 

@@ -89,6 +89,14 @@ extern "C" {
         replies: *mut u64,
         replies_length: usize,
     ) -> u64;
+    fn zohetiwa_views(
+        words: *const u64,
+        length: usize,
+        asks: *const u64,
+        asks_length: usize,
+        replies: *mut u64,
+        replies_length: usize,
+    ) -> u64;
 }
 
 /// A point of a clock reading (below 2^40) and a seat (below 64). Needs no store. Refusal: 6.
@@ -229,4 +237,12 @@ pub fn batch(words: &mut [u64], calls: &[u64], replies: &mut [u64]) -> u64 {
     let (answers, room) = (replies.as_mut_ptr(), replies.len());
     // SAFETY: the three slices are lent with their lengths; the borrows keep them apart.
     unsafe { zohetiwa_batch(lent, length, calls.as_ptr(), calls.len(), answers, room) }
+}
+
+/// Many views after one check: an ask is two words, its reply four (include/zohetiwa.h). How many were answered: as many
+/// as are in the list whole, and have room for their replies.
+pub fn views(words: &[u64], asks: &[u64], replies: &mut [u64]) -> u64 {
+    let (answers, room) = (replies.as_mut_ptr(), replies.len());
+    // SAFETY: the three slices are lent with their lengths, two of them only to be read.
+    unsafe { zohetiwa_views(words.as_ptr(), words.len(), asks.as_ptr(), asks.len(), answers, room) }
 }

@@ -112,15 +112,22 @@ impl Base {
         Case { name, before: maker.before, calls: maker.calls }
     }
 
-    /// A list by 40 edits, once or twice; the last time is timed.
-    fn by_forty(&self, name: &'static str, twice: bool, list: impl Fn(&mut Maker, &[u64])) -> Case {
+    /// A list by 40 edits, for the first time.
+    fn by_forty(&self, name: &'static str, list: impl Fn(&mut Maker, &[u64])) -> Case {
         self.case(name, |m| {
             let edits = m.edits(40);
-            if twice {
-                list(m, &edits);
-            }
             m.start();
             list(m, &edits);
+        })
+    }
+
+    /// The same list again, ten times.
+    fn again(&self, name: &'static str, list: impl Fn(&mut Maker, &[u64])) -> Case {
+        self.case(name, |m| {
+            let edits = m.edits(40);
+            list(m, &edits);
+            m.start();
+            (0..10).for_each(|_| list(m, &edits));
         })
     }
 
@@ -139,12 +146,12 @@ impl Base {
 
     pub fn cases(&self) -> Vec<Case> {
         vec![
-            self.by_forty("Write, new record, 25 by each of 40 edits", false, Maker::writes),
-            self.by_forty("Write, again", true, Maker::writes),
-            self.by_forty("Lock, all", false, |m, edits| m.locks(edits, 0)),
-            self.by_forty("Lock, part", false, |m, edits| m.locks(edits, 1)),
-            self.by_forty("Read, new record, 25 by each of 40 edits", false, Maker::reads),
-            self.by_forty("Read, again", true, Maker::reads),
+            self.by_forty("Write, new record, 25 by each of 40 edits", Maker::writes),
+            self.again("Write, again", Maker::writes),
+            self.by_forty("Lock, all", |m, edits| m.locks(edits, 0)),
+            self.by_forty("Lock, part", |m, edits| m.locks(edits, 1)),
+            self.by_forty("Read, new record, 25 by each of 40 edits", Maker::reads),
+            self.again("Read, again", Maker::reads),
             self.case("Read, 1,000 new records by one edit", |m| {
                 let edits = m.edits(1);
                 m.start();
@@ -173,7 +180,7 @@ impl Base {
                 m.each(&[0], |_, record| [PURGE, record, LAST.word(), 0, 0, 0]);
             }),
             self.case("View", |m| {
-                for _ in 0..10 {
+                for _ in 0..100 {
                     m.each(&[0], |_, record| [VIEW, record, LAST.word(), 0, 0, 0]);
                 }
             }),
