@@ -3,10 +3,12 @@
 //!     bench          the tables
 //!     bench short    the same tables from few runs on nearly empty stores, to show that it runs
 //!
-//! It fails if the proved store and the plain vectors differ in one reply.
+//! Before them random calls on small stores are compared. It fails if the proved store and the plain vectors differ in
+//! one reply.
 
 #![forbid(unsafe_code)]
 
+mod agree;
 mod calls;
 mod checks;
 mod kinds;
@@ -47,6 +49,7 @@ fn main() -> ExitCode {
             return ExitCode::FAILURE;
         }
     };
+    agree::all();
     checks::table(size);
     println!();
     calls::table(size);
