@@ -23,9 +23,11 @@
 //! touch nothing else.
 
 mod codes;
+mod lists;
 mod types;
 
 pub use codes::NOPOINT;
+pub use lists::*;
 pub use types::*;
 
 // The declarations of include/zohetiwa.h.
