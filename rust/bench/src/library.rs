@@ -1,6 +1,6 @@
 //! The proved store as a store of rows: each call by its public function, and so with its own check; or many after one.
 
-use crate::rows::{Store, ASK, ROW};
+use crate::rows::{Store, ROW};
 use zohetiwa::*;
 
 pub struct Public<'a>(pub &'a mut [u64]);
@@ -52,5 +52,5 @@ pub fn batch(words: &mut [u64], calls: &[u64], replies: &mut [u64]) {
 /// Many views after one check.
 pub fn views(words: &[u64], asks: &[u64], replies: &mut [u64]) {
     let done = zohetiwa::views(words, asks, replies);
-    assert_eq!(done as usize, asks.len() / ASK);
+    assert_eq!(done as usize, asks.len() / ASK_WORDS);
 }

@@ -4,11 +4,7 @@
 use zohetiwa::*;
 
 /// Words of a call, and of a reply.
-pub const ROW: usize = 6;
-
-/// Words of an ask of many views, and of its reply.
-pub const ASK: usize = 2;
-pub const SHOWN: usize = 4;
+pub const ROW: usize = CALL_WORDS;
 
 pub type Row = [u64; ROW];
 
@@ -61,9 +57,9 @@ pub fn run<S: Store>(store: &mut S, calls: &[u64], replies: &mut [u64]) {
 
 /// Answers asks of two words, record and point, by four: code, point, written, value.
 pub fn show<S: Store>(store: &S, asks: &[u64], replies: &mut [u64]) {
-    for (ask, reply) in asks.chunks_exact(ASK).zip(replies.chunks_exact_mut(SHOWN)) {
+    for (ask, reply) in asks.chunks_exact(ASK_WORDS).zip(replies.chunks_exact_mut(SHOWN_WORDS)) {
         let row = row(store.view(ask[0], Point::of_word(ask[1])), shown_row);
-        reply.copy_from_slice(&row[..SHOWN]);
+        reply.copy_from_slice(&row[..SHOWN_WORDS]);
     }
 }
 

@@ -3,10 +3,11 @@
 use crate::kinds::Base;
 use crate::library::views;
 use crate::list::{Random, HORIZON};
-use crate::rows::{self, ASK, SHOWN};
+use crate::rows;
 use crate::stores::LARGEST;
 use crate::timing::{least, once};
 use crate::Size;
+use zohetiwa::{ASK_WORDS, SHOWN_WORDS};
 
 const ASKS: usize = 100_000;
 
@@ -14,14 +15,14 @@ pub fn table(size: Size, base: &Base) {
     let mut random = Random(1);
     let mut ask = || [random.below(LARGEST.records as u64), base.late - random.below(2 * HORIZON * 64)];
     let asks: Vec<u64> = (0..ASKS).flat_map(|_| ask()).collect();
-    let (mut ours, mut theirs) = (vec![0; ASKS * SHOWN], vec![0; ASKS * SHOWN]);
+    let (mut ours, mut theirs) = (vec![0; ASKS * SHOWN_WORDS], vec![0; ASKS * SHOWN_WORDS]);
     let [all, one, vectors] = least(size.kinds, |way| match way {
         0 => once(|| views(&base.words, &asks, &mut ours)),
-        1 => once(|| views(&base.words, &asks[..ASK], &mut [0; SHOWN])),
+        1 => once(|| views(&base.words, &asks[..ASK_WORDS], &mut [0; SHOWN_WORDS])),
         _ => once(|| rows::show(&base.plain, &asks, &mut theirs)),
     });
     assert!(ours == theirs, "the views and the vectors reply differently");
-    let granted = ours.chunks(SHOWN).filter(|reply| reply[0] == 0).count();
+    let granted = ours.chunks(SHOWN_WORDS).filter(|reply| reply[0] == 0).count();
     println!(
         "Views on the largest store after a long mixed list, of records at random and of points since the last purges:"
     );
