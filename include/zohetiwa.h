@@ -3,15 +3,16 @@
  * Memory. The store is the array `words` of `length` words that the caller owns and lends for the time of one call. The
  * library keeps no pointer, allocates nothing and has no state of its own: the array is the whole store, and may be
  * copied, saved or sent with its length. It needs no initial content before zohetiwa_format. Every other pointer is to
- * one number of the caller's, lent for the time of the call as well. No pointer may be null (an array of length 0 too
- * wants one, aligned to 8 bytes), and the array and the numbers of one call must not overlap. Two calls on one array
- * must not run at once.
+ * one number of the caller's, or to a list or a reply area of theirs (zohetiwa_batch, zohetiwa_views), lent for the
+ * time of the call as well. No pointer may be null (an array of length 0 too wants one, aligned to 8 bytes), and the
+ * arrays and the numbers of one call must not overlap. Two calls on one array must not run at once.
  *
- * Replies. A function returns 0 if the call is granted, and then sets every number it was lent (to 0 where the reply
- * has no such value). Any other number is a refusal, or ZOHETIWA_NOPOINT: the lent numbers then stay as they were, and
- * a refusal also changes no word. zohetiwa_refusal gives the number of a refusal, zohetiwa_holder the holder's handle.
- * Every array and every argument has a defined reply. Each call but Point and Format checks the whole array first: one
- * that is no sound store is refused with ZOHETIWA_UNSOUND.
+ * Replies. The function of a call returns 0 if the call is granted, and then sets every number it was lent (to 0 where
+ * the reply has no such value). Any other number is a refusal, or ZOHETIWA_NOPOINT: the lent numbers then stay as they
+ * were, and a refusal also changes no word. zohetiwa_refusal gives the number of a refusal, zohetiwa_holder the
+ * holder's handle. Every array and every argument has a defined reply. Each call but Point and Format checks the whole
+ * array first: one that is no sound store is refused with ZOHETIWA_UNSOUND. zohetiwa_batch and zohetiwa_views check it
+ * once for many calls.
  *
  * Names. A record is named by its number from 0, an edit (a transaction) by the handle that Begin gave. A point is
  * clock reading * 64 + seat, at most ZOHETIWA_LAST; zohetiwa_point makes one. A bare clock reading is no point. */
@@ -120,6 +121,43 @@ uint64_t zohetiwa_purge(uint64_t *words, size_t length, uint64_t record, uint64_
  * none. `written` and `value` as for Read. Changes no word. Refusals: 1, 5, 6, 7. */
 uint64_t zohetiwa_view(const uint64_t *words, size_t length, uint64_t record, uint64_t p, uint64_t *point,
                        uint64_t *written, uint64_t *value);
+
+/* A list of calls: ZOHETIWA_CALL_WORDS words for each, its kind and then its numbers, in the order of this table. Words
+ * that a kind does not use may hold anything. Every number is a kind: one above ZOHETIWA_CALL_VIEW is a View too. */
+#define ZOHETIWA_CALL_WORDS 6
+#define ZOHETIWA_CALL_BEGIN UINT64_C(0)
+#define ZOHETIWA_CALL_WRITE UINT64_C(1)           /* handle record value */
+#define ZOHETIWA_CALL_LOCK UINT64_C(2)            /* handle record low high part */
+#define ZOHETIWA_CALL_READ UINT64_C(3)            /* handle record m part */
+#define ZOHETIWA_CALL_COMMIT_EARLIEST UINT64_C(4) /* handle keep */
+#define ZOHETIWA_CALL_COMMIT_LATEST UINT64_C(5)   /* handle keep */
+#define ZOHETIWA_CALL_COMMIT_AT UINT64_C(6)       /* handle at keep */
+#define ZOHETIWA_CALL_ABORT UINT64_C(7)           /* handle keep */
+#define ZOHETIWA_CALL_SETTLE UINT64_C(8)          /* handle */
+#define ZOHETIWA_CALL_PURGE UINT64_C(9)           /* record b */
+#define ZOHETIWA_CALL_VIEW UINT64_C(10)           /* record p */
+
+/* Replies to a list of calls: ZOHETIWA_REPLY_WORDS words for each, the number that the call's own function returns and
+ * then what that function sets, in the order of its pointers; 0 for the rest, and after a refusal. */
+#define ZOHETIWA_REPLY_WORDS 6
+
+/* Batch: does the calls of a list in their order, and returns how many. The words are checked once, before the first.
+ * Each call does what its own function does on the words as the one before left them; after a refused one the next are
+ * still done. On an array that is no sound store each is refused with ZOHETIWA_UNSOUND. It stops where the list has no
+ * whole call more, or `replies` no room for a whole reply: before that call, which is not done. Reply i is that of call
+ * i; the words of `replies` after those of the calls done stay as they were. The lengths count words. */
+uint64_t zohetiwa_batch(uint64_t *words, size_t length, const uint64_t *calls, size_t calls_length, uint64_t *replies,
+                        size_t replies_length);
+
+/* A list of views: ZOHETIWA_ASK_WORDS words for each, record and p; replies of ZOHETIWA_SHOWN_WORDS words: the number
+ * that zohetiwa_view returns, then point, written and value, 0 after a refusal. */
+#define ZOHETIWA_ASK_WORDS 2
+#define ZOHETIWA_SHOWN_WORDS 4
+
+/* Views: answers the asks of a list in their order as zohetiwa_view does, and returns how many, with one check of the
+ * words for all of them. It stops as zohetiwa_batch does. Changes no word of the store. */
+uint64_t zohetiwa_views(const uint64_t *words, size_t length, const uint64_t *asks, size_t asks_length,
+                        uint64_t *replies, size_t replies_length);
 
 #ifdef __cplusplus
 }

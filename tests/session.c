@@ -1,6 +1,7 @@
 /* The session of document 01 through the C functions, and lines that it says further. Prints each reply as document 01
- * writes it; .ci/c_session compares them. Then what only a C caller sees: the lent numbers that a refusal leaves, the
- * flag numbers, 8 with the holder's handle above it, a store that is not sound. Prints 'wrong: ..' for what fails. */
+ * writes it; .ci/c_session compares them. Then the session again, as one batch. Then what only a C caller sees: the
+ * lent numbers that a refusal leaves, the flag numbers, 8 with the holder's handle above it, a store that is not sound,
+ * lists of calls and of views with too little room. Prints 'wrong: ..' for what fails. */
 #include <inttypes.h>
 #include <stdio.h>
 #include <string.h>
@@ -116,6 +117,50 @@ static void further(void) {
     one("point", zohetiwa_point(1099511627776, 0, &a));
 }
 
+/* The session again: Format, then its other calls as one list. */
+static const uint64_t list[12][ZOHETIWA_CALL_WORDS] = {
+    {ZOHETIWA_CALL_BEGIN},
+    {ZOHETIWA_CALL_BEGIN},
+    {ZOHETIWA_CALL_READ, 65, 0, 6, ZOHETIWA_ALL},
+    {ZOHETIWA_CALL_LOCK, 66, 0, 4, 9, ZOHETIWA_PART},
+    {ZOHETIWA_CALL_WRITE, 66, 0, 501},
+    {ZOHETIWA_CALL_COMMIT_EARLIEST, 66, ZOHETIWA_SETTLE},
+    {ZOHETIWA_CALL_COMMIT_LATEST, 65, ZOHETIWA_SETTLE},
+    {ZOHETIWA_CALL_BEGIN},
+    {ZOHETIWA_CALL_READ, 129, 0, 9, ZOHETIWA_ALL},
+    {ZOHETIWA_CALL_LOCK, 129, 0, 3, 3, ZOHETIWA_ALL},
+    {ZOHETIWA_CALL_PURGE, 0, 8},
+    {ZOHETIWA_CALL_READ, 65, 0, 6, ZOHETIWA_ALL},
+};
+
+static void put_reply(uint64_t call, const uint64_t *reply) {
+    a = reply[1];
+    b = reply[2];
+    if (call == ZOHETIWA_CALL_BEGIN)
+        one("edit", reply[0]);
+    else if (call == ZOHETIWA_CALL_WRITE)
+        ok(reply[0]);
+    else if (call == ZOHETIWA_CALL_LOCK)
+        two("locked", reply[0]);
+    else if (call == ZOHETIWA_CALL_PURGE)
+        two("purged", reply[0]);
+    else if (call != ZOHETIWA_CALL_READ)
+        one("commit", reply[0]);
+    else if (granted(reply[0])) {
+        written = reply[4];
+        value = reply[5];
+        printf("read %" PRIu64 " %" PRIu64, reply[2], reply[3]);
+        put_value();
+    }
+}
+
+static void batch_session(void) {
+    uint64_t replies[12][ZOHETIWA_REPLY_WORDS];
+    ok(zohetiwa_format(words, LENGTH, 2, 2, 4, 8, 8));
+    uint64_t done = zohetiwa_batch(words, LENGTH, list[0], sizeof list / 8, replies[0], sizeof replies / 8);
+    for (uint64_t i = 0; i < done; i++) put_reply(list[i][0], replies[i]);
+}
+
 static void expect(const char *what, int holds) {
     if (holds) return;
     printf("wrong: %s\n", what);
@@ -153,9 +198,54 @@ static void callers_own(void) {
     expect("1 of an empty array", zohetiwa_begin(words, 0, &a) == ZOHETIWA_UNSOUND && untouched());
 }
 
+static int all_are(const uint64_t *from, size_t count, uint64_t x) {
+    for (size_t i = 0; i < count; i++)
+        if (from[i] != x) return 0;
+    return 1;
+}
+
+/* The kinds that the session does not have, room for fewer replies than calls, and a store that is not sound. */
+static void batches_own(void) {
+    static const uint64_t calls[8][ZOHETIWA_CALL_WORDS] = {
+        {ZOHETIWA_CALL_BEGIN, 9, 9, 9, 9, 9},
+        {ZOHETIWA_CALL_LOCK, 65, 1, 5, 8, ZOHETIWA_ALL},
+        {ZOHETIWA_CALL_WRITE, 65, 1, 7},
+        {ZOHETIWA_CALL_COMMIT_AT, 65, 6, ZOHETIWA_KEEP},
+        {ZOHETIWA_CALL_SETTLE, 65},
+        {UINT64_MAX, 1, ZOHETIWA_LAST},
+        {ZOHETIWA_CALL_BEGIN},
+        {ZOHETIWA_CALL_ABORT, 129, ZOHETIWA_SETTLE},
+    };
+    static const uint64_t told[6][ZOHETIWA_REPLY_WORDS] = {{0, 65}, {0, 5, 8}, {0}, {0, 6}, {0}, {0, 6, 1, 7}};
+    static const uint64_t asks[3][ZOHETIWA_ASK_WORDS] = {{1, 6}, {1, 5}, {2, 6}};
+    static const uint64_t shown[3][ZOHETIWA_SHOWN_WORDS] = {{0, 6, 1, 7}, {0}, {ZOHETIWA_NO_RECORD}};
+    uint64_t replies[7 * ZOHETIWA_REPLY_WORDS], before[LENGTH];
+    zohetiwa_format(words, LENGTH, 2, 2, 4, 8, 8);
+    memset(replies, 255, sizeof replies);
+    expect("room for 6", zohetiwa_batch(words, LENGTH, calls[0], sizeof calls / 8, replies, 41) == 6);
+    expect("replies", memcmp(replies, told, sizeof told) == 0);
+    expect("no word behind", all_are(replies + 36, 6, UINT64_MAX));
+    expect("the next call was not done", zohetiwa_begin(words, LENGTH, &a) == 0 && a == 129);
+    expect("one call and a part", zohetiwa_batch(words, LENGTH, calls[7], 11, replies, 42) == 1 && replies[0] == 0);
+    memcpy(before, words, sizeof words);
+    memset(replies, 255, sizeof replies);
+    expect("views", zohetiwa_views(words, LENGTH, asks[0], 6, replies, 15) == 3);
+    expect("shown", memcmp(replies, shown, sizeof shown) == 0 && all_are(replies + 12, 30, UINT64_MAX));
+    expect("room for 2 views", zohetiwa_views(words, LENGTH, asks[0], 6, replies, 11) == 2);
+    expect("asks for 1 view", zohetiwa_views(words, LENGTH, asks[0], 3, replies, 42) == 1);
+    words[0] = before[0] = 5000;
+    expect("all refused", zohetiwa_batch(words, LENGTH, calls[0], 12, replies, 42) == 2);
+    expect("with 1", replies[0] == ZOHETIWA_UNSOUND && all_are(replies + 1, 5, 0) && replies[6] == ZOHETIWA_UNSOUND);
+    expect("one view", zohetiwa_views(words, LENGTH, asks[0], 2, replies, 4) == 1);
+    expect("refused too", replies[0] == ZOHETIWA_UNSOUND && all_are(replies + 1, 3, 0));
+    expect("words stay", memcmp(before, words, sizeof words) == 0);
+}
+
 int main(void) {
     session();
     further();
+    batch_session();
     callers_own();
+    batches_own();
     return wrong;
 }

@@ -1,9 +1,10 @@
-//! One call, timed many times from the same words; the median, without the time that the clock itself takes.
+//! One call, timed many times from the same words: the median, without the time that the clock itself takes. Many calls
+//! together: the least time.
 
 use std::hint::black_box;
 use std::time::Instant;
 
-fn median(mut times: Vec<u128>) -> u128 {
+pub fn median(mut times: Vec<u128>) -> u128 {
     times.sort_unstable();
     times[times.len() / 2]
 }
@@ -24,4 +25,23 @@ pub fn nanoseconds(runs: usize, before: &[u64], call: impl Fn(&mut [u64]) -> boo
         assert!(done, "the call timed had another reply");
     }
     median(times).saturating_sub(median(clock)) as f64
+}
+
+/// The least times, in nanoseconds, of `N` ways to do the same; `time` runs the way of a number once. The ways take
+/// turns: what else the machine does only adds to a time, and slows all ways alike.
+pub fn least<const N: usize>(runs: usize, mut time: impl FnMut(usize) -> f64) -> [f64; N] {
+    let mut times = [f64::INFINITY; N];
+    for _ in 0..runs {
+        for (way, least) in times.iter_mut().enumerate() {
+            *least = least.min(time(way));
+        }
+    }
+    times
+}
+
+/// Nanoseconds of `work`, once.
+pub fn once(work: impl FnOnce()) -> f64 {
+    let start = Instant::now();
+    work();
+    start.elapsed().as_nanos() as f64
 }

@@ -23,8 +23,11 @@
 //! touch nothing else.
 
 mod codes;
+mod lists;
 mod types;
 
+pub use codes::NOPOINT;
+pub use lists::*;
 pub use types::*;
 
 // The declarations of include/zohetiwa.h.
@@ -79,6 +82,22 @@ extern "C" {
         point: *mut u64,
         written: *mut u64,
         value: *mut u64,
+    ) -> u64;
+    fn zohetiwa_batch(
+        words: *mut u64,
+        length: usize,
+        calls: *const u64,
+        calls_length: usize,
+        replies: *mut u64,
+        replies_length: usize,
+    ) -> u64;
+    fn zohetiwa_views(
+        words: *const u64,
+        length: usize,
+        asks: *const u64,
+        asks_length: usize,
+        replies: *mut u64,
+        replies_length: usize,
     ) -> u64;
 }
 
@@ -211,4 +230,21 @@ pub fn view(words: &[u64], record: u64, p: Point) -> Answer<Shown> {
     let code = unsafe { zohetiwa_view(lent, length, record, p.word(), &mut point, &mut written, &mut value) };
     codes::told(code, ())?;
     Ok(Shown { point: Point::of_word(point), value: codes::value(written, value) })
+}
+
+/// Many calls after one check: a call is six words, and so is its reply (include/zohetiwa.h). How many calls were done:
+/// as many as are in the list whole, and have room for their replies.
+pub fn batch(words: &mut [u64], calls: &[u64], replies: &mut [u64]) -> u64 {
+    let (lent, length) = (words.as_mut_ptr(), words.len());
+    let (answers, room) = (replies.as_mut_ptr(), replies.len());
+    // SAFETY: the three slices are lent with their lengths; the borrows keep them apart.
+    unsafe { zohetiwa_batch(lent, length, calls.as_ptr(), calls.len(), answers, room) }
+}
+
+/// Many views after one check: an ask is two words, its reply four (include/zohetiwa.h). How many were answered: as many
+/// as are in the list whole, and have room for their replies.
+pub fn views(words: &[u64], asks: &[u64], replies: &mut [u64]) -> u64 {
+    let (answers, room) = (replies.as_mut_ptr(), replies.len());
+    // SAFETY: the three slices are lent with their lengths, two of them only to be read.
+    unsafe { zohetiwa_views(words.as_ptr(), words.len(), asks.as_ptr(), asks.len(), answers, room) }
 }

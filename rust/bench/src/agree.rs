@@ -1,0 +1,87 @@
+//! Before anything is timed: random calls on small stores, through the batch and through both kinds of plain vectors.
+//! All replies are compared, and every reply and refusal that there is on a sound store has to come.
+
+use crate::library::batch;
+use crate::list::Random;
+use crate::plain::Plain;
+use crate::rows::{self, Row, ROW, VIEW};
+use crate::stores;
+use std::collections::BTreeSet;
+use zohetiwa::{Counts, LAST, NOPOINT};
+
+const STORES: u64 = 1000;
+const CALLS: usize = 200;
+
+/// Counts small enough that each kind of row runs out.
+fn some_counts(random: &mut Random) -> Counts {
+    let mut upto = |n| 1 + random.below(n) as usize;
+    Counts { records: 3, edits: upto(3), versions: upto(3), locks: upto(12), accesses: upto(6) }
+}
+
+fn point(random: &mut Random) -> u64 {
+    match random.below(40) {
+        0 => LAST.word() + random.below(2),
+        _ => random.below(9),
+    }
+}
+
+/// A call whose numbers make sense most of the time. The handles are the newest that Begin has given.
+fn some_call(random: &mut Random, handles: &[u64]) -> Row {
+    let newest = handles.len().saturating_sub(3);
+    let edit = match random.below(handles.len() as u64 - newest as u64 + 1) as usize {
+        0 => random.below(256),
+        i => handles[newest + i - 1],
+    };
+    let (record, low) = (random.below(10) % 4, point(random));
+    let high = if random.below(8) == 0 { point(random) } else { low + random.below(8) };
+    let flag = random.below(2);
+    match random.below(VIEW + 12) {
+        kind @ (0 | 8) => [kind, edit, 0, 0, 0, 0],
+        1 | 11..15 => [1, edit, record, random.below(1000), 0, 0],
+        2 | 15..20 => [2, edit, record, low, high, flag],
+        3 | 20..22 => [3, edit, record, high, flag, 0],
+        kind @ (4 | 5 | 7) => [kind, edit, flag, 0, 0, 0],
+        6 => [6, edit, low, flag, 0, 0],
+        kind => [kind, record, low, 0, 0, 0],
+    }
+}
+
+/// What a reply shows: its code without a handle, and which kind of Read it is.
+fn sort(call: &[u64], reply: &[u64]) -> (u64, u64) {
+    (reply[0] % 32, if call[0] == rows::READ { reply[1] } else { 0 })
+}
+
+/// Random calls on one small store.
+fn compare(seed: u64, seen: &mut BTreeSet<(u64, u64)>) {
+    let mut random = Random(seed);
+    let counts = some_counts(&mut random);
+    let mut plain = Plain::<true>::new(counts);
+    let (mut calls, mut replies, mut handles) = (vec![], vec![], vec![]);
+    for _ in 0..CALLS {
+        let call = some_call(&mut random, &handles);
+        let reply = rows::answer(&mut plain, call);
+        if call[0] == rows::BEGIN && reply[0] == 0 {
+            handles.push(reply[1]);
+        }
+        seen.insert(sort(&call, &reply));
+        calls.extend(call);
+        replies.extend(reply);
+    }
+    let (mut words, mut bare) = (stores::fresh(counts), Plain::<false>::new(counts));
+    let (mut ours, mut theirs) = (vec![0; replies.len()], vec![0; replies.len()]);
+    batch(&mut words, &calls, &mut ours);
+    rows::run(&mut bare, &calls, &mut theirs);
+    for (i, call) in calls.chunks(ROW).enumerate() {
+        let of = |all: &[u64]| all[i * ROW..][..ROW].to_vec();
+        assert_eq!(of(&ours), of(&replies), "store {seed}, call {i}, {call:?}: the batch and the vectors");
+        assert_eq!(of(&theirs), of(&replies), "store {seed}, call {i}, {call:?}: the vectors without indexes");
+    }
+}
+
+pub fn all() {
+    let mut seen = BTreeSet::new();
+    (0..STORES).for_each(|seed| compare(seed, &mut seen));
+    let refusals = (2..=15).chain([NOPOINT]).map(|code| (code, 0));
+    let wanted: BTreeSet<_> = refusals.chain((0..=3).map(|kind| (0, kind))).collect();
+    assert!(wanted.is_subset(&seen), "never replied: {:?}", &wanted - &seen);
+}
