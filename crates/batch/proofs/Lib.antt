@@ -3,3 +3,4 @@ pub mod Telling
 pub mod Decoding
 pub mod Running
 pub mod Viewing
+pub mod Laws

@@ -1,12 +1,12 @@
 -- The batch call by call: after i turns the first i calls are done, each with its own contract, and told. Rests on
 -- Telling and on the lists of calls of `history`.
-use Prim.Native.Nat.{ℕ, zero, suc, _+_, _*_, _/_, _≤_, _<_, min}
+use Prim.Native.Nat.{ℕ, _+_, _*_, _≤_, _<_}
 use mathlib.Core.Path.{_≡_, refl, sym, ap, _∙_}
 use mathlib.Core.Bool.{Bool, true, false}
 use mathlib.Core.List.{List, [], _∷_, _++_}
 use native.Mathlib.Omega.{arith}
 use native.Mathlib.Numerals.{add-one}
-use lib.ListN.{length, drop}
+use lib.ListN.{length}
 use lib.Seq.{sets}
 use Rattle.meaning.specs.Replies.{Reply, refused}
 use Rattle.meaning.specs.Calls.{act}
@@ -15,7 +15,7 @@ use Rattle.meaning.specs.Contract as contract
 use Rattle.tables.specs.Words.{Lent, lent, decode, soundWords}
 use Rattle.history.specs.Words.{Calls, done, then}
 use Rattle.store.specs.Answers.{Does}
-use Rattle.batch.specs.Encoding.{CALL-WORDS, NUMBERS, REPLY-WORDS, callAt, callsOf, rowOf, rowsOf}
+use Rattle.batch.specs.Encoding.{CALL-WORDS, NUMBERS, REPLY-WORDS, callAt, callsOf}
 use Rattle.batch.specs.Runs.{Answers, Steps, Runs, fitting}
 use Rattle.batch.proofs.Telling.{Told, told-none, told-more}
 

@@ -1,20 +1,19 @@
 -- The many views ask by ask: after i turns the first i asks are answered and told. Rests on Telling.
 use Prim.Native.Nat.{ℕ, suc, _+_, _*_, _/_, _≤_, _<_, min}
-use mathlib.Core.Path.{_≡_, refl, sym, ap, _∙_}
-use mathlib.Core.Bool.{Bool, true, false, cond}
+use mathlib.Core.Path.{_≡_, refl, ap, _∙_}
+use mathlib.Core.Bool.{true, false}
 use mathlib.Core.List.{List, [], _∷_, _++_}
 use native.Mathlib.Omega.{arith}
 use native.Mathlib.Numerals.{add-one}
-use lib.ListN.{length, set, drop, replicate}
+use lib.ListN.{length, set, replicate}
 use lib.Seq.{sets}
 use Rattle.meaning.specs.Replies.{Reply, refusing}
 use Rattle.meaning.specs.Records.{viewing}
 use Rattle.tables.specs.Words.{lent, decode, soundWords}
 use Rattle.codes.specs.Codes.{Tells}
-use Rattle.store.specs.Answers.{Shows}
 use Rattle.view.specs.Seen.{asked}
-use Rattle.batch.specs.Encoding.{rowOf, rowsOf}
-use Rattle.batch.specs.Views.{ASK-WORDS, VIEW-NUMBERS, VIEW-WORDS, askedAt, repliesOf, Views, AskedShows}
+use Rattle.batch.specs.Encoding.{rowOf}
+use Rattle.batch.specs.Views.{ASK-WORDS, VIEW-NUMBERS, VIEW-WORDS, askedAt, repliesOf, Views}
 use Rattle.batch.proofs.Telling.{told-row, Told, told-none, told-more}
 
 -- what View replies on sound words and on others
@@ -26,10 +25,6 @@ asked-sound r p w s e = rw s e
 pub asked-unsound : (r p : ℕ) (w : List ℕ) → soundWords (lent w) ≡ false → refusing 1 [] ≡ asked r p w
 unfolding asked
 asked-unsound r p w s = rw s refl
-
-pub asked-shows : AskedShows
-asked-shows r p w =
-    record { unsound = λ s. sym (asked-unsound r p w s); reply = λ s. sym (asked-sound r p w s refl) }
 
 -- four stores
 stores : (w : List ℕ) (at a b c d : ℕ)

@@ -2,3 +2,4 @@
 pub mod Encoding
 pub mod Runs
 pub mod Views
+pub mod Laws

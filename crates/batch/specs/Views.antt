@@ -5,8 +5,6 @@ use mathlib.Core.Path.{_≡_}
 use mathlib.Core.List.{List, [], _∷_, _++_}
 use lib.ListN.{length, drop}
 use Rattle.meaning.specs.Replies.{Reply}
-use Rattle.meaning.specs.Records.{viewing}
-use Rattle.store.specs.Answers.{Shows}
 use Rattle.view.specs.Seen.{asked}
 use Rattle.batch.specs.Encoding.{wordAt, rowsOf}
 
@@ -33,7 +31,3 @@ repliesOf words list (suc n) = repliesOf words list n ++ (askedAt words list n �
 pub record Views (words list area area′ : List ℕ) (n : ℕ) : Type 0 where
   pub count : n ≡ min (length list / ASK-WORDS) (length area / VIEW-WORDS)
   pub told : area′ ≡ rowsOf VIEW-NUMBERS (repliesOf words list n) ++ drop (n * VIEW-WORDS) area
-
--- `asked` is what the contract of View promises: proofs/Viewing
-abbrev pub AskedShows : Type 0
-AskedShows = (r p : ℕ) (words : List ℕ) → Shows (viewing r p) words (asked r p words)

@@ -1,7 +1,5 @@
 -- `rows::row_of` meets its contract: the row of an answer is that of its call's reply. Assumes nothing.
-use mathlib.Core.Path.{sym, ap, _∙_}
-use Rattle.store.specs.Answers.{ofAnswer}
-use Rattle.batch.specs.Encoding.{NUMBERS, rowOf}
+use Rattle.batch.specs.Encoding.{NUMBERS}
 use Rattle.batch.proofs.Telling.{told-row, of-case}
 use borrow.Author.Needs.{needs}
 use Rattle.batch.proofs.rows.row_of.Statement.{statement}
