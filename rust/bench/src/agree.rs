@@ -4,7 +4,7 @@
 use crate::library::batch;
 use crate::list::Random;
 use crate::plain::Plain;
-use crate::rows::{self, Row, ROW, VIEW};
+use crate::rows::*;
 use crate::stores;
 use std::collections::BTreeSet;
 use zohetiwa::{Counts, LAST, NOPOINT};
@@ -35,20 +35,24 @@ fn some_call(random: &mut Random, handles: &[u64]) -> Row {
     let (record, low) = (random.below(10) % 4, point(random));
     let high = if random.below(8) == 0 { point(random) } else { low + random.below(8) };
     let flag = random.below(2);
-    match random.below(VIEW + 12) {
-        kind @ (0 | 8) => [kind, edit, 0, 0, 0, 0],
-        1 | 11..15 => [1, edit, record, random.below(1000), 0, 0],
-        2 | 15..20 => [2, edit, record, low, high, flag],
-        3 | 20..22 => [3, edit, record, high, flag, 0],
-        kind @ (4 | 5 | 7) => [kind, edit, flag, 0, 0, 0],
-        6 => [6, edit, low, flag, 0, 0],
-        kind => [kind, record, low, 0, 0, 0],
+    match random.below(22) {
+        0 | 1 => [BEGIN, edit, 0, 0, 0, 0],
+        2..7 => [WRITE, edit, record, random.below(1000), 0, 0],
+        7..12 => [LOCK, edit, record, low, high, flag],
+        12..15 => [READ, edit, record, high, flag, 0],
+        15 => [EARLIEST, edit, flag, 0, 0, 0],
+        16 => [LATEST, edit, flag, 0, 0, 0],
+        17 => [NAMED, edit, low, flag, 0, 0],
+        18 => [ABORT, edit, flag, 0, 0, 0],
+        19 => [SETTLE, edit, 0, 0, 0, 0],
+        20 => [PURGE, record, low, 0, 0, 0],
+        _ => [VIEW, record, low, 0, 0, 0],
     }
 }
 
 /// What a reply shows: its code without a handle, and which kind of Read it is.
 fn sort(call: &[u64], reply: &[u64]) -> (u64, u64) {
-    (reply[0] % 32, if call[0] == rows::READ { reply[1] } else { 0 })
+    (reply[0] % 32, if call[0] == READ { reply[1] } else { 0 })
 }
 
 /// Random calls on one small store.
@@ -59,8 +63,8 @@ fn compare(seed: u64, seen: &mut BTreeSet<(u64, u64)>) {
     let (mut calls, mut replies, mut handles) = (vec![], vec![], vec![]);
     for _ in 0..CALLS {
         let call = some_call(&mut random, &handles);
-        let reply = rows::answer(&mut plain, call);
-        if call[0] == rows::BEGIN && reply[0] == 0 {
+        let reply = answer(&mut plain, call);
+        if call[0] == BEGIN && reply[0] == 0 {
             handles.push(reply[1]);
         }
         seen.insert(sort(&call, &reply));
@@ -70,7 +74,7 @@ fn compare(seed: u64, seen: &mut BTreeSet<(u64, u64)>) {
     let (mut words, mut bare) = (stores::fresh(counts), Plain::<false>::new(counts));
     let (mut ours, mut theirs) = (vec![0; replies.len()], vec![0; replies.len()]);
     batch(&mut words, &calls, &mut ours);
-    rows::run(&mut bare, &calls, &mut theirs);
+    run(&mut bare, &calls, &mut theirs);
     for (i, call) in calls.chunks(ROW).enumerate() {
         let of = |all: &[u64]| all[i * ROW..][..ROW].to_vec();
         assert_eq!(of(&ours), of(&replies), "store {seed}, call {i}, {call:?}: the batch and the vectors");
