@@ -241,8 +241,8 @@ pub fn batch(words: &mut [u64], calls: &[u64], replies: &mut [u64]) -> u64 {
     unsafe { zohetiwa_batch(lent, length, calls.as_ptr(), calls.len(), answers, room) }
 }
 
-/// Many views after one check: an ask is two words, its reply four (include/zohetiwa.h). How many were answered: as many
-/// as are in the list whole, and have room for their replies.
+/// Many views after one check: an ask is two words, its reply four (include/zohetiwa.h). How many were answered: as
+/// many as are in the list whole, and have room for their replies.
 pub fn views(words: &[u64], asks: &[u64], replies: &mut [u64]) -> u64 {
     let (answers, room) = (replies.as_mut_ptr(), replies.len());
     // SAFETY: the three slices are lent with their lengths, two of them only to be read.
