@@ -62,7 +62,7 @@ fn step(words: &mut [u64], good: bool, list: &[u64], i: usize, replies: &mut [u6
     put_row(replies, i * REPLY_WORDS, row);
 }
 
-// Does the calls of the list in their order, until the list ends or the next reply has no room, and answers how many.
+// Does the calls of the list in their order, until the list ends or the next reply has no room; returns how many.
 pub fn run(words: &mut [u64], list: &[u64], replies: &mut [u64]) -> usize
     ensures { λ n. ⌜
         Runs (now (list .entry))
@@ -80,7 +80,7 @@ pub fn run(words: &mut [u64], list: &[u64], replies: &mut [u64]) -> usize
     n
 }
 
-// Answers the asks of the list in their order, until the list ends or the next reply has no room, and how many.
+// Answers the asks of the list in their order, until the list ends or the next reply has no room; returns how many.
 pub fn views(words: &[u64], list: &[u64], replies: &mut [u64]) -> usize
     ensures { λ n. ⌜
         Views (now (words .entry)) (now (list .entry)) (now (replies .entry)) (now (replies .exit)) n
