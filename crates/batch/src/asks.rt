@@ -1,4 +1,5 @@
-// Views as words: an ask is a row of ASK_WORDS words, a record and a point; its reply a row of VIEW_WORDS words.
+// Views as words: an ask is a row of ASK_WORDS words, a record and a point; its reply a row of VIEW_WORDS words. Rests
+// on the crates `meaning`, `calls` and `codes`.
 ghost use Prim.Native.Nat.{_+_, _*_, _≤_};
 ghost use mathlib.Core.Path.{_≡_};
 ghost use lib.ListN.{length};

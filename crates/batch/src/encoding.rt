@@ -1,4 +1,5 @@
-// Calls as words: a row of CALL_WORDS words is a call's kind and up to five numbers. Every row is a call.
+// Calls as words: a row of CALL_WORDS words is a call's kind and up to five numbers. Every row is a call. Rests on the
+// crates `meaning` and `codes`.
 ghost use Prim.Native.Nat.{_+_, _*_, _≤_};
 ghost use mathlib.Core.Path.{_≡_};
 ghost use lib.ListN.{length};

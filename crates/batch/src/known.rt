@@ -1,4 +1,5 @@
-// A call of any kind on words that are sound: the call of its kind, with no check.
+// A call of any kind on words that are sound: the call of its kind, with no check. Rests on the crates `meaning`,
+// `calls`, `locking`, `reading`, `endings`, `commits`, `purges` and `store`.
 ghost use mathlib.Core.Path.{_≡_};
 ghost use mathlib.Core.Bool.{true};
 ghost use Rattle.meaning.specs.Calls.{act};

@@ -1,6 +1,7 @@
 // Many calls after one check of the words: a lent list of calls as rows of words, and a lent area for their replies.
 // The public functions have no `requires`. Each call leaves the words as sound as they were, so that one check serves
-// all.
+// all. Rests on the crates `meaning`, `tables`, `soundness`, `format`, `history`, `calls`, `locking`, `reading`,
+// `endings`, `commits`, `purges`, `store` and `codes`.
 ghost use Prim.Native.Nat.{_+_, _*_, _≤_, min};
 ghost use mathlib.Core.Path.{_≡_};
 ghost use lib.ListN.{length};

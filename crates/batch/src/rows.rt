@@ -1,4 +1,5 @@
 // Replies as words: a row of REPLY_WORDS words is the reply's code and its numbers, with 0 for those that it lacks.
+// Rests on the crates `meaning`, `store` and `codes`.
 ghost use Prim.Native.Nat.{_+_, _≤_};
 ghost use mathlib.Core.Path.{_≡_};
 ghost use mathlib.Core.List.{_∷_};

@@ -1,6 +1,6 @@
 // The changes that the calls are made of. Each leaves the words well formed and equals a function of the decoded store;
 // the callers prove that the words are well formed (`Well`), that slots and records are in range, and that there is
-// room, in the words of the meaning.
+// room, in the words of the meaning. Rests on the crates `meaning`, `chains` and `tables`.
 ghost use mathlib.Core.Path.{_≡_};
 ghost use mathlib.Core.Bool.{true, false, cond};
 ghost use mathlib.Core.List.{[]};

@@ -1,3 +1,5 @@
+-- Laws of Settle, Abort and Commit: the loops over records and accesses, and how an edit ends. Rests on the crates
+-- `changes`, `lookups` and `calls`.
 pub mod Folds
 pub mod Saving
 pub mod Leaving

@@ -1,6 +1,6 @@
 // The library that a product links: each call as a C function over lent words and numbers, and many calls as one. A
 // call returns 0 for granted, else the number of the refusal. None has a `requires`; the contract of each is the
-// promise of its call.
+// promise of its call. Rests on the crates `meaning`, `format`, `store`, `codes` and `batch`.
 ghost use mathlib.Core.Path.{_≡_};
 ghost use mathlib.Core.List.{[], _∷_};
 ghost use Rattle.meaning.specs.Edits.{beginning, writing};

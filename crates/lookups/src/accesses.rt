@@ -1,5 +1,5 @@
 // An edit's access of a record: its row, found by one walk, and the access in that row.
-// On any words with these counts.
+// On any words with these counts. Rests on the crates `meaning`, `chains` and `tables`.
 ghost use Prim.Native.Nat.{_≤_};
 ghost use Rattle.chains.specs.Walk.{IsRow};
 ghost use Rattle.tables.specs.Layout.{Fits};

@@ -1,5 +1,6 @@
 // Edits: the slot of a handle, whether it is known and open, and the lowest free slot.
-// Each equals a function of the decoded store, on any words with these counts.
+// Each equals a function of the decoded store, on any words with these counts. Rests on the crates `meaning`, `chains`
+// and `tables`.
 ghost use mathlib.Core.Path.{_≡_};
 ghost use Rattle.meaning.specs.Store.{inUse};
 ghost use Rattle.meaning.specs.Edits.{freeSlot};

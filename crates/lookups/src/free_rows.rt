@@ -1,5 +1,6 @@
 // Rooms: whether a table has the free rows that a change takes.
-// On well-formed words, whose free chain holds every row that no other chain has.
+// On well-formed words, whose free chain holds every row that no other chain has. Rests on the crates `meaning`,
+// `chains` and `tables`.
 ghost use mathlib.Core.Path.{_≡_};
 ghost use mathlib.Core.Bool.{true, cond};
 ghost use Prim.Native.Nat.{suc, _+_, _<_};

@@ -1,4 +1,5 @@
-// The searches of the calls: read-only, each equal to a function of the decoded store.
+// The searches of the calls: read-only, each equal to a function of the decoded store. Rests on the crates `meaning`,
+// `locks`, `chains` and `tables`.
 //
 // A caller proves that the words have these counts (`Fits`) and that records and slots are in range, so the functions
 // have `requires`; `first_blocked` also asks that the record's locks are spans (`Proper`). Beyond that they are exact

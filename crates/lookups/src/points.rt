@@ -1,5 +1,6 @@
 // Points of a record r under its locks: the first free one, and the first blocked one with who blocks it.
-// `mine` picks slot k's own locks, else those of others that block it in the mode.
+// `mine` picks slot k's own locks, else those of others that block it in the mode. Rests on the crates `meaning`,
+// `locks`, `chains` and `tables` and on the module `versions`.
 ghost use mathlib.Core.Path.{_≡_};
 ghost use Prim.Native.Nat.{_≤_, _<_, min, max};
 ghost use Rattle.meaning.specs.Limits.{LAST};

@@ -1,5 +1,5 @@
 // Versions of a record r: the newest below or at a point, and the one that stands on it.
-// Each is one walk of the record's version chain.
+// Each is one walk of the record's version chain. Rests on the crates `meaning`, `chains` and `tables`.
 ghost use mathlib.Core.Path.{_≡_};
 ghost use Prim.Native.Nat.{_≤_, _<_};
 ghost use lib.Dec.{eqb};

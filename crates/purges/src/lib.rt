@@ -1,6 +1,6 @@
 // Purge on sound words: equal to its definition in the crate `meaning`, and leaving sound words. For callers who prove
 // the words sound (`requires soundWords`), as the calls of `calls` and `endings`. It goes along one record's versions
-// and locks.
+// and locks. Rests on the crates `meaning`, `chains`, `tables`, `changes`, `lookups`, `calls` and `endings`.
 ghost use mathlib.Core.Path.{_≡_};
 ghost use mathlib.Core.Bool.{true, not, _&&_};
 ghost use Prim.Native.Nat.{_≤_, _<_};

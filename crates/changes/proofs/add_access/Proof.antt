@@ -1,4 +1,4 @@
--- `changes::add_access` meets its contract.
+-- `changes::add_access` meets its contract. Rests on Accesses.
 use Rattle.changes.proofs.Accesses.{access-row, access-moved-fits, add-access-law}
 use borrow.Author.Needs.{needs}
 use Rattle.changes.proofs.add_access.Statement.{statement}

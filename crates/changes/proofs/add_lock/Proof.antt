@@ -1,4 +1,4 @@
--- `changes::add_lock` meets its contract.
+-- `changes::add_lock` meets its contract. Rests on Locks.
 use Rattle.changes.proofs.Locks.{lock-row, lock-moved-fits, add-lock-law}
 use borrow.Author.Needs.{needs}
 use Rattle.changes.proofs.add_lock.Statement.{statement}

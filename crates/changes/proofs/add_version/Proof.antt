@@ -1,4 +1,4 @@
--- `changes::add_version` meets its contract.
+-- `changes::add_version` meets its contract. Rests on Versions.
 use native.Mathlib.Omega.{arith}
 use Rattle.changes.proofs.Versions.{version-ready, version-row, version-inserted-fits, add-version-law}
 use Rattle.changes.proofs.Versions.{add-version-kept}

@@ -1,4 +1,4 @@
--- `changes::change_access` meets its contract.
+-- `changes::change_access` meets its contract. Rests on Refills.
 use Rattle.changes.proofs.Refills.{refill-row, change-access-law}
 use borrow.Author.Needs.{needs}
 use Rattle.changes.proofs.change_access.Statement.{statement}

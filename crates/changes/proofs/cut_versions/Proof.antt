@@ -1,5 +1,5 @@
 -- `changes::cut_versions` meets its contract. The loop's invariant: record r's versions up to the place have lost those
--- below v, as many as were freed.
+-- below v, as many as were freed. Rests on Versions, Freed, Lists and Turns, on Walks of `chains`.
 use native.Mathlib.Omega.{arith}
 use lib.Dec.{ltb}
 use Rattle.chains.proofs.Walks.{fuel-of}

@@ -1,5 +1,5 @@
 -- `changes::drop_owner` meets its contract. The loop's invariant: record r's locks up to the place have lost those of
--- owner k.
+-- owner k. Rests on Locks, Lists and Turns, on Walks of `chains`.
 use mathlib.Core.Path.{refl, _∙_}
 use native.Mathlib.Omega.{arith}
 use Rattle.meaning.specs.Points.{isOwned, dropOwner}

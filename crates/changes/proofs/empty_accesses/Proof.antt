@@ -1,4 +1,4 @@
--- `changes::empty_accesses` meets its contract.
+-- `changes::empty_accesses` meets its contract. Rests on Accesses, on Places of `chains`.
 use Rattle.chains.proofs.Places.{start-place}
 use Rattle.changes.proofs.Accesses.{access-ready-back, emptied-changed, empty-accesses-law}
 use borrow.Author.Needs.{needs}

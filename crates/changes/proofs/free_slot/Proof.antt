@@ -1,4 +1,4 @@
--- `changes::free_slot` meets its contract.
+-- `changes::free_slot` meets its contract. Rests on OneWord.
 use Rattle.meaning.specs.Ending.{ended}
 use Rattle.changes.proofs.OneWord.{then-edit}
 use borrow.Author.Needs.{needs}

@@ -1,4 +1,4 @@
--- `changes::is_below` meets its contract.
+-- `changes::is_below` meets its contract. Rests on nothing.
 use mathlib.Core.Path.{refl}
 use borrow.Author.Needs.{needs}
 use Rattle.changes.proofs.is_below.Statement.{statement}

@@ -1,4 +1,4 @@
--- `changes::is_emptied` meets its contract.
+-- `changes::is_emptied` meets its contract. Rests on Lists.
 use mathlib.Core.Path.{sym}
 use Rattle.changes.proofs.Lists.{emptied-other, emptied-settled}
 use Rattle.changes.proofs.is_emptied.Statement.{statement}

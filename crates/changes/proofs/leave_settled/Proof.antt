@@ -1,3 +1,4 @@
+-- `changes::leave_settled` meets its contract. Rests on Locks.
 use Rattle.meaning.specs.Points.{addLock, leaveSettled}
 use native.Mathlib.Omega.{arith}
 use Rattle.changes.proofs.Locks.{lock-row, lock-moved-fits, add-lock-law, add-lock-kept}

@@ -1,4 +1,4 @@
--- `changes::open_slot` meets its contract.
+-- `changes::open_slot` meets its contract. Rests on OneWord.
 use mathlib.Core.Path.{ap, _∙_}
 use native.Mathlib.Omega.{arith}
 use Rattle.meaning.specs.Store.{nextGeneration}

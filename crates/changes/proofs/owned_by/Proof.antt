@@ -1,4 +1,4 @@
--- `changes::owned_by` meets its contract.
+-- `changes::owned_by` meets its contract. Rests on nothing.
 use mathlib.Core.Path.{refl}
 use borrow.Author.Needs.{needs}
 use Rattle.changes.proofs.owned_by.Statement.{statement}

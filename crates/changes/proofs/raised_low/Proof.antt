@@ -1,4 +1,4 @@
--- `changes::raised_low` meets its contract.
+-- `changes::raised_low` meets its contract. Rests on Raises.
 use mathlib.Core.Path.{sym, _∙_}
 use native.Mathlib.Numerals.{add-one}
 use Rattle.changes.proofs.Raises.{low-other, low-above, low-raised}

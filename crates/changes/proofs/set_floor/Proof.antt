@@ -1,4 +1,4 @@
--- `changes::set_floor` meets its contract.
+-- `changes::set_floor` meets its contract. Rests on OneWord.
 use Rattle.changes.proofs.OneWord.{floor-becomes}
 use borrow.Author.Needs.{needs}
 use Rattle.changes.proofs.set_floor.Statement.{statement}

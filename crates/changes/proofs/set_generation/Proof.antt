@@ -1,4 +1,4 @@
--- `changes::set_generation` meets its contract.
+-- `changes::set_generation` meets its contract. Rests on OneWord.
 use Rattle.changes.proofs.OneWord.{generation-becomes}
 use borrow.Author.Needs.{needs}
 use Rattle.changes.proofs.set_generation.Statement.{statement}

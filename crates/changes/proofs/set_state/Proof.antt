@@ -1,4 +1,4 @@
--- `changes::set_state` meets its contract.
+-- `changes::set_state` meets its contract. Rests on OneWord, on Places of `tables`.
 use Rattle.tables.proofs.Places.{slot-fits}
 use Rattle.changes.proofs.OneWord.{set-state-law}
 use borrow.Author.Needs.{needs}

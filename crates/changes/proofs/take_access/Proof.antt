@@ -1,4 +1,4 @@
--- `changes::take_access` meets its contract.
+-- `changes::take_access` meets its contract. Rests on Accesses.
 use Rattle.changes.proofs.Accesses.{access-ready}
 use borrow.Author.Needs.{needs}
 use Rattle.changes.proofs.take_access.Statement.{statement}

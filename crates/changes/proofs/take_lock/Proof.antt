@@ -1,4 +1,4 @@
--- `changes::take_lock` meets its contract.
+-- `changes::take_lock` meets its contract. Rests on Locks.
 use native.Mathlib.Numerals.{add-one}
 use Rattle.changes.proofs.Locks.{lock-ready}
 use borrow.Author.Needs.{needs}

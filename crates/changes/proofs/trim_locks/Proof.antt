@@ -1,5 +1,5 @@
 -- `changes::trim_locks` meets its contract. The loop's invariant: record r's locks up to the place are trimmed and have
--- lost those left empty, as many as were freed.
+-- lost those left empty, as many as were freed. Rests on Trims, on Walks of `chains`.
 use mathlib.Core.Path.{_∙_}
 use native.Mathlib.Omega.{arith}
 use Rattle.chains.proofs.Walks.{fuel-of}

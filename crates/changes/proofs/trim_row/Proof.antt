@@ -1,4 +1,4 @@
--- `changes::trim_row` meets its contract.
+-- `changes::trim_row` meets its contract. Rests on nothing.
 use mathlib.Core.Path.{refl, ap, _∙_}
 use Rattle.meaning.specs.Points.{emptied}
 use borrow.Author.Needs.{needs}

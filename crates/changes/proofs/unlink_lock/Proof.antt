@@ -1,4 +1,4 @@
--- `changes::unlink_lock` meets its contract.
+-- `changes::unlink_lock` meets its contract. Rests on nothing.
 use native.Mathlib.Numerals.{add-one}
 use Rattle.tables.specs.Layout.{lockTable}
 use borrow.Author.Needs.{needs}

@@ -1,4 +1,4 @@
--- `changes::unlink_version` meets its contract.
+-- `changes::unlink_version` meets its contract. Rests on nothing.
 use native.Mathlib.Numerals.{add-one}
 use Rattle.tables.specs.Layout.{versionTable}
 use borrow.Author.Needs.{needs}

@@ -1,4 +1,4 @@
--- `changes::with_turn` meets its contract.
+-- `changes::with_turn` meets its contract. Rests on nothing.
 use native.Mathlib.Omega.{arith}
 use borrow.Author.Needs.{needs}
 use Rattle.changes.proofs.with_turn.Statement.{statement}

@@ -1,4 +1,4 @@
--- `commits::commit` meets its contract.
+-- `commits::commit` meets its contract. Rests on CommitActs, on Acting and Answers of `calls`, on EndActs of `endings`.
 use Rattle.calls.proofs.Acting.{has-header, ready}
 use Rattle.calls.proofs.Answers.{off, on}
 use Rattle.endings.proofs.EndActs.{open-needs}

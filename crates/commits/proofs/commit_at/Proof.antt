@@ -1,4 +1,4 @@
--- `commits::commit_at` meets its contract.
+-- `commits::commit_at` meets its contract. Rests on CommitActs, on Answers of `calls`, on Ended of `endings`.
 use Rattle.calls.proofs.Answers.{off, on}
 use Rattle.endings.proofs.Ended.{open-row, save-needs, committed-ready, committed-ends}
 use Rattle.commits.proofs.CommitActs.{at-full, at-done}

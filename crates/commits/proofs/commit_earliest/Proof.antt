@@ -1,4 +1,4 @@
--- `commits::commit_earliest` meets its contract.
+-- `commits::commit_earliest` meets its contract. Rests on CommitActs.
 use Rattle.meaning.specs.Replies.{nopoint}
 use Rattle.commits.proofs.CommitActs.{search-needs, earliest-none, earliest-common, earliest-some}
 use borrow.Author.Needs.{needs}

@@ -1,4 +1,4 @@
--- `commits::commit_latest` meets its contract.
+-- `commits::commit_latest` meets its contract. Rests on CommitActs.
 use Rattle.meaning.specs.Replies.{nopoint}
 use Rattle.commits.proofs.CommitActs.{search-needs, latest-none, latest-common, latest-some}
 use borrow.Author.Needs.{needs}

@@ -1,4 +1,4 @@
--- `commits::commit_open` meets its contract.
+-- `commits::commit_open` meets its contract. Rests on nothing.
 use borrow.Author.Needs.{needs}
 use Rattle.commits.proofs.commit_open.Statement.{statement}
 use Rattle.commits.proofs.commit_open.Tie as tie

@@ -1,4 +1,4 @@
--- `commits::good_pick` meets its contract.
+-- `commits::good_pick` meets its contract. Rests on nothing.
 use borrow.Author.Needs.{needs}
 use Rattle.commits.proofs.good_pick.Statement.{statement}
 use Rattle.commits.proofs.good_pick.Tie as tie

@@ -1,4 +1,4 @@
--- `commits::is_point` meets its contract.
+-- `commits::is_point` meets its contract. Rests on nothing.
 use mathlib.Core.Path.{refl}
 use borrow.Author.Tests.{lt-leb, le-leb}
 use borrow.Author.Needs.{needs}

@@ -1,4 +1,4 @@
--- `commits::no_point` meets its contract.
+-- `commits::no_point` meets its contract. Rests on CommitActs.
 use Rattle.commits.proofs.CommitActs.{none-done}
 use borrow.Author.Needs.{needs}
 use Rattle.commits.proofs.no_point.Statement.{statement}

@@ -1,4 +1,4 @@
--- `commits::save_row` meets its contract.
+-- `commits::save_row` meets its contract. Rests on Saving of `endings`.
 use Rattle.endings.proofs.Saving.{version-needs, row-saved, row-unsaved}
 use borrow.Author.Needs.{needs}
 use Rattle.commits.proofs.save_row.Statement.{statement}

@@ -1,4 +1,4 @@
--- `commits::save_versions` meets its contract.
+-- `commits::save_versions` meets its contract. Rests on Walks of `chains`, on Saving and AccessLoop of `endings`.
 use native.Mathlib.Omega.{arith}
 use Rattle.meaning.specs.Store.{editAt}
 use Rattle.tables.specs.Decode.{decodeAt}

@@ -1,4 +1,4 @@
--- `endings::abort` meets its contract.
+-- `endings::abort` meets its contract. Rests on EndActs, on Acting and Answers of `calls`.
 use Rattle.calls.proofs.Acting.{has-header, ready}
 use Rattle.calls.proofs.Answers.{off, on}
 use Rattle.endings.proofs.EndActs.{abort-refused, abort-too-late, open-needs, abort-acts}

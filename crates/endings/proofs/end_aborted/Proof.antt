@@ -1,4 +1,4 @@
--- `endings::end_aborted` meets its contract.
+-- `endings::end_aborted` meets its contract. Rests on Ended.
 use Rattle.endings.proofs.Ended.{open-row, aborted-ready, aborted-ends}
 use borrow.Author.Needs.{needs}
 use Rattle.endings.proofs.end_aborted.Statement.{statement}

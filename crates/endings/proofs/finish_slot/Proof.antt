@@ -1,4 +1,4 @@
--- `endings::finish_slot` meets its contract.
+-- `endings::finish_slot` meets its contract. Rests on nothing.
 use mathlib.Core.Path.{refl}
 use borrow.Author.Needs.{needs}
 use Rattle.endings.proofs.finish_slot.Statement.{statement}

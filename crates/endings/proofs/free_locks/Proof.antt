@@ -1,4 +1,4 @@
--- `endings::free_locks` meets its contract.
+-- `endings::free_locks` meets its contract. Rests on FreeLoop.
 use native.Mathlib.Omega.{arith}
 use Rattle.tables.specs.Decode.{decodeAt}
 use Rattle.endings.specs.Steps.{freedAll}

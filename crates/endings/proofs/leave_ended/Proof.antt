@@ -1,4 +1,4 @@
--- `endings::leave_ended` meets its contract.
+-- `endings::leave_ended` meets its contract. Rests on nothing.
 use borrow.Author.Tests.{ne-eqb}
 use mathlib.Core.Path.{refl}
 use Rattle.meaning.specs.Limits.{COMMITTED}

@@ -1,4 +1,4 @@
--- `endings::leave_if` meets its contract.
+-- `endings::leave_if` meets its contract. Rests on Besides.
 use Rattle.endings.proofs.Besides.{room-one, left-none}
 use borrow.Author.Needs.{needs}
 use Rattle.endings.proofs.leave_if.Statement.{statement}

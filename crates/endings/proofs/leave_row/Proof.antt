@@ -1,4 +1,4 @@
--- `endings::leave_row` meets its contract.
+-- `endings::leave_row` meets its contract. Rests on Besides.
 use Rattle.endings.proofs.Besides.{read-needs, write-needs, row-left}
 use borrow.Author.Needs.{needs}
 use Rattle.endings.proofs.leave_row.Statement.{statement}

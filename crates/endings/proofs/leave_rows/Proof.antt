@@ -1,4 +1,4 @@
--- `endings::leave_rows` meets its contract.
+-- `endings::leave_rows` meets its contract. Rests on Leaving and AccessLoop, on Walks of `chains`.
 use native.Mathlib.Omega.{arith}
 use Rattle.meaning.specs.Store.{editAt}
 use Rattle.tables.specs.Decode.{decodeAt}

@@ -1,4 +1,4 @@
--- `endings::settle` meets its contract.
+-- `endings::settle` meets its contract. Rests on EndActs, on Acting and Answers of `calls`.
 use Rattle.calls.proofs.Acting.{has-header, ready}
 use Rattle.calls.proofs.Answers.{off, on}
 use mathlib.Core.Path.{sym, _∙_}

@@ -1,4 +1,4 @@
--- `endings::settle_slot` meets its contract.
+-- `endings::settle_slot` meets its contract. Rests on Settling.
 use Rattle.endings.proofs.Settling.{slot-in-use, leave-needs, slot-settled}
 use borrow.Author.Needs.{needs}
 use Rattle.endings.proofs.settle_slot.Statement.{statement}

@@ -1,4 +1,4 @@
--- `purges::held_below` meets its contract.
+-- `purges::held_below` meets its contract. Rests on nothing.
 use mathlib.Core.Path.{refl}
 use borrow.Author.Tests.{eq-eqb, ne-eqb}
 use Rattle.purges.proofs.held_below.Statement.{statement}

@@ -1,4 +1,5 @@
--- `purges::locked_below` meets its contract.
+-- `purges::locked_below` meets its contract. Rests on Walks and Loops of `chains`, on Loops of `tables`, on Found of
+-- `lookups`.
 use mathlib.Core.Path.{_∙_, sym}
 use mathlib.Core.Bool.{not, _&&_}
 use mathlib.Core.List.{map}

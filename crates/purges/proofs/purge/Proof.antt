@@ -1,4 +1,4 @@
--- `purges::purge` meets its contract.
+-- `purges::purge` meets its contract. Rests on PurgeActs, on Acting of `calls`.
 use mathlib.Core.Path.{refl}
 use borrow.Author.Tests.{not-true, not-false}
 use Rattle.calls.proofs.Acting.{has-header, ready}

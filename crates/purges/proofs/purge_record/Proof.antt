@@ -1,4 +1,4 @@
--- `purges::purge_record` meets its contract.
+-- `purges::purge_record` meets its contract. Rests on PurgeActs.
 use Rattle.purges.proofs.PurgeActs.{record-purged}
 use borrow.Author.Needs.{needs}
 use Rattle.purges.proofs.purge_record.Statement.{statement}

@@ -1,4 +1,4 @@
--- `purges::purge_to` meets its contract.
+-- `purges::purge_to` meets its contract. Rests on PurgeActs.
 use Rattle.purges.proofs.PurgeActs.{at-floor, locked, unlocked}
 use borrow.Author.Needs.{needs}
 use Rattle.purges.proofs.purge_to.Statement.{statement}

@@ -1,4 +1,4 @@
--- `lookups::allowed::owns_write` meets its contract.
+-- `lookups::allowed::owns_write` meets its contract. Rests on nothing.
 use mathlib.Core.Path.{refl}
 use borrow.Author.Tests.{eq-eqb, ne-eqb}
 use borrow.Author.Needs.{needs}

@@ -1,4 +1,4 @@
--- `lookups::allowed::writes_at` meets its contract.
+-- `lookups::allowed::writes_at` meets its contract. Rests on nothing.
 use mathlib.Core.Path.{sym, refl, _∙_}
 use borrow.Author.Tests.{not-true, not-false}
 use borrow.Author.Needs.{needs}

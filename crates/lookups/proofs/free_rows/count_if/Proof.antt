@@ -1,4 +1,4 @@
--- `lookups::free_rows::count_if` meets its contract.
+-- `lookups::free_rows::count_if` meets its contract. Rests on nothing.
 use native.Mathlib.Numerals.{add-one}
 use borrow.Author.Needs.{needs}
 use Rattle.lookups.proofs.free_rows.count_if.Statement.{statement}

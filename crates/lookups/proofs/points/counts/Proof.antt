@@ -1,4 +1,4 @@
--- `lookups::points::counts` meets its contract.
+-- `lookups::points::counts` meets its contract. Rests on nothing.
 use Rattle.lookups.specs.Search.{counts}
 use borrow.Author.Needs.{needs}
 use Rattle.lookups.proofs.points.counts.Statement.{statement}

@@ -1,4 +1,4 @@
--- `lookups::points::meets` meets its contract.
+-- `lookups::points::meets` meets its contract. Rests on nothing.
 use mathlib.Core.Path.{refl}
 use borrow.Author.Tests.{le-leb, lt-leb}
 use Rattle.lookups.proofs.points.meets.Statement.{statement}
