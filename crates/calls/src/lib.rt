@@ -90,7 +90,7 @@ pub fn begin(w: &mut [u64]) -> BeginReply
     if c.edits < k {
         return BeginReply::Refused(Refusal::NoSlot);
     }
-    changes::open_slot(w, c, k);
+    slots::open_slot(w, c, k);
     BeginReply::Edit(handle_at(w, c, k))
 }
 
@@ -107,7 +107,7 @@ fn write_open(w: &mut [u64], c: Counts, k: usize, rec: u64, pending: u64) -> Wri
     }
     let a = lookups::access_in(w, c, rec, i);
     let from = a.from;
-    changes::set_access(
+    slots::set_access(
         w,
         c,
         k,

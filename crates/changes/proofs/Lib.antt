@@ -9,8 +9,5 @@ pub mod Locks
 pub mod Turns
 pub mod Versions
 pub mod Freed
-pub mod Accesses
-pub mod Refills
 pub mod Raises
 pub mod Trims
-pub mod Finds

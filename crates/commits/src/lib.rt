@@ -92,7 +92,7 @@ fn commit_at(w: &mut [u64], c: Counts, k: usize, t: u64, finish: Finish) -> Comm
         return CommitReply::Refused(Refusal::NoVersionRow);
     }
     save_versions(w, c, k, t);
-    changes::set_state(w, c, k, COMMITTED, t);
+    slots::set_state(w, c, k, COMMITTED, t);
     endings::finish_slot(w, c, k, finish);
     CommitReply::Commit(meaning::point_of_word(t))
 }
@@ -104,7 +104,7 @@ fn commit_earliest(w: &mut [u64], c: Counts, k: usize, finish: Finish) -> Commit
         (ofCommit q)
         ⌝ }
 {
-    let t = lookups::earliest(w, c, k);
+    let t = common::earliest(w, c, k);
     if LAST < t {
         return no_point(w, c, k, finish);
     }
@@ -117,7 +117,7 @@ fn commit_latest(w: &mut [u64], c: Counts, k: usize, finish: Finish) -> CommitRe
         Makes c (commitOpen (decodeAt c (now (w .entry))) k Latest finish) (now (w .entry)) (now (w .exit)) (ofCommit q)
         ⌝ }
 {
-    let t = lookups::latest(w, c, k);
+    let t = common::latest(w, c, k);
     if t == 0 {
         return no_point(w, c, k, finish);
     }
@@ -132,10 +132,10 @@ fn commit_named(w: &mut [u64], c: Counts, k: usize, p: Point, finish: Finish) ->
         ⌝ }
 {
     let x = meaning::word_of_point(p);
-    if lookups::in_common(w, c, k, x) {
+    if common::in_common(w, c, k, x) {
         return commit_at(w, c, k, x, finish);
     }
-    let t = lookups::earliest(w, c, k);
+    let t = common::earliest(w, c, k);
     if LAST < t {
         return no_point(w, c, k, finish);
     }

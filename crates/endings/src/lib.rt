@@ -116,7 +116,7 @@ fn settle_slot(w: &mut [u64], c: Counts, k: usize)
     let t = tables::point_of(w, c, k);
     free_locks(w, c, k);
     leave_ended(w, c, k, state, t);
-    changes::free_slot(w, c, k);
+    slots::free_slot(w, c, k);
 }
 
 // S settles at the end, K keeps the locks.
@@ -151,7 +151,7 @@ pub fn end_aborted(w: &mut [u64], c: Counts, k: usize, finish: Finish)
     requires { ⌜ Ready c (now w) × (editAt (decodeAt c (now w)) k .state ≡ OPEN) ⌝ }
     ensures { λ _. ⌜ Becomes c (now (w .exit)) (finished finish (aborted (decodeAt c (now (w .entry))) k) k) ⌝ }
 {
-    changes::set_state(w, c, k, ABORTED, 0);
+    slots::set_state(w, c, k, ABORTED, 0);
     finish_slot(w, c, k, finish);
 }
 

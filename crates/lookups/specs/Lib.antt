@@ -1,4 +1,3 @@
--- What the searches find: points, accesses, and what a commit asks. Rests on the crates `meaning` and `tables`.
+-- What the searches find: points and accesses. Rests on the crates `meaning` and `tables`.
 pub mod Search
 pub mod Accesses
-pub mod Commit

@@ -6,22 +6,15 @@
 // on any words. They also serve the soundness check.
 //
 // This file has the names; `edits`, `accesses` and `versions` look one up, `points` has the points of a record under
-// its locks, `allowed` the common set of an edit, `lifting` and `sinking` its earliest and latest point, `free_rows`
-// the room for changes.
+// its locks, `free_rows` the room for changes.
 mod accesses;
-mod allowed;
 mod edits;
 mod free_rows;
-mod lifting;
 mod points;
-mod sinking;
 mod versions;
 
 pub use accesses::access_in;
 pub use accesses::access_row;
-pub use allowed::allows;
-pub use allowed::in_common;
-pub use allowed::write_on;
 pub use edits::free_slot;
 pub use edits::is_open;
 pub use edits::known;
@@ -29,11 +22,11 @@ pub use edits::slot_used;
 pub use free_rows::access_room;
 pub use free_rows::lock_room;
 pub use free_rows::version_room;
-pub use lifting::earliest;
 pub use points::counts;
 pub use points::first_blocked;
 pub use points::first_free;
-pub use sinking::latest;
+pub use points::larger;
+pub use points::smaller;
 pub use versions::newest_at;
 pub use versions::newest_below;
 pub use versions::version_on;
@@ -43,6 +36,3 @@ pub struct Blocked {
     pub point: u64,
     pub by: u64,
 }
-
-// The least point that an edit may commit at.
-const LOWEST: u64 = 1;

@@ -72,7 +72,7 @@ fn read_taken(
     if !lookups::lock_room(w, c) {
         return ReadReply::Refused(Refusal::NoLockRow);
     }
-    changes::set_access(
+    slots::set_access(
         w,
         c,
         k,

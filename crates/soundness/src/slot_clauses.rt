@@ -1,5 +1,5 @@
 // The clauses of a slot: its words, the records that its accesses name, its reads, and its point; `slots_sound` is all
-// of them for all slots. Rests on `lookups` for the common set.
+// of them for all slots. Rests on `common` for the common set.
 ghost use mathlib.Core.Path.{_≡_};
 ghost use mathlib.Core.Bool.{true, _||_};
 ghost use Prim.Native.Nat.{_-_, _<_};
@@ -184,7 +184,7 @@ fn point_common(w: &[u64], c: Counts, k: usize) -> bool
     if tables::state_of(w, c, k) != COMMITTED {
         return true;
     }
-    lookups::in_common(w, c, k, tables::point_of(w, c, k))
+    common::in_common(w, c, k, tables::point_of(w, c, k))
 }
 
 // The clauses of a slot, and of all slots.

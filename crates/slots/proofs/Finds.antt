@@ -1,0 +1,60 @@
+-- The row of an edit's access of a record, as a search finds it: where there is one it stands on the slot's chain and
+-- names the record, and where there is none the edit does not name the record. Rests on Accesses and Lists.
+use Prim.Native.Nat.{ℕ, suc, _≤_, _<_}
+use mathlib.Core.Path.{_≡_, refl, sym, ap, _∙_}
+use mathlib.Core.Bool.{Bool, true, false}
+use mathlib.Core.List.{List, [], _∷_, map}
+use native.Mathlib.Omega.{arith}
+use borrow.Author.Tests.{eqb-true, ltb-true}
+use Rattle.chains.specs.Lists.{occ, firstOf}
+use Rattle.chains.specs.Walk.{IsRow}
+use Rattle.chains.proofs.Occurs.{occ-nil, occ-here, occ-there}
+use Rattle.chains.proofs.Words.{on-chain}
+use Rattle.meaning.specs.Lists.{any}
+use Rattle.meaning.specs.Store.{editAt, isOf, names, accessesUsed}
+use Rattle.meaning.specs.Outcomes.{accessRoom}
+use Rattle.meaning.specs.declared.Counts.{Counts}
+use Rattle.tables.specs.Layout.{accessTable, accessHeads}
+use Rattle.tables.specs.Decode.{accessAt, accessRows, accessesOf, decodeAt}
+use Rattle.tables.specs.Words.{Well}
+use Rattle.slots.proofs.Accesses.{accesses-at}
+
+first-some : (p : ℕ → Bool) (rs : List ℕ) (i : ℕ) → i ≡ firstOf p rs → (i ≡ 0 → ⊥) → (1 ≤ occ i rs) × (p i ≡ true)
+unfolding firstOf
+first-some p [] i e n = absurd (n e)
+first-some p (r ∷ rs) i e n = go (p r) refl (first-some p rs i)
+  where
+    go : (b : Bool) → p r ≡ b → (i ≡ firstOf p rs → (i ≡ 0 → ⊥) → (1 ≤ occ i rs) × (p i ≡ true))
+        → (1 ≤ occ i (r ∷ rs)) × (p i ≡ true)
+    go true h ih = let z : i ≡ r = rw (h, firstOf) at e in (rw z (occ-here r rs), ap p z ∙ h)
+    go false h ih = let q = ih (rw (h, firstOf) at e) n in (omega (arith, q .0, occ-there i r rs), q .1)
+
+first-none : {A : Type 0} (f : ℕ → A) (p : A → Bool) (rs : List ℕ) → ((x : ℕ) → 1 ≤ occ x rs → 1 ≤ x)
+    → firstOf (λ i. p (f i)) rs ≡ 0 → any p (map f rs) ≡ false
+unfolding firstOf
+first-none f p [] l e = refl
+first-none f p (r ∷ rs) l e = go (p (f r)) refl (first-none f p rs (λ x o. l x (omega (arith, occ-there x r rs))))
+  where
+    go : (b : Bool) → p (f r) ≡ b → (firstOf (λ i. p (f i)) rs ≡ 0 → any p (map f rs) ≡ false)
+        → any p (map f (r ∷ rs)) ≡ false
+    go true h ih = let z : r ≡ 0 = rw (h, firstOf) at e in absurd (omega (arith, l r (occ-here r rs)))
+    go false h ih = rw h (ih (rw (h, firstOf) at e))
+
+module _ {c : Counts} {w : List ℕ} (W : Well c w) {k : ℕ} (l : IsRow (c .edits) k) (r : ℕ) {i : ℕ}
+    (e : i ≡ firstOf (λ j. isOf r (accessAt c w j)) (accessRows c w k)) where
+  pub row-some : (i ≡ 0 → ⊥) → (1 ≤ occ i (accessRows c w k)) × (accessAt c w i .rec ≡ r)
+  row-some n =
+      let q = first-some (λ j. isOf r (accessAt c w j)) (accessRows c w k) i e n in
+      (q .0, eqb-true (accessAt c w i .rec) r (q .1))
+
+  pub row-none : i ≡ 0 → names (editAt (decodeAt c w) k) r ≡ false
+  unfolding names accessesOf accessRows accessTable accessHeads
+  row-none z = ap (any (isOf r)) (accesses-at c w k l)
+      ∙ first-none (accessAt c w) (isOf r) (accessRows c w k)
+      (λ x o. on-chain (accessTable c) (accessHeads c) w (W .accesses-parted) k (l .high) x o .low) (sym e ∙ z)
+
+-- so there is room for a new one
+pub room-none : {c : Counts} {w : List ℕ} (k r : ℕ) → Well c w → accessRoom (decodeAt c w) k r ≡ true
+    → names (editAt (decodeAt c w) k) r ≡ false → accessesUsed (decodeAt c w) < c .accesses
+unfolding accessRoom decodeAt
+room-none {c} {w} k r W h n = ltb-true (accessesUsed (decodeAt c w)) (c .accesses) (rw n at h)
