@@ -7,11 +7,10 @@
 // promise the two chains they touch, all others and all other words unchanged, and that every row is still on exactly
 // one chain (`Changed`).
 //
-// This file has the types and the access to single words; `queries` walks chains, `partition` checks them, `updates`
-// changes them.
+// This file has the types and the access to single words; `queries` walks chains, `partition` checks them. The crate
+// `updates` changes them.
 mod partition;
 mod queries;
-mod updates;
 
 pub use partition::partition_ok;
 pub use queries::all_with;
@@ -19,13 +18,6 @@ pub use queries::chain_length;
 pub use queries::find_place;
 pub use queries::first_with;
 pub use queries::largest;
-pub use updates::empty_after;
-pub use updates::insert_after;
-pub use updates::insert_sorted;
-pub use updates::move_first;
-pub use updates::unlink;
-pub use updates::unlink_if;
-pub use updates::unlink_turn;
 ghost use mathlib.Core.Path.{_≡_};
 ghost use Prim.Native.Nat.{_+_, _*_, _<_, _≤_};
 ghost use lib.ListN.{getD, set};
@@ -144,7 +136,7 @@ pub fn next_after(w: &[u64], t: Table, h: Heads, a: usize, p: usize) -> usize
     }
 }
 
-fn set_after(w: &mut [u64], t: Table, h: Heads, a: usize, p: usize, v: usize)
+pub fn set_after(w: &mut [u64], t: Table, h: Heads, a: usize, p: usize, v: usize)
     requires { ⌜ Laid t h (now w) × (a ≤ h .owners) × (p ≤ t .count) ⌝ }
     ensures { λ _. ⌜ now (w .exit) ≡ set (now (w .entry)) (afterCell t h a p) v ⌝ }
 {

@@ -47,7 +47,7 @@ fn take_lock(w: &mut [u64], c: Counts, r: usize) -> usize
         (Moved (lockTable c) (lockHeads c) (now (w .entry)) (now (w .exit)) 0 (suc r) q)
         ⌝ }
 {
-    chains::move_first(w, tables::lock_table(c), tables::lock_heads(c), 0, r + 1)
+    updates::move_first(w, tables::lock_table(c), tables::lock_heads(c), 0, r + 1)
 }
 
 // A lock more on record r, the first of its chain.
@@ -94,7 +94,7 @@ fn unlink_lock(w: &mut [u64], c: Counts, r: usize, place: usize, i: usize, hit: 
         ⌝ }
     ensures { λ q. ⌜ Turned (lockTable c) (lockHeads c) (now (w .entry)) (now (w .exit)) (suc r) 0 place i hit q ⌝ }
 {
-    chains::unlink_turn(
+    updates::unlink_turn(
         w,
         tables::lock_table(c),
         tables::lock_heads(c),
@@ -222,7 +222,7 @@ fn unlink_version(w: &mut [u64], c: Counts, r: usize, place: usize, i: usize, hi
         Turned (versionTable c) (versionHeads c) (now (w .entry)) (now (w .exit)) (suc r) 0 place i hit q
         ⌝ }
 {
-    chains::unlink_turn(
+    updates::unlink_turn(
         w,
         tables::version_table(c),
         tables::version_heads(c),

@@ -64,7 +64,7 @@ fn take_access(w: &mut [u64], c: Counts, k: usize) -> usize
         (Moved (accessTable c) (accessHeads c) (now (w .entry)) (now (w .exit)) 0 k q)
         ⌝ }
 {
-    chains::move_first(w, tables::access_table(c), tables::access_heads(c), 0, k)
+    updates::move_first(w, tables::access_table(c), tables::access_heads(c), 0, k)
 }
 
 // An access of a record that the edit does not name.
@@ -111,7 +111,7 @@ fn empty_accesses(w: &mut [u64], c: Counts, k: usize)
     requires { ⌜ Well c (now w) × IsRow (c .edits) k ⌝ }
     ensures { λ _. ⌜ Becomes c (now (w .exit)) (onEdit (decodeAt c (now (w .entry))) k (λ e. withAccesses e [])) ⌝ }
 {
-    chains::empty_after(w, tables::access_table(c), tables::access_heads(c), k, 0, 0);
+    updates::empty_after(w, tables::access_table(c), tables::access_heads(c), k, 0, 0);
 }
 
 // The slot is free, without accesses; its generation stays.

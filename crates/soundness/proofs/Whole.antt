@@ -32,8 +32,8 @@ use Rattle.tables.proofs.Builds.{total-build, sum-head}
 use Rattle.tables.proofs.Bridge.{well-at}
 use Rattle.tables.proofs.Decoded.{records-length, edits-length}
 use Rattle.tables.proofs.Header.{ranged-good, header-fits}
-use Rattle.soundness.specs.Clauses.{recordsSound, slotsSound}
-use Rattle.soundness.proofs.Steps.{both, and-no, and-on}
+use Rattle.clauses.specs.Clauses.{recordsSound, slotsSound}
+use Rattle.clauses.proofs.Steps.{both, and-no, and-on}
 
 length-map : {A : Type 0} (g : ℕ → A) (rs : List ℕ) → length (map g rs) ≡ length rs
 length-map g [] = refl

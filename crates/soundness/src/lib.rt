@@ -1,16 +1,14 @@
 // The check that lent words are a sound store: exact for every slice, and ending on any words.
 //
-// `check` alone needs nothing. The functions of the modules are for words that have these counts (`Fits`); each equals
-// one clause of soundness, or the clauses of one record or of one slot. It takes at most a small constant times these
-// steps: one for each word, and for each record the number of its locks times that of its locks, versions and accesses.
-// Each chain of a table is walked within one budget of rows, a record that an edit names is stamped, and the locks of
-// an edit on the records that it wrote are marked, so that no clause walks an edit's accesses for a record.
+// `check` alone needs nothing. The other functions, here and in `slot_clauses` and `record_clauses`, are for words that
+// have these counts (`Fits`); each equals one clause of soundness, or the clauses of one record or of one slot. It
+// takes at most a small constant times these steps: one for each word, and for each record the number of its locks
+// times that of its locks, versions and accesses. Each chain of a table is walked within one budget of rows, a record
+// that an edit names is stamped, and the locks of an edit on the records that it wrote are marked, so that no clause
+// walks an edit's accesses for a record.
 //
-// This file has `check`; `word_clauses` has the clauses on the words, `slot_clauses` those of a slot, `record_clauses`
-// those of a record, and `lock_marks` the marks.
-mod lock_marks;
-mod record_clauses;
-mod slot_clauses;
+// This file has `check`; `word_clauses` has the clauses on the words. Rests on the crates `tables`, `slot_clauses` and
+// `record_clauses`.
 mod word_clauses;
 
 ghost use mathlib.Core.Path.{_≡_};

@@ -158,7 +158,7 @@ pub fn insert_version(w: &mut [u64], c: Counts, r: usize, q: u64) -> usize
         (InsertedSorted (versionTable c) (versionHeads c) (now (w .entry)) (now (w .exit)) (suc r) 0 V-POINT q i)
         ⌝ }
 {
-    chains::insert_sorted(
+    updates::insert_sorted(
         w,
         version_table(c),
         version_heads(c),

@@ -2,7 +2,7 @@
 use mathlib.Core.Path.{sym, _∙_}
 use denote.Ref.{now}
 use borrow.Author.Tests.{not-true, not-false}
-use Rattle.soundness.proofs.Steps.{and-no, and-on}
+use Rattle.clauses.proofs.Steps.{and-no, and-on}
 use Rattle.soundness.proofs.Whole.{locks-first, header-long, unfit, fits-read, unformed, checked}
 use borrow.Author.Needs.{needs}
 use Rattle.soundness.proofs.check.Statement.{statement}

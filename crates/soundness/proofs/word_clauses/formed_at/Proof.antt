@@ -2,7 +2,7 @@
 use mathlib.Core.Path.{sym, _∙_}
 use borrow.Author.Tests.{not-true, not-false}
 use Rattle.tables.specs.Words.{formedAt}
-use Rattle.soundness.proofs.Steps.{and-no, and-on, and-last}
+use Rattle.clauses.proofs.Steps.{and-no, and-on, and-last}
 use borrow.Author.Needs.{needs}
 use Rattle.soundness.proofs.word_clauses.formed_at.Statement.{statement}
 use Rattle.soundness.proofs.word_clauses.formed_at.Tie as tie

@@ -5,7 +5,7 @@ use borrow.Author.Tests.{not-true, not-false}
 use Rattle.chains.specs.Lists.{allOf}
 use Rattle.tables.specs.Decode.{lockRows}
 use Rattle.tables.specs.Words.{namesRecord, locksNamed}
-use Rattle.soundness.proofs.Counting.{UpTo, up-start, up-again, up-fail, up-end}
+use Rattle.clauses.proofs.Counting.{UpTo, up-start, up-again, up-fail, up-end}
 use Rattle.soundness.proofs.word_clauses.locks_named.Statement.{statement}
 use Rattle.soundness.proofs.word_clauses.locks_named.Tie as tie
 

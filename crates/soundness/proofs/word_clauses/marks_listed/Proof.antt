@@ -6,7 +6,7 @@ use borrow.Author.Tests.{not-true, not-false}
 use Rattle.chains.specs.Lists.{allOf}
 use Rattle.tables.specs.Decode.{accessRows}
 use Rattle.tables.specs.Words.{marked, marksListed}
-use Rattle.soundness.proofs.Counting.{UpTo, up-start, up-again, up-fail, up-end}
+use Rattle.clauses.proofs.Counting.{UpTo, up-start, up-again, up-fail, up-end}
 use Rattle.soundness.proofs.word_clauses.marks_listed.Statement.{statement}
 use Rattle.soundness.proofs.word_clauses.marks_listed.Tie as tie
 

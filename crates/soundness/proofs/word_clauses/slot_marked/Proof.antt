@@ -2,7 +2,7 @@
 -- Walks and Loops of `chains`, on Loops of `tables`.
 use native.Mathlib.Omega.{arith}
 use denote.Ref.{now}
-use Rattle.soundness.proofs.Counting.{most-yes, most-no}
+use Rattle.clauses.proofs.Counting.{most-yes, most-no}
 use Rattle.chains.specs.Lists.{allOf}
 use Rattle.chains.specs.Table.{link}
 use Rattle.chains.proofs.Walks.{row-of, fuel-of}
