@@ -8,12 +8,10 @@ ghost use Prim.Native.Nat.{_≤_};
 ghost use lib.ListN.{length};
 ghost use Rattle.script.specs.Run.{Inside};
 
-mod answers;
-mod gathering;
 mod output;
 
 use answers::answer;
-use gathering::gather;
+use answers::gather;
 use output::BUFFER;
 use output::NEWLINE;
 use output::finish;

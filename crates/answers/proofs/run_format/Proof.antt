@@ -1,14 +1,14 @@
--- `script::answers::run_format` meets its contract: Format is lent the words that the counts ask for, or none.
+-- `answers::run_format` meets its contract: Format is lent the words that the counts ask for, or none.
 -- Assumes nothing.
 use mathlib.Core.Path.{sym, ap, refl, _∙_}
 use lib.ListN.{length}
 use lib.Seq.{length-take-le}
 use Rattle.meaning.specs.Replies.{refused, ofFormat}
 use Rattle.replies.specs.Lines.{lineOf}
-use Rattle.script.proofs.Saying.{words-inside, done-answers, refused-answers}
+use Rattle.answers.proofs.Saying.{words-inside, done-answers, refused-answers}
 use borrow.Author.Needs.{needs}
-use Rattle.script.proofs.answers.run_format.Statement.{statement}
-use Rattle.script.proofs.answers.run_format.Tie as tie
+use Rattle.answers.proofs.run_format.Statement.{statement}
+use Rattle.answers.proofs.run_format.Tie as tie
 
 words-for-requires : tie.Need-words-for-requires
 words-for-requires c κs = search needs

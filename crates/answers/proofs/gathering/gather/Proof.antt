@@ -1,11 +1,11 @@
--- `script::gathering::gather` meets its contract.
+-- `answers::gathering::gather` meets its contract.
 -- Assumes nothing.
 use lib.ListN.{length-set}
-use Rattle.script.proofs.Bytes.{full, added}
+use Rattle.answers.proofs.Bytes.{full, added}
 use borrow.Author.Needs.{needs}
 use native.Mathlib.Omega.{arith}
-use Rattle.script.proofs.gathering.gather.Statement.{statement}
-use Rattle.script.proofs.gathering.gather.Tie as tie
+use Rattle.answers.proofs.gathering.gather.Statement.{statement}
+use Rattle.answers.proofs.gathering.gather.Tie as tie
 
 returns : tie.Need-returns
 returns c = (

@@ -1,14 +1,14 @@
--- `script::answers::words_for` meets its contract: the tests are those of `wordsFor`.
+-- `answers::words_for` meets its contract: the tests are those of `wordsFor`.
 -- Assumes nothing.
 use mathlib.Core.Path.{sym, ap, _∙_}
 use lib.Dec.{leb}
 use borrow.Author.Tests.{not-true, not-false, le-leb, lt-leb}
 use Rattle.tables.proofs.Header.{good-ranged}
-use Rattle.script.specs.Script.{roomFor, wordsFor}
+use Rattle.answers.specs.Script.{roomFor, wordsFor}
 use borrow.Author.Needs.{needs}
 use native.Mathlib.Omega.{arith}
-use Rattle.script.proofs.answers.words_for.Statement.{statement}
-use Rattle.script.proofs.answers.words_for.Tie as tie
+use Rattle.answers.proofs.words_for.Statement.{statement}
+use Rattle.answers.proofs.words_for.Tie as tie
 
 good-counts-requires : tie.Need-good-counts-requires
 good-counts-requires c κs = search needs

@@ -1,11 +1,14 @@
 // A line run on the store, by the public calls. The store is the part of the words that is in use; before the first
 // Format that succeeds it is empty, and no empty slice is a sound store. Rests on the crates `meaning`, `tables`,
 // `format`, `store`, `printing`, `rendering` and `lines`.
+mod gathering;
+
 ghost use mathlib.Core.Path.{_≡_};
 ghost use Prim.Native.Nat.{_≤_};
 ghost use lib.ListN.{length, take};
 ghost use Rattle.lines.specs.Calls.{parsed};
-ghost use Rattle.script.specs.Script.{Says, Answers, called, formatted, said, roomFor, wordsFor};
+ghost use Rattle.answers.specs.Script.{Says, Answers, called, formatted, said, roomFor, wordsFor};
+pub use gathering::gather;
 use lines::Parsed;
 use lines::parse;
 use meaning::Call;

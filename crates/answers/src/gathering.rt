@@ -2,7 +2,7 @@
 ghost use Prim.Native.Nat.{_≤_};
 ghost use mathlib.Core.Path.{_≡_};
 ghost use lib.ListN.{length, take};
-ghost use Rattle.script.specs.Run.{gathered};
+ghost use Rattle.answers.specs.Gathered.{gathered};
 
 // Puts one more byte after the held ones, if the buffer has room for it, and answers how many are held.
 pub fn gather(line: &mut [u8], held: usize, b: u8) -> usize

@@ -1,11 +1,11 @@
--- `script::answers::run_call` meets its contract: the call does what it promises on the words in use, and the line is
+-- `answers::run_call` meets its contract: the call does what it promises on the words in use, and the line is
 -- that of its reply. Assumes nothing.
 use mathlib.Core.Path.{sym}
 use lib.Seq.{length-take-le}
-use Rattle.script.proofs.Saying.{call-answers}
+use Rattle.answers.proofs.Saying.{call-answers}
 use borrow.Author.Needs.{needs}
-use Rattle.script.proofs.answers.run_call.Statement.{statement}
-use Rattle.script.proofs.answers.run_call.Tie as tie
+use Rattle.answers.proofs.run_call.Statement.{statement}
+use Rattle.answers.proofs.run_call.Tie as tie
 
 slice-relend-prefix-perform : tie.Need-slice-relend-prefix-perform
 slice-relend-prefix-perform c = search needs

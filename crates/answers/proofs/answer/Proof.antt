@@ -1,11 +1,11 @@
--- `script::answers::answer` meets its contract: each case of a line.
+-- `answers::answer` meets its contract: each case of a line.
 -- Assumes nothing.
 use mathlib.Core.Path.{sym, _∙_}
 use lib.ListN.{length}
-use Rattle.script.proofs.Saying.{malformed-answers, call-line, line-answers}
+use Rattle.answers.proofs.Saying.{malformed-answers, call-line, line-answers}
 use borrow.Author.Needs.{needs}
-use Rattle.script.proofs.answers.answer.Statement.{statement}
-use Rattle.script.proofs.answers.answer.Tie as tie
+use Rattle.answers.proofs.answer.Statement.{statement}
+use Rattle.answers.proofs.answer.Tie as tie
 
 parse-requires : tie.Need-parse-requires
 parse-requires c κs = search needs

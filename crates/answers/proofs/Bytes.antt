@@ -9,7 +9,7 @@ use lib.ListN.{length, take, set}
 use lib.Dec.{ltb}
 use lib.Seq.{length-take-le, take-suc-set}
 use borrow.Author.Tests.{lt-ltb, le-ltb}
-use Rattle.script.specs.Run.{gathered}
+use Rattle.answers.specs.Gathered.{gathered}
 
 chosen : (line : List ℕ) (held b : ℕ) {t : Bool} → held ≤ length line → ltb held (length line) ≡ t
     → gathered (length line) (take held line) b ≡ cond t (take held line ++ b ∷ []) (take held line)
