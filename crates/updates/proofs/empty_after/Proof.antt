@@ -1,4 +1,4 @@
--- `chains::empty_after` meets its contract: unlinking every row after the place. Rests on Turns.
+-- `updates::empty_after` meets its contract: unlinking every row after the place. Rests on Turns.
 use mathlib.Core.List.{List}
 use Prim.Native.Nat.{ℕ}
 use native.Mathlib.Omega.{arith}

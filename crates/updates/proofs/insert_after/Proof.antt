@@ -1,4 +1,4 @@
--- `chains::insert_after` meets its contract. Rests on Steps (insert-law).
+-- `updates::insert_after` meets its contract. Rests on Steps (insert-law).
 use native.Mathlib.Omega.{arith}
 use Rattle.chains.proofs.Cells.{lies}
 use Rattle.chains.proofs.Steps.{insert-ready, insert-law}

@@ -1,4 +1,4 @@
--- `chains::insert_sorted` meets its contract. Rests on Places (sorted-law).
+-- `updates::insert_sorted` meets its contract. Rests on Places (sorted-law).
 use mathlib.Core.Path.{refl, sym, _∙_}
 use native.Mathlib.Omega.{arith}
 use denote.Ref.{now}

@@ -1,4 +1,4 @@
--- `chains::move_first` meets its contract: the first row stands after place 0. Rests on Steps (move-law).
+-- `updates::move_first` meets its contract: the first row stands after place 0. Rests on Steps (move-law).
 use mathlib.Core.Path.{refl, sym, _∙_}
 use native.Mathlib.Omega.{arith}
 use Rattle.chains.proofs.Cells.{heads-lie}

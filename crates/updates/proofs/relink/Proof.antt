@@ -1,4 +1,4 @@
--- `chains::relink` meets its contract: its three stores are those of relinked. Rests on Cells.
+-- `updates::relink` meets its contract: its three stores are those of relinked. Rests on Cells.
 use mathlib.Core.Path.{_∙_}
 use Rattle.chains.specs.Change.{relinked}
 use Rattle.chains.proofs.Cells.{lies, heads-lie, laid-same}

@@ -1,4 +1,4 @@
--- `chains::unlink` meets its contract. Rests on Steps (unlink-law).
+-- `updates::unlink` meets its contract. Rests on Steps (unlink-law).
 use Rattle.chains.proofs.Cells.{lies, heads-lie}
 use Rattle.chains.proofs.Steps.{follows-row, unlink-ready, unlink-law}
 use borrow.Author.Needs.{needs}

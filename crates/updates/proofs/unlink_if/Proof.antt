@@ -1,4 +1,4 @@
--- `chains::unlink_if` meets its contract: unlinking by the test whether word o of a row is v. Rests on Turns.
+-- `updates::unlink_if` meets its contract: unlinking by the test whether word o of a row is v. Rests on Turns.
 use mathlib.Core.List.{[]}
 use native.Mathlib.Omega.{arith}
 use denote.Ref.{now}

@@ -1,4 +1,4 @@
--- `chains::unlink_turn` meets its contract. Rests on nothing.
+-- `updates::unlink_turn` meets its contract. Rests on nothing.
 use mathlib.Core.Path.{refl, sym, _∙_}
 use mathlib.Core.Bool.{false≢true}
 use borrow.Author.Needs.{needs}
