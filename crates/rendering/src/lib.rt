@@ -1,5 +1,5 @@
 // The line that prints the answer of `perform`, for every program that runs calls read from text. Rests on the crates
-// `meaning`, `store` and `printing`.
+// `meaning`, `store` and `replies`.
 ghost use mathlib.Core.Path.{_≡_};
 ghost use Rattle.store.specs.Answers.{ofAnswer};
 ghost use Rattle.replies.specs.Lines.{lineOf};

@@ -1,5 +1,6 @@
 -- The row of an edit's access of a record, as a search finds it: where there is one it stands on the slot's chain and
--- names the record, and where there is none the edit does not name the record. Rests on Accesses and Lists.
+-- names the record, and where there is none the edit does not name the record. Rests on Accesses, and on Searches of
+-- `chains`.
 use Prim.Native.Nat.{ℕ, suc, _≤_, _<_}
 use mathlib.Core.Path.{_≡_, refl, sym, ap, _∙_}
 use mathlib.Core.Bool.{Bool, true, false}
@@ -8,7 +9,8 @@ use native.Mathlib.Omega.{arith}
 use borrow.Author.Tests.{eqb-true, ltb-true}
 use Rattle.chains.specs.Lists.{occ, firstOf}
 use Rattle.chains.specs.Walk.{IsRow}
-use Rattle.chains.proofs.Occurs.{occ-nil, occ-here, occ-there}
+use Rattle.chains.proofs.Occurs.{occ-here, occ-there, occ-append}
+use Rattle.chains.proofs.Searches.{first-found}
 use Rattle.chains.proofs.Words.{on-chain}
 use Rattle.meaning.specs.Lists.{any}
 use Rattle.meaning.specs.Store.{editAt, isOf, names, accessesUsed}
@@ -19,15 +21,11 @@ use Rattle.tables.specs.Decode.{accessAt, accessRows, accessesOf, decodeAt}
 use Rattle.tables.specs.Words.{Well}
 use Rattle.slots.proofs.Accesses.{accesses-at}
 
+-- the row found is one of those searched
 first-some : (p : ℕ → Bool) (rs : List ℕ) (i : ℕ) → i ≡ firstOf p rs → (i ≡ 0 → ⊥) → (1 ≤ occ i rs) × (p i ≡ true)
-unfolding firstOf
-first-some p [] i e n = absurd (n e)
-first-some p (r ∷ rs) i e n = go (p r) refl (first-some p rs i)
-  where
-    go : (b : Bool) → p r ≡ b → (i ≡ firstOf p rs → (i ≡ 0 → ⊥) → (1 ≤ occ i rs) × (p i ≡ true))
-        → (1 ≤ occ i (r ∷ rs)) × (p i ≡ true)
-    go true h ih = let z : i ≡ r = rw (h, firstOf) at e in (rw z (occ-here r rs), ap p z ∙ h)
-    go false h ih = let q = ih (rw (h, firstOf) at e) n in (omega (arith, q .0, occ-there i r rs), q .1)
+first-some p rs i e n =
+    let q = first-found p rs i e (omega (arith, n)) in
+    (rw (q .parts) (omega (arith, occ-append i (q .before) (i ∷ q .beyond), occ-here i (q .beyond))), q .passes)
 
 first-none : {A : Type 0} (f : ℕ → A) (p : A → Bool) (rs : List ℕ) → ((x : ℕ) → 1 ≤ occ x rs → 1 ≤ x)
     → firstOf (λ i. p (f i)) rs ≡ 0 → any p (map f rs) ≡ false
