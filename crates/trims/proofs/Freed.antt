@@ -1,6 +1,5 @@
 -- The number of rows that a loop frees: with the rows still on the chain it makes those that were there before, and so
--- it is the difference of the
--- record's two lists. Rests on Versions, Locks and OneWord.
+-- it is the difference of the record's two lists. Rests on Versions, Locks and OneWord of `changes`.
 use Prim.Native.Nat.{ℕ, suc, _+_, _<_}
 use mathlib.Core.Path.{_≡_, ap, _∙_}
 use mathlib.Core.List.{List}
@@ -15,10 +14,11 @@ use Rattle.meaning.specs.declared.Version.{Version}
 use Rattle.meaning.specs.declared.Counts.{Counts}
 use Rattle.tables.specs.Layout.{lockTable, lockHeads, versionTable, versionHeads}
 use Rattle.tables.specs.Decode.{lockAt, lockRows, locksOf, versionAt, versionRows, versionsOf, decodeAt}
-use Rattle.changes.specs.Becomes.{Becomes, FreesVersions, FreesLocks, withVersions, onVersions, onLocks}
+use Rattle.changes.specs.Becomes.{Becomes, withVersions, onVersions, onLocks}
+use Rattle.trims.specs.Frees.{FreesVersions, FreesLocks}
 use Rattle.changes.proofs.Versions.{versions-at}
 use Rattle.changes.proofs.Locks.{locks-at}
 use Rattle.changes.proofs.OneWord.{rec-there}
 
 -- chain a has lost n rows since w₀
 abbrev pub Lost : Table → Heads → List ℕ → ℕ → List ℕ → ℕ → Type 0

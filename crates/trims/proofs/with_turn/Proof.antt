@@ -1,8 +1,8 @@
--- `changes::with_turn` meets its contract. Rests on nothing.
+-- `trims::with_turn` meets its contract. Rests on nothing.
 use native.Mathlib.Omega.{arith}
 use borrow.Author.Needs.{needs}
-use Rattle.changes.proofs.with_turn.Statement.{statement}
-use Rattle.changes.proofs.with_turn.Tie as tie
+use Rattle.trims.proofs.with_turn.Statement.{statement}
+use Rattle.trims.proofs.with_turn.Tie as tie
 
 add-result : tie.Need-add-result
 add-result c = search needs

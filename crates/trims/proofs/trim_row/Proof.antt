@@ -1,9 +1,9 @@
--- `changes::trim_row` meets its contract. Rests on nothing.
+-- `trims::trim_row` meets its contract. Rests on nothing.
 use mathlib.Core.Path.{refl, ap, _∙_}
 use Rattle.meaning.specs.Points.{emptied}
 use borrow.Author.Needs.{needs}
-use Rattle.changes.proofs.trim_row.Statement.{statement}
-use Rattle.changes.proofs.trim_row.Tie as tie
+use Rattle.trims.proofs.trim_row.Statement.{statement}
+use Rattle.trims.proofs.trim_row.Tie as tie
 
 lock-at-requires : tie.Need-lock-at-requires
 lock-at-requires c κs = search needs

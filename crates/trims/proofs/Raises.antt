@@ -1,6 +1,6 @@
 -- The loop that raises the low ends of a record's settled locks: the chains stay, and row by row the low end becomes
--- that of the trimmed lock. In each, `d` is what the code's test `more` ensures and `e` how it went. Rests on OneTable,
--- Locks and Frames of `chains`.
+-- that of the trimmed lock. In each, `d` is what the code's test `more` ensures and `e` how it went. Rests on OneTable
+-- and Locks of `changes` and Frames of `chains`.
 use Prim.Native.Nat.{ℕ, suc, _+_, _-_, _≤_, _<_, max}
 use mathlib.Core.Path.{_≡_, refl, sym, ap, _∙_}
 use mathlib.Core.Bool.{Bool, true, false, cond}

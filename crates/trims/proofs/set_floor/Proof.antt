@@ -1,8 +1,8 @@
--- `changes::set_floor` meets its contract. Rests on OneWord.
+-- `trims::set_floor` meets its contract. Rests on OneWord of `changes`.
 use Rattle.changes.proofs.OneWord.{floor-becomes}
 use borrow.Author.Needs.{needs}
-use Rattle.changes.proofs.set_floor.Statement.{statement}
-use Rattle.changes.proofs.set_floor.Tie as tie
+use Rattle.trims.proofs.set_floor.Statement.{statement}
+use Rattle.trims.proofs.set_floor.Tie as tie
 
 put-floor-requires : tie.Need-put-floor-requires
 put-floor-requires c κs = search needs

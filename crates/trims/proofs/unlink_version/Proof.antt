@@ -1,9 +1,9 @@
--- `changes::unlink_version` meets its contract. Rests on nothing.
+-- `trims::unlink_version` meets its contract. Rests on nothing.
 use native.Mathlib.Numerals.{add-one}
 use Rattle.tables.specs.Layout.{versionTable}
 use borrow.Author.Needs.{needs}
-use Rattle.changes.proofs.unlink_version.Statement.{statement}
-use Rattle.changes.proofs.unlink_version.Tie as tie
+use Rattle.trims.proofs.unlink_version.Statement.{statement}
+use Rattle.trims.proofs.unlink_version.Tie as tie
 
 version-table-requires : tie.Need-version-table-requires
 version-table-requires c κs = search needs

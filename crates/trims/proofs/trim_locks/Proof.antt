@@ -1,13 +1,13 @@
--- `changes::trim_locks` meets its contract. The loop's invariant: record r's locks up to the place are trimmed and have
+-- `trims::trim_locks` meets its contract. The loop's invariant: record r's locks up to the place are trimmed and have
 -- lost those left empty, as many as were freed. Rests on Trims, on Walks of `chains`.
 use mathlib.Core.Path.{_∙_}
 use native.Mathlib.Omega.{arith}
 use Rattle.chains.proofs.Walks.{fuel-of}
-use Rattle.changes.proofs.Trims.{Trims, trims-start, trims-few}
-use Rattle.changes.proofs.Trims.{trims-row, trims-ready, trims-again, trim-locks-law}
+use Rattle.trims.proofs.Trims.{Trims, trims-start, trims-few}
+use Rattle.trims.proofs.Trims.{trims-row, trims-ready, trims-again, trim-locks-law}
 use borrow.Author.Needs.{needs}
-use Rattle.changes.proofs.trim_locks.Statement.{statement}
-use Rattle.changes.proofs.trim_locks.Tie as tie
+use Rattle.trims.proofs.trim_locks.Statement.{statement}
+use Rattle.trims.proofs.trim_locks.Tie as tie
 
 abbrev Inv-loop : tie.InvT-loop
 Inv-loop w₀ c r v n freed₀ place₀ cur₀ left₀ w freed place cur left = Trims c v w₀ r w place cur left freed

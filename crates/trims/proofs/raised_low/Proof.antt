@@ -1,10 +1,10 @@
--- `changes::raised_low` meets its contract. Rests on Raises.
+-- `trims::raised_low` meets its contract. Rests on Raises.
 use mathlib.Core.Path.{sym, _∙_}
 use native.Mathlib.Numerals.{add-one}
-use Rattle.changes.proofs.Raises.{low-other, low-above, low-raised}
+use Rattle.trims.proofs.Raises.{low-other, low-above, low-raised}
 use borrow.Author.Needs.{needs}
-use Rattle.changes.proofs.raised_low.Statement.{statement}
-use Rattle.changes.proofs.raised_low.Tie as tie
+use Rattle.trims.proofs.raised_low.Statement.{statement}
+use Rattle.trims.proofs.raised_low.Tie as tie
 
 returns : tie.Need-returns
 returns c = sym (low-other _ _ (c .if1 .taken))

@@ -1,8 +1,8 @@
--- `changes::is_below` meets its contract. Rests on nothing.
+-- `trims::is_below` meets its contract. Rests on nothing.
 use mathlib.Core.Path.{refl}
 use borrow.Author.Needs.{needs}
-use Rattle.changes.proofs.is_below.Statement.{statement}
-use Rattle.changes.proofs.is_below.Tie as tie
+use Rattle.trims.proofs.is_below.Statement.{statement}
+use Rattle.trims.proofs.is_below.Tie as tie
 
 version-at-requires : tie.Need-version-at-requires
 version-at-requires c κs = search needs

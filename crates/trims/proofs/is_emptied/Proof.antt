@@ -1,8 +1,8 @@
--- `changes::is_emptied` meets its contract. Rests on Lists.
+-- `trims::is_emptied` meets its contract. Rests on Trims.
 use mathlib.Core.Path.{sym}
-use Rattle.changes.proofs.Lists.{emptied-other, emptied-settled}
-use Rattle.changes.proofs.is_emptied.Statement.{statement}
-use Rattle.changes.proofs.is_emptied.Tie as tie
+use Rattle.trims.proofs.Trims.{emptied-other, emptied-settled}
+use Rattle.trims.proofs.is_emptied.Statement.{statement}
+use Rattle.trims.proofs.is_emptied.Tie as tie
 
 returns : tie.Need-returns
 returns c = sym (emptied-other (c .before .before .args .v) (c .before .before .args .l) (c .if1 .taken))

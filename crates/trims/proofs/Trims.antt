@@ -1,13 +1,14 @@
 -- The loop that trims a record's locks: rows left empty go, and of every row passed the low end becomes that of the
--- trimmed lock. The loop is that of
--- Turns, begun in `base`, where the low ends are already raised. In each, `d` is what the code's test `more` ensures.
--- Rests on Raises and Turns of `chains`.
+-- trimmed lock. The loop is that of Turns of `chains`, begun in `base`, where the low ends are already raised. In each,
+-- `d` is what the code's test `more` ensures. Rests on Freed, Raises, Locks of `changes` and Turns of `chains`.
 use Prim.Native.Nat.{ℕ, suc, _+_, _-_, _≤_, _<_}
 use mathlib.Core.Path.{_≡_, refl, sym, ap, _∙_}
 use mathlib.Core.Bool.{Bool, true, false, not, cond}
 use mathlib.Core.List.{List, [], map}
 use native.Mathlib.Omega.{arith}
+use lib.Dec.{leb}
 use lib.ListN.{length, set}
+use borrow.Author.Tests.{eq-eqb, ne-eqb}
 use Rattle.chains.specs.Lists.{dropIf}
 use Rattle.chains.specs.Walk.{IsRow, more}
 use Rattle.chains.specs.Table.{place, link, headOf, rowsOf}
@@ -18,22 +19,31 @@ use Rattle.chains.proofs.Frames.{put-same, only-put, only-elsewhere}
 use Rattle.chains.proofs.Turns.{TurnInv, turn-start, turn-ready, turn-again, turn-count, turn-link, turn-put, turn-end}
 use Rattle.chains.proofs.Walks.{more-out}
 use Rattle.chains.proofs.Words.{on-short}
-use Rattle.meaning.specs.Limits.{MAX-ROWS}
+use Rattle.meaning.specs.Limits.{MAX-ROWS, SETTLED}
 use Rattle.meaning.specs.Store.{withLocks, recAt}
 use Rattle.meaning.specs.Points.{emptied, trimmed, trimTo}
+use Rattle.meaning.specs.declared.Lock.{Lock}
 use Rattle.meaning.specs.declared.Counts.{Counts}
 use Rattle.tables.specs.Layout.{lockTable, lockHeads, Fits, L-LOW, L-NEXT}
 use Rattle.tables.specs.Decode.{lockAt, lockRows, decodeAt}
 use Rattle.tables.specs.Words.{Well}
 use Rattle.tables.proofs.Places.{locks-laid}
-use Rattle.changes.specs.Becomes.{FreesLocks, TrimsRow}
+use Rattle.trims.specs.Frees.{FreesLocks, TrimsRow}
 use Rattle.changes.proofs.OneTable.{locks-fit}
 use Rattle.changes.proofs.OneWord.{then-rec}
 use Rattle.changes.proofs.Locks.{lock-ready-back, lock-kept, locks-dropped, drop-locks-law}
 use Rattle.changes.proofs.Lists.{drop-keep, map-map, occ-drop}
-use Rattle.changes.proofs.Freed.{Lost, frees-locks}
-use Rattle.changes.proofs.Raises.{Raises, raises-start, raises-fits, raises-entry}
-use Rattle.changes.proofs.Raises.{raises-again, raises-same, raises-here, raise-lows-law}
+use Rattle.trims.proofs.Freed.{Lost, frees-locks}
+use Rattle.trims.proofs.Raises.{Raises, raises-start, raises-fits, raises-entry}
+use Rattle.trims.proofs.Raises.{raises-again, raises-same, raises-here, raise-lows-law}
+
+-- a lock that trimming empties, as the code tests it
+module _ (v : ℕ) (l : Lock) where
+  pub emptied-other : (l .owner ≡ SETTLED → ⊥) → emptied v l ≡ false
+  emptied-other n = rw (ne-eqb (l .owner) SETTLED n) refl
+
+  pub emptied-settled : l .owner ≡ SETTLED → emptied v l ≡ leb (l .high) v
+  emptied-settled e = rw (eq-eqb (l .owner) SETTLED e) refl
 
 pub record Trims (c : Counts) (v : ℕ) (w₀ : List ℕ) (r : ℕ) (w : List ℕ) (place′ cur left freed : ℕ) : Type 0 where
   pub base : List ℕ

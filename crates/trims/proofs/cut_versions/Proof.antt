@@ -1,16 +1,17 @@
--- `changes::cut_versions` meets its contract. The loop's invariant: record r's versions up to the place have lost those
--- below v, as many as were freed. Rests on Versions, Freed, Lists and Turns, on Walks of `chains`.
+-- `trims::cut_versions` meets its contract. The loop's invariant: record r's versions up to the place have lost those
+-- below v, as many as were freed. Rests on Freed and Turns, on Versions and Lists of `changes`, on Walks of `chains`.
 use native.Mathlib.Omega.{arith}
 use lib.Dec.{ltb}
 use Rattle.chains.proofs.Walks.{fuel-of}
 use Rattle.changes.proofs.Versions.{drop-versions-law}
-use Rattle.changes.proofs.Freed.{frees-versions}
-use Rattle.changes.proofs.Lists.{drop-keep, not-below}
-use Rattle.changes.proofs.Turns.{VersionTurns, version-turns-start, version-turns-few}
-use Rattle.changes.proofs.Turns.{version-turns-row, version-turns-ready, version-turns-again, version-turns-end}
+use Rattle.trims.proofs.Freed.{frees-versions}
+use Rattle.changes.proofs.Lists.{drop-keep}
+use Rattle.trims.proofs.Turns.{not-below}
+use Rattle.trims.proofs.Turns.{VersionTurns, version-turns-start, version-turns-few}
+use Rattle.trims.proofs.Turns.{version-turns-row, version-turns-ready, version-turns-again, version-turns-end}
 use borrow.Author.Needs.{needs}
-use Rattle.changes.proofs.cut_versions.Statement.{statement}
-use Rattle.changes.proofs.cut_versions.Tie as tie
+use Rattle.trims.proofs.cut_versions.Statement.{statement}
+use Rattle.trims.proofs.cut_versions.Tie as tie
 
 abbrev Inv-loop : tie.InvT-loop
 Inv-loop w₀ c r v n freed₀ place₀ cur₀ left₀ w freed place cur left =
