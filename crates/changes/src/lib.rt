@@ -1,7 +1,7 @@
 // The changes of a record that the calls are made of: its locks and its versions; those of Purge are the crate `trims`.
 // Each leaves the words well formed and equals a function of the decoded store; the callers prove that the words are
 // well formed (`Well`), that slots and records are in range, and that there is room, in the words of the meaning. Rests
-// on the crates `meaning`, `chains`, `updates` and `tables`.
+// on the crates `meaning`, `chains`, `updates`, `tables` and `writes`.
 ghost use mathlib.Core.Path.{_≡_};
 ghost use mathlib.Core.Bool.{true};
 ghost use Prim.Native.Nat.{suc, _+_, _≤_, _<_};
@@ -41,7 +41,7 @@ pub fn add_lock(w: &mut [u64], c: Counts, r: usize, l: Lock)
     ensures { λ _. ⌜ Becomes c (now (w .exit)) (onLocks (decodeAt c (now (w .entry))) r (addLock l)) ⌝ }
 {
     let i = take_lock(w, c, r);
-    tables::put_lock(w, c, i, r, l);
+    writes::put_lock(w, c, i, r, l);
 }
 
 // A settled lock more on record r.
@@ -53,7 +53,7 @@ pub fn leave_settled(w: &mut [u64], c: Counts, r: usize, mode: u64, low: u64, hi
         ⌝ }
 {
     let i = take_lock(w, c, r);
-    tables::put_lock(
+    writes::put_lock(
         w,
         c,
         i,
@@ -125,6 +125,6 @@ pub fn add_version(w: &mut [u64], c: Counts, r: usize, point: u64, value: u64)
         (onVersions (decodeAt c (now (w .entry))) r (insert (versionOf point value)))
         ⌝ }
 {
-    let i = tables::insert_version(w, c, r, point - 1);
-    tables::put_version(w, c, i, point, value);
+    let i = writes::insert_version(w, c, r, point - 1);
+    writes::put_version(w, c, i, point, value);
 }

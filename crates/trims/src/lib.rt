@@ -1,6 +1,6 @@
 // What Purge changes of a record: its floor, its settled locks and its versions. Each leaves the words well formed and
 // equals a function of the decoded store; the callers prove that the words are well formed (`Well`) and that records
-// and points are in range. Rests on the crates `meaning`, `chains`, `updates`, `tables` and `changes`.
+// and points are in range. Rests on the crates `meaning`, `chains`, `updates`, `tables`, `writes` and `changes`.
 ghost use mathlib.Core.Path.{_≡_};
 ghost use mathlib.Core.Bool.{cond};
 ghost use Prim.Native.Nat.{suc, _+_, _≤_, _<_};
@@ -28,7 +28,7 @@ pub fn set_floor(w: &mut [u64], c: Counts, r: usize, v: u64)
         (withRec (decodeAt c (now (w .entry))) r (withFloor (recAt (decodeAt c (now (w .entry))) r) v))
         ⌝ }
 {
-    tables::put_floor(w, c, r, v);
+    writes::put_floor(w, c, r, v);
 }
 
 // Settled locks lose their points up to v, and rows left empty go. Rows are counted in the walk that frees them.
@@ -71,7 +71,7 @@ fn trim_row(w: &mut [u64], c: Counts, i: usize, v: u64) -> bool
     ensures { λ q. ⌜ TrimsRow c (now (w .entry)) (now (w .exit)) i v q ⌝ }
 {
     let l = tables::lock_at(w, c, i);
-    tables::put_low(w, c, i, raised_low(l, v));
+    writes::put_low(w, c, i, raised_low(l, v));
     is_emptied(l, v)
 }
 

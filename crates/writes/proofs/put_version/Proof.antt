@@ -1,11 +1,11 @@
--- `tables::writes::put_version` meets its contract. Rests on Places.
+-- `writes::put_version` meets its contract. Rests on Places of `tables`.
 use mathlib.Core.Path.{refl}
 use native.Mathlib.Omega.{arith}
-use Rattle.tables.specs.Rows.{versionStored}
+use Rattle.writes.specs.Rows.{versionStored}
 use Rattle.tables.proofs.Places
 use borrow.Author.Needs.{needs}
-use Rattle.tables.proofs.writes.put_version.Statement.{statement}
-use Rattle.tables.proofs.writes.put_version.Tie as tie
+use Rattle.writes.proofs.put_version.Statement.{statement}
+use Rattle.writes.proofs.put_version.Tie as tie
 
 set-version-word-requires : tie.Need-set-version-word-requires
 set-version-word-requires c κs = search needs

@@ -1,10 +1,10 @@
--- `tables::writes::set_slot_word` meets its contract. Rests on Places.
+-- `writes::set_slot_word` meets its contract. Rests on Places of `tables`.
 use native.Mathlib.Omega.{arith}
 use Rattle.tables.specs.Layout.{slotTable}
 use Rattle.tables.proofs.Places
 use borrow.Author.Needs.{needs}
-use Rattle.tables.proofs.writes.set_slot_word.Statement.{statement}
-use Rattle.tables.proofs.writes.set_slot_word.Tie as tie
+use Rattle.writes.proofs.set_slot_word.Statement.{statement}
+use Rattle.writes.proofs.set_slot_word.Tie as tie
 
 slot-table-requires : tie.Need-slot-table-requires
 slot-table-requires c κs = search needs

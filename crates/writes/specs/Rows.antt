@@ -1,4 +1,4 @@
--- The words that a row is filled with, all but its link. Rests on Layout.
+-- The words that a row is filled with, all but its link. Rests on Layout of `tables`.
 use Prim.Native.Nat.{ℕ, suc, _+_, _*_}
 use mathlib.Core.Bool.{Bool, true, false, cond}
 use mathlib.Core.List.{List}

@@ -1,9 +1,9 @@
--- `tables::writes::lock_tag` meets its contract. Rests on nothing.
+-- `writes::lock_tag` meets its contract. Rests on nothing.
 use mathlib.Core.Path.{refl}
-use Rattle.tables.specs.Rows.{lockTag}
+use Rattle.writes.specs.Rows.{lockTag}
 use borrow.Author.Needs.{needs}
-use Rattle.tables.proofs.writes.lock_tag.Statement.{statement}
-use Rattle.tables.proofs.writes.lock_tag.Tie as tie
+use Rattle.writes.proofs.lock_tag.Statement.{statement}
+use Rattle.writes.proofs.lock_tag.Tie as tie
 
 mul-result : tie.Need-mul-result
 mul-result c = search needs

@@ -1,11 +1,11 @@
--- `tables::writes::put_floor` meets its contract. Rests on Places.
+-- `writes::put_floor` meets its contract. Rests on Places of `tables`.
 use native.Mathlib.Omega.{arith}
 use native.Mathlib.Numerals.{add-one}
 use Rattle.tables.specs.Layout.{recordTable}
 use Rattle.tables.proofs.Places
 use borrow.Author.Needs.{needs}
-use Rattle.tables.proofs.writes.put_floor.Statement.{statement}
-use Rattle.tables.proofs.writes.put_floor.Tie as tie
+use Rattle.writes.proofs.put_floor.Statement.{statement}
+use Rattle.writes.proofs.put_floor.Tie as tie
 
 record-table-requires : tie.Need-record-table-requires
 record-table-requires c κs = search needs

@@ -1,11 +1,11 @@
--- `tables::writes::put_lock` meets its contract. Rests on Places.
+-- `writes::put_lock` meets its contract. Rests on Places of `tables`.
 use mathlib.Core.Path.{refl}
 use native.Mathlib.Omega.{arith}
-use Rattle.tables.specs.Rows.{lockStored}
+use Rattle.writes.specs.Rows.{lockStored}
 use Rattle.tables.proofs.Places
 use borrow.Author.Needs.{needs}
-use Rattle.tables.proofs.writes.put_lock.Statement.{statement}
-use Rattle.tables.proofs.writes.put_lock.Tie as tie
+use Rattle.writes.proofs.put_lock.Statement.{statement}
+use Rattle.writes.proofs.put_lock.Tie as tie
 
 lock-tag-requires : tie.Need-lock-tag-requires
 lock-tag-requires c κs = search needs

@@ -1,8 +1,8 @@
--- `tables::writes::written_mark` meets its contract. Rests on nothing.
+-- `writes::written_mark` meets its contract. Rests on nothing.
 use mathlib.Core.Path.{refl}
-use Rattle.tables.specs.Rows.{writtenMark}
-use Rattle.tables.proofs.writes.written_mark.Statement.{statement}
-use Rattle.tables.proofs.writes.written_mark.Tie as tie
+use Rattle.writes.specs.Rows.{writtenMark}
+use Rattle.writes.proofs.written_mark.Statement.{statement}
+use Rattle.writes.proofs.written_mark.Tie as tie
 
 returns : tie.Need-returns
 unfolding writtenMark

@@ -1,11 +1,11 @@
--- `tables::writes::put_access` meets its contract. Rests on Places.
+-- `writes::put_access` meets its contract. Rests on Places of `tables`.
 use mathlib.Core.Path.{refl}
 use native.Mathlib.Omega.{arith}
-use Rattle.tables.specs.Rows.{accessStored}
+use Rattle.writes.specs.Rows.{accessStored}
 use Rattle.tables.proofs.Places
 use borrow.Author.Needs.{needs}
-use Rattle.tables.proofs.writes.put_access.Statement.{statement}
-use Rattle.tables.proofs.writes.put_access.Tie as tie
+use Rattle.writes.proofs.put_access.Statement.{statement}
+use Rattle.writes.proofs.put_access.Tie as tie
 
 written-mark-requires : tie.Need-written-mark-requires
 written-mark-requires c κs = search needs

@@ -1,11 +1,11 @@
--- `tables::writes::set_lock_word` meets its contract. Rests on Places, on Cells of `chains`.
+-- `writes::set_lock_word` meets its contract. Rests on Places of `tables` and Cells of `chains`.
 use native.Mathlib.Omega.{arith}
 use Rattle.chains.proofs.Cells.{lies}
 use Rattle.tables.specs.Layout.{lockTable}
 use Rattle.tables.proofs.Places
 use borrow.Author.Needs.{needs}
-use Rattle.tables.proofs.writes.set_lock_word.Statement.{statement}
-use Rattle.tables.proofs.writes.set_lock_word.Tie as tie
+use Rattle.writes.proofs.set_lock_word.Statement.{statement}
+use Rattle.writes.proofs.set_lock_word.Tie as tie
 
 lock-table-requires : tie.Need-lock-table-requires
 lock-table-requires c κs = search needs

@@ -1,10 +1,10 @@
--- `tables::writes::insert_version` meets its contract. Rests on nothing.
+-- `writes::insert_version` meets its contract. Rests on nothing.
 use native.Mathlib.Omega.{arith}
 use native.Mathlib.Numerals.{add-one}
 use Rattle.tables.specs.Layout.{versionTable}
 use borrow.Author.Needs.{needs}
-use Rattle.tables.proofs.writes.insert_version.Statement.{statement}
-use Rattle.tables.proofs.writes.insert_version.Tie as tie
+use Rattle.writes.proofs.insert_version.Statement.{statement}
+use Rattle.writes.proofs.insert_version.Tie as tie
 
 version-table-requires : tie.Need-version-table-requires
 version-table-requires c κs = search needs

@@ -1,5 +1,6 @@
-// Stores of words and rows. Each promises the exact words after it. Rests on lib.rt and on the crates `meaning` and
-// `chains`.
+// Stores of words and rows. Each promises the exact words after it; what changes make of the decoded store is the crate
+// `changes`. A caller proves that the words have these counts (`Fits`), so the functions have `requires`. Rests on the
+// crates `meaning`, `chains`, `updates` and `tables`, which alone names the layout.
 ghost use mathlib.Core.Path.{_≡_};
 ghost use Prim.Native.Nat.{suc, _≤_, _<_};
 ghost use lib.ListN.{set};
@@ -7,35 +8,35 @@ ghost use Rattle.chains.specs.Table.{place};
 ghost use Rattle.chains.specs.Walk.{IsRow};
 ghost use Rattle.chains.specs.Change.{Ready, Taken, InsertedSorted};
 ghost use Rattle.meaning.specs.Limits.{MAX-EDITS};
 ghost use Rattle.tables.specs.Layout.{SLOT, VERSION, LOCK, ACCESS, recordTable, slotTable, versionTable};
 ghost use Rattle.tables.specs.Layout.{lockTable, accessTable, versionHeads, Fits, V-POINT, MODES, R-FLOOR};
 ghost use Rattle.tables.specs.Layout.{S-STATE, S-GENERATION, S-POINT, L-LOW};
-ghost use Rattle.tables.specs.Rows.{lockTag, writtenMark, versionStored, lockStored, accessStored};
-use crate::A_FROM;
-use crate::A_RECORD;
-use crate::A_VALUE;
-use crate::A_WRITTEN;
-use crate::L_HIGH;
-use crate::L_LOW;
-use crate::L_MODE;
-use crate::L_RECORD;
-use crate::MODES;
-use crate::R_FLOOR;
-use crate::S_GENERATION;
-use crate::S_POINT;
-use crate::S_STATE;
-use crate::V_POINT;
-use crate::V_SPARE;
-use crate::V_VALUE;
-use crate::access_table;
-use crate::lock_table;
-use crate::record_table;
-use crate::slot_table;
-use crate::version_heads;
-use crate::version_table;
+ghost use Rattle.writes.specs.Rows.{lockTag, writtenMark, versionStored, lockStored, accessStored};
 use meaning::Access;
 use meaning::Counts;
 use meaning::Lock;
+use tables::A_FROM;
+use tables::A_RECORD;
+use tables::A_VALUE;
+use tables::A_WRITTEN;
+use tables::L_HIGH;
+use tables::L_LOW;
+use tables::L_MODE;
+use tables::L_RECORD;
+use tables::MODES;
+use tables::R_FLOOR;
+use tables::S_GENERATION;
+use tables::S_POINT;
+use tables::S_STATE;
+use tables::V_POINT;
+use tables::V_SPARE;
+use tables::V_VALUE;
+use tables::access_table;
+use tables::lock_table;
+use tables::record_table;
+use tables::slot_table;
+use tables::version_heads;
+use tables::version_table;
 
 // Stores of one word.
 
