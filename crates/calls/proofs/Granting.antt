@@ -19,8 +19,8 @@ use Rattle.meaning.proofs.Lists.{test}
 use Rattle.meaning.proofs.Spans.{firstCovered-low, firstCovered-least, firstFree-low, firstFree-run}
 use Rattle.tables.specs.Decode.{recordAt, decodeAt}
 use Rattle.tables.proofs.Decoded.{rec-at}
-use Rattle.lookups.specs.declared.Blocked.{Blocked}
-use Rattle.lookups.specs.Search.{counts, counted, firstJudged}
+use Rattle.blocking.specs.declared.Blocked.{Blocked}
+use Rattle.blocking.specs.Search.{counts, counted, firstJudged}
 use Rattle.calls.specs.declared.Grant.the-variants.{Taken, Judged}
 use Rattle.calls.specs.Grants.{lockGrant, readGrant}
 

@@ -1,4 +1,4 @@
--- How a blocked point is refused, from the judgement that the search answered. Rests on Judged of `lookups`.
+-- How a blocked point is refused, from the judgement that the search answered. Rests on Judged of `blocking`.
 use Prim.Native.Nat.{ℕ, _≤_}
 use mathlib.Core.Path.{_≡_, refl, ap, _∙_}
 use mathlib.Core.Logic.{_⊎_, inl, inr}
@@ -15,9 +15,9 @@ use Rattle.meaning.specs.Points.{covers, blockers, firstBlocked, frozen, holder
 use Rattle.meaning.specs.Outcomes.{refuse, handleAt, judge}
 use Rattle.meaning.specs.declared.Lock.{Lock}
 use Rattle.meaning.proofs.Lists.{test, least-default}
-use Rattle.lookups.specs.declared.Blocked.{Blocked}
-use Rattle.lookups.specs.Search.{blockedBy, firstJudged}
-use Rattle.lookups.proofs.Judged.{not-settled}
+use Rattle.blocking.specs.declared.Blocked.{Blocked}
+use Rattle.blocking.specs.Search.{blockedBy, firstJudged}
+use Rattle.blocking.proofs.Judged.{not-settled}
 use Rattle.calls.specs.Grants.{refusalBy}
 
 -- the two refusals, as the code gives them

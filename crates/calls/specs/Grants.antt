@@ -1,5 +1,5 @@
 -- What Lock and Read get of the points that they want: a run of points, or the judgement of the first that is blocked.
--- Rests on Locking of `meaning` and Search of `lookups`.
+-- Rests on Locking of `meaning` and Search of `blocking`.
 use Prim.Native.Nat.{ℕ}
 use mathlib.Core.Bool.{cond}
 use mathlib.Core.List.{[], _∷_}
@@ -9,7 +9,7 @@ use Rattle.meaning.specs.Store.{Rec, Store, recAt}
 use Rattle.meaning.specs.Outcomes.{Verdict, refuse, handleAt}
 use Rattle.meaning.specs.Locking.{grantEnd, lockFrom, lockEnd, lockGranted, readGranted}
 use Rattle.meaning.specs.declared.Extent.{Extent}
-use Rattle.lookups.specs.Search.{firstJudged}
+use Rattle.blocking.specs.Search.{firstJudged}
 use Rattle.calls.specs.declared.Grant.{Grant}
 use Rattle.calls.specs.declared.Grant.the-variants.{Taken, Judged}
 

@@ -8,6 +8,3 @@ pub mod Lists
 pub mod Locks
 pub mod Turns
 pub mod Versions
-pub mod Freed
-pub mod Raises
-pub mod Trims

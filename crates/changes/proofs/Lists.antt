@@ -1,23 +1,20 @@
 -- Lists of entries as the meaning changes them, against rows as the chains do: a test of all rows after one was added
 -- or some were dropped, dropping against keeping, and insertion of a version. Rests on Entries of `chains`.
-use Prim.Native.Nat.{ℕ, suc, _-_, _≤_, _<_}
+use Prim.Native.Nat.{ℕ, suc, _-_, _≤_}
 use mathlib.Core.Path.{_≡_, refl, sym, ap, _∙_}
 use mathlib.Core.Bool.{Bool, true, false, not, cond, false≢true}
 use mathlib.Core.List.{List, [], _∷_, _++_, map}
 use mathlib.Core.Logic.{_⊎_, inl, inr}
 use native.Mathlib.Omega.{arith}
 use native.Mathlib.Decide.{ℕ-discrete}
-use lib.Dec.{leb, ltb}
-use borrow.Author.Tests.{ltb-true, ltb-false, lt-ltb, le-ltb, le-leb, lt-leb, eq-eqb, ne-eqb}
+use lib.Dec.{ltb}
+use borrow.Author.Tests.{ltb-true, ltb-false, lt-ltb, le-ltb}
 use Rattle.chains.specs.Lists.{occ, allOf, dropIf, takeWhile, dropWhile}
 use Rattle.chains.proofs.Occurs.{occ-nil, occ-other, occ-here, occ-there, occ-swap}
 use Rattle.chains.proofs.Entries.{entries-all}
 use Rattle.meaning.specs.Lists.{all, any, keep, pairwise}
 use Rattle.meaning.proofs.Lists.{and-left, and-right, or-left, or-right}
 use Rattle.meaning.specs.Ending.{insert}
-use Rattle.meaning.specs.Limits.{SETTLED}
-use Rattle.meaning.specs.Points.{emptied}
-use Rattle.meaning.specs.declared.Lock.{Lock}
 use Rattle.meaning.specs.declared.Version.{Version}
 
 -- tests of all rows
@@ -51,13 +48,6 @@ module _ {A : Type 0} (p : A → Bool) where
       go : (b : Bool) → p x ≡ b → dropIf p xs ≡ keep q xs → dropIf p (x ∷ xs) ≡ keep q (x ∷ xs)
       go true e ih = rw (e, dropIf) (rw (h x ∙ ap not e) ih)
       go false e ih = rw (e, dropIf) (rw (h x ∙ ap not e) (ap (λ y. x ∷ y) ih))
-
-pub not-below : (a b : ℕ) → leb a b ≡ not (ltb b a)
-not-below a b = go (ltb b a) refl
-  where
-    go : (t : Bool) → ltb b a ≡ t → leb a b ≡ not (ltb b a)
-    go true e = rw e (lt-leb a b (ltb-true b a e))
-    go false e = rw e (le-leb a b (ltb-false b a e))
 
 -- a version stands after the front of versions above q, one less than its point
 pub insert-after : (q : ℕ) (v : Version) → v .point ≡ suc q → (vs : List Version)
@@ -144,11 +134,3 @@ module _ {A : Type 0} (f : ℕ → A) where
 pub map-map : {A B : Type 0} (f : ℕ → A) (g : A → B) (rs : List ℕ) → map g (map f rs) ≡ map (λ i. g (f i)) rs
 map-map f g [] = refl
 map-map f g (r ∷ rs) = ap (λ y. g (f r) ∷ y) (map-map f g rs)
-
--- a lock that trimming empties, as the code tests it
-module _ (v : ℕ) (l : Lock) where
-  pub emptied-other : (l .owner ≡ SETTLED → ⊥) → emptied v l ≡ false
-  emptied-other n = rw (ne-eqb (l .owner) SETTLED n) refl
-
-  pub emptied-settled : l .owner ≡ SETTLED → emptied v l ≡ leb (l .high) v
-  emptied-settled e = rw (eq-eqb (l .owner) SETTLED e) refl

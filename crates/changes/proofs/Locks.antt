@@ -22,7 +22,7 @@ use Rattle.meaning.specs.declared.Lock.{Lock}
 use Rattle.meaning.specs.declared.Counts.{Counts}
 use Rattle.tables.specs.Layout.{lockTable, lockHeads, Fits, MODES, L-LOW, L-HIGH, L-MODE, L-RECORD}
 use Rattle.tables.specs.Decode.{lockAt, lockRows, locksOf, recordAt, decodeAt}
-use Rattle.tables.specs.Rows.{lockStored}
+use Rattle.writes.specs.Rows.{lockStored}
 use Rattle.tables.specs.Words.{Well, namesRecord}
 use Rattle.tables.proofs.Places.{locks-laid}
 use Rattle.tables.proofs.Decoded.{rec-at}

@@ -22,7 +22,7 @@ use Rattle.tables.specs.Layout.{lockTable, lockHeads, versionTable, versionHead
 use Rattle.tables.specs.Layout.{L-LOW, L-HIGH, L-MODE, L-RECORD, V-POINT, V-VALUE, V-SPARE, A-RECORD, A-FROM, A-WRITTEN}
 use Rattle.tables.specs.Layout.{A-VALUE}
 use Rattle.tables.specs.Decode.{versionAt, lockAt, accessAt}
-use Rattle.tables.specs.Rows.{lockTag, writtenMark, versionStored, lockStored, accessStored}
+use Rattle.writes.specs.Rows.{lockTag, writtenMark, versionStored, lockStored, accessStored}
 use Rattle.tables.specs.Words.{namesRecord, marked}
 use Rattle.tables.proofs.Places
 

@@ -22,7 +22,7 @@ use Rattle.meaning.specs.declared.Version.{Version}
 use Rattle.meaning.specs.declared.Counts.{Counts}
 use Rattle.tables.specs.Layout.{versionTable, versionHeads, Fits, V-POINT, V-VALUE, V-SPARE}
 use Rattle.tables.specs.Decode.{versionAt, versionRows, versionsOf, recordAt, decodeAt}
-use Rattle.tables.specs.Rows.{versionStored}
+use Rattle.writes.specs.Rows.{versionStored}
 use Rattle.tables.specs.Words.{Well}
 use Rattle.tables.proofs.Places.{versions-laid}
 use Rattle.tables.proofs.Decoded.{rec-at}

@@ -25,8 +25,8 @@ use Rattle.tables.specs.Layout.{accessTable, accessHeads}
 use Rattle.tables.specs.Decode.{recordAt, recordsOf, slotAt, accessAt}
 use Rattle.tables.proofs.Decoded.{rec-of, records-length}
 use Rattle.tables.proofs.Loops.{accesses-start, all-on, all-out}
-use Rattle.lookups.specs.Search.{counted}
-use Rattle.lookups.proofs.Free.{counted-own}
+use Rattle.blocking.specs.Search.{counted}
+use Rattle.blocking.proofs.Free.{counted-own}
 use Rattle.common.proofs.Fronts.{all-shorter}
 
 -- b implies x, where b holds

@@ -18,11 +18,11 @@ use Rattle.meaning.proofs.Lists.{greatest-out}
 use Rattle.meaning.proofs.Tests.{Covered}
 use Rattle.meaning.proofs.Spans.{firstFree-top, firstFree-low}
 use Rattle.meaning.proofs.CommonSet.{Parts, parts-out, parts-in}
-use Rattle.lookups.specs.Search.{ownsWrite}
+use Rattle.blocking.specs.Search.{ownsWrite}
 use Rattle.common.specs.Commit.{LeastFrom, GreatestTo, readEnd, startsAfter, firstUnder, endsBefore, lastUnder}
 use Rattle.common.specs.Commit.{upFrom, downFrom}
-use Rattle.lookups.proofs.Extremes.{valued}
-use Rattle.lookups.proofs.Free.{own-writes}
+use Rattle.blocking.proofs.Extremes.{valued}
+use Rattle.blocking.proofs.Free.{own-writes}
 
 -- the least point under one of the locks
 module _ (ls : List Lock) (low : ℕ) where

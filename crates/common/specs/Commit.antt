@@ -16,7 +16,7 @@ use Rattle.meaning.specs.declared.Access.{Access}
 use Rattle.meaning.specs.declared.Counts.{Counts}
 use Rattle.tables.specs.Layout.{accessTable, accessHeads}
 use Rattle.tables.specs.Decode.{accessAt}
-use Rattle.lookups.specs.Search.{ownsWrite}
+use Rattle.blocking.specs.Search.{ownsWrite}
 
 -- q is the least point of the set at or above p, or LAST + 1 where there is none
 pub record LeastFrom (set : ℕ → Bool) (p q : ℕ) : Type 0 where

@@ -1,6 +1,6 @@
 // The common set of an edit: the points that every access of it allows, asked of one point.
 // Also the end of what an access has read, on which both ends of the set rest (`lifting`, `sinking`). Rests on the
-// crates `meaning`, `locks`, `chains` and `tables` and on the module `points`.
+// crates `meaning`, `locks`, `chains`, `tables` and `blocking`.
 ghost use mathlib.Core.Path.{_≡_};
 ghost use mathlib.Core.Bool.{true, _&&_};
 ghost use Prim.Native.Nat.{_≤_, _<_};
@@ -11,10 +11,10 @@ ghost use Rattle.meaning.specs.Points.{covered, own, writes, covers, ownOn, all
 ghost use Rattle.meaning.specs.Sound.{namesExisting};
 ghost use Rattle.tables.specs.Layout.{Fits};
 ghost use Rattle.tables.specs.Decode.{recordsOf, recordAt, slotAt};
-ghost use Rattle.lookups.specs.Search.{ownsWrite};
+ghost use Rattle.blocking.specs.Search.{ownsWrite};
 ghost use Rattle.common.specs.Commit.{readEnd};
 use crate::LOWEST;
-use lookups::first_free;
+use blocking::first_free;
 use meaning::Access;
 use meaning::Counts;
 use meaning::LAST;

@@ -1,6 +1,6 @@
 // The earliest point of the common set: access by access, the least point that the first ones allow.
-// LAST + 1 where there is none. Rests on the crates `meaning`, `chains` and `tables` and on the modules `allowed` and
-// `points`.
+// LAST + 1 where there is none. Rests on the crates `meaning`, `chains`, `tables` and `blocking` and on the module
+// `allowed`.
 ghost use mathlib.Core.Path.{_≡_};
 ghost use mathlib.Core.Bool.{true};
 ghost use Prim.Native.Nat.{suc, _+_, _≤_, _<_};
@@ -15,8 +15,8 @@ ghost use Rattle.common.specs.Commit.{LeastFrom, Lifted, firstUnder, ear
 use crate::LOWEST;
 use crate::allowed::owns_write;
 use crate::allowed::read_end;
-use lookups::larger;
-use lookups::smaller;
+use blocking::larger;
+use blocking::smaller;
 use meaning::Access;
 use meaning::Counts;
 use meaning::LAST;

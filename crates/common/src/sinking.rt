@@ -1,6 +1,5 @@
 // The latest point of the common set: access by access, the greatest point that the first ones allow.
-// 0 where there is none. Rests on the crates `meaning`, `chains` and `tables` and on the modules `allowed` and
-// `points`.
+// 0 where there is none. Rests on the crates `meaning`, `chains`, `tables` and `blocking` and on the module `allowed`.
 ghost use mathlib.Core.Path.{_≡_};
 ghost use mathlib.Core.Bool.{true};
 ghost use Prim.Native.Nat.{_+_, _≤_, _<_};
@@ -15,8 +14,8 @@ ghost use Rattle.common.specs.Commit.{GreatestTo, Lowered, lastUnder, la
 use crate::LOWEST;
 use crate::allowed::owns_write;
 use crate::allowed::read_end;
-use lookups::larger;
-use lookups::smaller;
+use blocking::larger;
+use blocking::smaller;
 use meaning::Access;
 use meaning::Counts;
 use meaning::LAST;

@@ -13,8 +13,8 @@ use Rattle.meaning.specs.Outcomes.{judge, lockRoom}
 use Rattle.meaning.specs.Locking.{lockFrom, lockEnd, lockGranted, withLock, lockVerdict, lockChecks, lockWanted}
 use Rattle.meaning.specs.Locking.{locking}
 use Rattle.meaning.specs.declared.Extent.{Extent}
-use Rattle.lookups.specs.declared.Blocked.{Blocked}
-use Rattle.lookups.specs.Search.{firstJudged}
+use Rattle.blocking.specs.declared.Blocked.{Blocked}
+use Rattle.blocking.specs.Search.{firstJudged}
 use Rattle.calls.specs.declared.Grant.the-variants.{Taken, Judged}
 use Rattle.calls.specs.Grants.{lockGrant, refusalBy}
 use Rattle.calls.proofs.Verdicts.{needs-fails, needs-holds, else-fails, else-holds, no-edit, edit-ended, edit-open}

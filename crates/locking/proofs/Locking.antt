@@ -22,7 +22,7 @@ use Rattle.tables.specs.Decode.{recordAt, decodeAt}
 use Rattle.tables.specs.Words.{lent, soundWords}
 use Rattle.tables.proofs.Decoded.{rec-at}
 use Rattle.changes.specs.Becomes.{Becomes, onLocks}
-use Rattle.lookups.specs.declared.Blocked.{Blocked}
+use Rattle.blocking.specs.declared.Blocked.{Blocked}
 use Rattle.calls.specs.Contract.{Acts, Ready, Makes}
 use Rattle.calls.specs.Grants.{lockGrant, refusalBy}
 use Rattle.calls.specs.declared.Grant.{Grant}

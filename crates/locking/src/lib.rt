@@ -1,6 +1,6 @@
 // Lock on sound words: equal to its definition in the crate `meaning`, and leaving sound words. For callers who prove
 // the words sound (`requires soundWords`), as the calls of `calls`. It goes along one record's locks. Rests on the
-// crates `meaning`, `chains`, `tables`, `changes`, `lookups` and `calls`.
+// crates `meaning`, `chains`, `tables`, `changes`, `lookups`, `blocking` and `calls`.
 ghost use mathlib.Core.Path.{_≡_};
 ghost use mathlib.Core.Bool.{true};
 ghost use Prim.Native.Nat.{_≤_, _<_};
@@ -11,11 +11,11 @@ ghost use Rattle.meaning.specs.Replies.{ofLock};
 ghost use Rattle.meaning.specs.declared.Extent.the-variants.{Part};
 ghost use Rattle.tables.specs.Decode.{decodeAt};
 ghost use Rattle.tables.specs.Words.{lent, soundWords};
-ghost use Rattle.lookups.specs.Search.{firstJudged};
+ghost use Rattle.blocking.specs.Search.{firstJudged};
 ghost use Rattle.calls.specs.Contract.{Acts, Ready, Makes};
 ghost use Rattle.calls.specs.Grants.{lockGrant};
+use blocking::Blocked;
 use calls::Grant;
-use lookups::Blocked;
 use meaning::Counts;
 use meaning::Extent;
 use meaning::Handle;
@@ -34,11 +34,11 @@ fn later_grant(w: &[u64], c: Counts, k: u64, r: usize, low: u64, high: u64, b: B
         ⌝ }
     ensures { λ q. ⌜ q ≡ lockGrant Part (decodeAt c (now (w .entry))) k r low high ⌝ }
 {
-    let from = lookups::first_free(w, c, false, WRITE, k, r, low, high);
+    let from = blocking::first_free(w, c, false, WRITE, k, r, low, high);
     if high < from {
         return Grant::Judged(b);
     }
-    let next = lookups::first_blocked(w, c, WRITE, k, r, from, high);
+    let next = blocking::first_blocked(w, c, WRITE, k, r, from, high);
     Grant::Taken(from, next.point - 1)
 }
 
@@ -46,7 +46,7 @@ fn lock_grant(w: &[u64], c: Counts, extent: Extent, k: u64, r: usize, low: u64, 
     requires { ⌜ Ready c (now w) × (r < c .records) × (1 ≤ low) × (low ≤ high) × (high ≤ LAST) × (1 ≤ k) ⌝ }
     ensures { λ q. ⌜ q ≡ lockGrant extent (decodeAt c (now (w .entry))) k r low high ⌝ }
 {
-    let b = lookups::first_blocked(w, c, WRITE, k, r, low, high);
+    let b = blocking::first_blocked(w, c, WRITE, k, r, low, high);
     match extent {
         Extent::All => {
             if high < b.point {

@@ -1,3 +1,2 @@
--- What the searches find: points and accesses. Rests on the crates `meaning` and `tables`.
-pub mod Search
+-- What the row of an access tells. Rests on the crates `meaning` and `tables`.
 pub mod Accesses

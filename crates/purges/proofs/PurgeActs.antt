@@ -23,7 +23,8 @@ use Rattle.tables.specs.Layout.{countsOf}
 use Rattle.tables.specs.Decode.{recordAt, decodeAt}
 use Rattle.tables.specs.Words.{lent, soundWords, Well}
 use Rattle.tables.proofs.Decoded.{rec-at}
-use Rattle.changes.specs.Becomes.{Becomes, FreesVersions, FreesLocks, withVersions, withFloor}
+use Rattle.changes.specs.Becomes.{Becomes, withVersions, withFloor}
+use Rattle.trims.specs.Frees.{FreesVersions, FreesLocks}
 use Rattle.changes.proofs.OneWord.{rec-there, then-rec}
 use Rattle.calls.specs.Contract.{Acts, Makes}
 use Rattle.calls.proofs.Acting.{ready, makes-refused, makes-done, makes-as, acts}

@@ -1,6 +1,6 @@
 // Purge on sound words: equal to its definition in the crate `meaning`, and leaving sound words. For callers who prove
 // the words sound (`requires soundWords`), as the calls of `calls` and `endings`. It goes along one record's versions
-// and locks. Rests on the crates `meaning`, `chains`, `tables`, `changes`, `lookups`, `calls` and `endings`.
+// and locks. Rests on the crates `meaning`, `chains`, `tables`, `changes`, `trims`, `lookups`, `calls` and `endings`.
 ghost use mathlib.Core.Path.{_≡_};
 ghost use mathlib.Core.Bool.{true, not, _&&_};
 ghost use Prim.Native.Nat.{_≤_, _<_};
@@ -56,9 +56,9 @@ fn purge_record(w: &mut [u64], c: Counts, r: usize, v: u64) -> PurgeReply
         Makes c (purgeAll (decodeAt c (now (w .entry))) r v) (now (w .entry)) (now (w .exit)) (ofPurge q)
         ⌝ }
 {
-    let versions = changes::cut_versions(w, c, r, v);
-    let locks = changes::trim_locks(w, c, r, v);
-    changes::set_floor(w, c, r, v);
+    let versions = trims::cut_versions(w, c, r, v);
+    let locks = trims::trim_locks(w, c, r, v);
+    trims::set_floor(w, c, r, v);
     PurgeReply::Purged(versions, locks)
 }
 

@@ -16,8 +16,8 @@ use Rattle.meaning.specs.Locking.{readOpen, readChecks, reading}
 use Rattle.meaning.specs.declared.Version.{Version}
 use Rattle.meaning.specs.declared.Access.{Access}
 use Rattle.meaning.specs.declared.Extent.{Extent}
-use Rattle.lookups.specs.declared.Blocked.{Blocked}
-use Rattle.lookups.specs.Search.{firstJudged}
+use Rattle.blocking.specs.declared.Blocked.{Blocked}
+use Rattle.blocking.specs.Search.{firstJudged}
 use Rattle.calls.specs.declared.Grant.the-variants.{Taken, Judged}
 use Rattle.calls.specs.Grants.{readGrant, refusalBy}
 use Rattle.calls.specs.Parts.{readTaken}

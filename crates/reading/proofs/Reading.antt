@@ -26,7 +26,7 @@ use Rattle.tables.specs.Decode.{recordAt, slotAt, decodeAt}
 use Rattle.tables.specs.Words.{lent, soundWords, Well}
 use Rattle.tables.proofs.Decoded.{rec-at, edit-at}
 use Rattle.changes.specs.Becomes.{Becomes, onLocks, onEdit}
-use Rattle.lookups.specs.declared.Blocked.{Blocked}
+use Rattle.blocking.specs.declared.Blocked.{Blocked}
 use Rattle.calls.specs.Contract.{Acts, Ready, Makes}
 use Rattle.calls.specs.Grants.{readGrant, refusalBy}
 use Rattle.calls.specs.Parts.{readTaken}

@@ -1,6 +1,7 @@
 // Read on sound words: equal to its definition in the crate `meaning`, and leaving sound words. For callers who prove
 // the words sound (`requires soundWords`), as the calls of `calls`. It goes along the edit's accesses, and along one
-// record's versions and locks. Rests on the crates `meaning`, `chains`, `tables`, `changes`, `lookups` and `calls`.
+// record's versions and locks. Rests on the crates `meaning`, `chains`, `tables`, `changes`, `slots`, `lookups`,
+// `blocking` and `calls`.
 ghost use mathlib.Core.Path.{_≡_};
 ghost use mathlib.Core.Bool.{true};
 ghost use Prim.Native.Nat.{_≤_, _<_};
@@ -31,7 +32,7 @@ fn read_grant(w: &[u64], c: Counts, extent: Extent, k: u64, r: usize, low: u64, 
     requires { ⌜ Ready c (now w) × (r < c .records) × (1 ≤ low) × (low ≤ high) × (high ≤ LAST) × (1 ≤ k) ⌝ }
     ensures { λ q. ⌜ q ≡ readGrant extent (decodeAt c (now (w .entry))) k r low high ⌝ }
 {
-    let b = lookups::first_blocked(w, c, READ, k, r, low, high);
+    let b = blocking::first_blocked(w, c, READ, k, r, low, high);
     match extent {
         Extent::All => {
             if high < b.point {

@@ -21,7 +21,7 @@ use Rattle.meaning.specs.declared.Access.{Access}
 use Rattle.meaning.specs.declared.Counts.{Counts}
 use Rattle.tables.specs.Layout.{accessTable, accessHeads, Fits, A-RECORD, A-FROM, A-WRITTEN, A-VALUE}
 use Rattle.tables.specs.Decode.{accessAt, accessRows, accessesOf, slotAt, decodeAt}
-use Rattle.tables.specs.Rows.{accessStored}
+use Rattle.writes.specs.Rows.{accessStored}
 use Rattle.tables.specs.Words.{Well, marked}
 use Rattle.tables.proofs.Places.{accesses-laid}
 use Rattle.tables.proofs.Decoded.{edit-at}

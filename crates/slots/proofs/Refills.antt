@@ -24,7 +24,7 @@ use Rattle.meaning.specs.declared.Access.{Access}
 use Rattle.meaning.specs.declared.Counts.{Counts}
 use Rattle.tables.specs.Layout.{accessTable, accessHeads}
 use Rattle.tables.specs.Decode.{accessAt, accessRows, accessesOf, slotAt, decodeAt}
-use Rattle.tables.specs.Rows.{accessStored}
+use Rattle.writes.specs.Rows.{accessStored}
 use Rattle.tables.specs.Words.{Well, marked}
 use Rattle.tables.proofs.Decoded.{edit-at}
 use Rattle.changes.specs.Becomes.{Becomes, withAccesses}

@@ -1,6 +1,6 @@
 // Changes of a slot and of its accesses, as those of `changes`: each leaves the words well formed and equals a function
 // of the decoded store; the callers prove that the words are well formed (`Well`), that slots are in range, and that
-// there is room. Rests on the crates `meaning`, `chains`, `tables` and `changes`.
+// there is room. Rests on the crates `meaning`, `chains`, `updates`, `tables`, `writes` and `changes`.
 ghost use mathlib.Core.Path.{_≡_};
 ghost use mathlib.Core.Bool.{true, false};
 ghost use mathlib.Core.List.{[]};
@@ -30,8 +30,8 @@ pub fn set_state(w: &mut [u64], c: Counts, k: usize, state: u64, point: u64)
     requires { ⌜ Well c (now w) × IsRow (c .edits) k ⌝ }
     ensures { λ _. ⌜ Becomes c (now (w .exit)) (onEdit (decodeAt c (now (w .entry))) k (λ e. ended e state point)) ⌝ }
 {
-    tables::put_state(w, c, k, state);
-    tables::put_point(w, c, k, point);
+    writes::put_state(w, c, k, state);
+    writes::put_point(w, c, k, point);
 }
 
 // The slot's generation.
@@ -39,7 +39,7 @@ fn set_generation(w: &mut [u64], c: Counts, k: usize, g: u64)
     requires { ⌜ Well c (now w) × IsRow (c .edits) k ⌝ }
     ensures { λ _. ⌜ Becomes c (now (w .exit)) (onEdit (decodeAt c (now (w .entry))) k (λ e. withGeneration e g)) ⌝ }
 {
-    tables::put_generation(w, c, k, g);
+    writes::put_generation(w, c, k, g);
 }
 
 // Begin: a free slot is opened, with the next generation.
@@ -76,7 +76,7 @@ pub fn add_access(w: &mut [u64], c: Counts, k: usize, a: Access)
     ensures { λ _. ⌜ Becomes c (now (w .exit)) (onEdit (decodeAt c (now (w .entry))) k (λ e. withAccess e a)) ⌝ }
 {
     let i = take_access(w, c, k);
-    tables::put_access(w, c, i, a);
+    writes::put_access(w, c, i, a);
 }
 
 // An access of the record that row i, one of slot k's, names.
@@ -87,7 +87,7 @@ pub fn change_access(w: &mut [u64], c: Counts, k: usize, i: usize, a: Access)
         ⌝ }
     ensures { λ _. ⌜ Becomes c (now (w .exit)) (onEdit (decodeAt c (now (w .entry))) k (λ e. withAccess e a)) ⌝ }
 {
-    tables::put_access(w, c, i, a);
+    writes::put_access(w, c, i, a);
 }
 
 // The access takes the place of the edit's access of that record, which is in row i, or stands first where it has none

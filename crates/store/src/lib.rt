@@ -1,7 +1,7 @@
 // The public calls of the store, on lent words. Each checks the words first (refusal 1) and then does what its
 // definition says; none has a `requires`. The contract of each settles its reply and what the words mean afterwards,
-// for every slice and argument. Rests on the crates `meaning`, `chains`, `tables`, `lookups`, `soundness`, `format`,
-// `calls` and `endings`.
+// for every slice and argument. Rests on the crates `meaning`, `tables`, `soundness`, `format`, `calls`, `locking`,
+// `reading`, `endings`, `commits` and `purges`.
 ghost use Rattle.meaning.specs.Replies.{ofPoint, ofFormat, ofBegin, ofWrite, ofLock, ofRead, ofCommit, ofAbort};
 ghost use Rattle.meaning.specs.Replies.{ofSettle, ofPurge, ofView};
 ghost use Rattle.meaning.specs.Edits.{beginning, writing};

@@ -1,6 +1,5 @@
--- The layout of document 01: where words lie, the abstract store that words say, rows, and sound words. Rests on the
--- crates `meaning` and `chains`.
+-- The layout of document 01: where words lie, the abstract store that words say, and sound words. Rests on the crates
+-- `meaning` and `chains`.
 pub mod Layout
 pub mod Decode
-pub mod Rows
 pub mod Words

@@ -2,12 +2,10 @@
 // `meaning` and `chains`.
 //
 // A caller proves that the words have these counts (`Fits`), so the functions have `requires`. Each read equals a part
-// of the decoded store, and each store promises the exact words after it; what changes make of the decoded store is the
-// crate `changes`.
+// of the decoded store; the stores of words and rows are the crate `writes`.
 //
-// This file has the layout and the header; `reads` and `writes` have the words, rows and chains.
+// This file has the layout and the header; `reads` has the words, rows and chains.
 mod reads;
-mod writes;
 
 pub use reads::access_at;
 pub use reads::access_mark;
@@ -24,15 +22,6 @@ pub use reads::next_version;
 pub use reads::point_of;
 pub use reads::state_of;
 pub use reads::version_at;
-pub use writes::insert_version;
-pub use writes::put_access;
-pub use writes::put_floor;
-pub use writes::put_generation;
-pub use writes::put_lock;
-pub use writes::put_low;
-pub use writes::put_point;
-pub use writes::put_state;
-pub use writes::put_version;
 ghost use mathlib.Core.Path.{_≡_};
 ghost use Prim.Native.Nat.{_≤_, _<_};
 ghost use lib.ListN.{length, getD};

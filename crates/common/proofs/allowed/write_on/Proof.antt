@@ -13,9 +13,9 @@ use Rattle.meaning.specs.declared.Lock.{Lock}
 use Rattle.tables.specs.Layout.{lockTable}
 use Rattle.tables.specs.Decode.{recordAt, lockAt}
 use Rattle.tables.proofs.Loops.{locks-start, any-on, any-out, any-done}
-use Rattle.lookups.specs.Search.{ownsWrite}
+use Rattle.blocking.specs.Search.{ownsWrite}
 use Rattle.lookups.proofs.Found.{of-entry}
-use Rattle.lookups.proofs.Free.{write-any}
+use Rattle.blocking.proofs.Free.{write-any}
 use borrow.Author.Needs.{needs}
 use Rattle.common.proofs.allowed.write_on.Statement.{statement}
 use Rattle.common.proofs.allowed.write_on.Tie as tie

@@ -5,7 +5,7 @@ use native.Mathlib.Omega.{arith}
 use borrow.Author.Tests.{le-leb, lt-leb}
 use Rattle.meaning.specs.Limits.{LAST}
 use borrow.Author.Tests.{not-true, not-false}
-use Rattle.lookups.proofs.Extremes.{turn-other, turn-off, turn-on}
+use Rattle.blocking.proofs.Extremes.{turn-other, turn-off, turn-on}
 use borrow.Author.Needs.{needs}
 use Rattle.common.proofs.lifting.earlier.Statement.{statement}
 use Rattle.common.proofs.lifting.earlier.Tie as tie

@@ -14,9 +14,9 @@ use Rattle.meaning.specs.declared.Lock.{Lock}
 use Rattle.tables.specs.Layout.{lockTable}
 use Rattle.tables.specs.Decode.{recordAt, lockAt}
 use Rattle.tables.proofs.Loops.{locks-start}
-use Rattle.lookups.specs.Search.{ownsWrite}
+use Rattle.blocking.specs.Search.{ownsWrite}
 use Rattle.common.specs.Commit.{startsAfter, firstUnder}
-use Rattle.lookups.proofs.Extremes.{valued, least-on, least-done}
+use Rattle.blocking.proofs.Extremes.{valued, least-on, least-done}
 use Rattle.common.proofs.Reach.{first-under-own}
 use borrow.Author.Needs.{needs}
 use Rattle.common.proofs.lifting.first_write.Statement.{statement}

@@ -13,9 +13,9 @@ use Rattle.meaning.specs.declared.Lock.{Lock}
 use Rattle.tables.specs.Layout.{lockTable}
 use Rattle.tables.specs.Decode.{recordAt, lockAt}
 use Rattle.tables.proofs.Loops.{locks-start}
-use Rattle.lookups.specs.Search.{ownsWrite}
+use Rattle.blocking.specs.Search.{ownsWrite}
 use Rattle.common.specs.Commit.{endsBefore, lastUnder}
-use Rattle.lookups.proofs.Extremes.{valued, greatest-on, greatest-done}
+use Rattle.blocking.proofs.Extremes.{valued, greatest-on, greatest-done}
 use Rattle.common.proofs.Reach.{last-under-own}
 use Rattle.common.proofs.sinking.last_write.Statement.{statement}
 use Rattle.common.proofs.sinking.last_write.Tie as tie

@@ -4,7 +4,7 @@ use mathlib.Core.Path.{refl, ap, _∙_}
 use native.Mathlib.Omega.{arith}
 use borrow.Author.Tests.{le-leb, lt-leb}
 use borrow.Author.Tests.{not-true, not-false}
-use Rattle.lookups.proofs.Extremes.{turn-other, turn-off, turn-on}
+use Rattle.blocking.proofs.Extremes.{turn-other, turn-off, turn-on}
 use borrow.Author.Needs.{needs}
 use Rattle.common.proofs.sinking.later.Statement.{statement}
 use Rattle.common.proofs.sinking.later.Tie as tie

@@ -1,0 +1,2 @@
+-- What a row is filled with. Rests on the crates `meaning` and `tables`.
+pub mod Rows
