@@ -1,5 +1,5 @@
 // The calls of document 01 on sound words: each equal to its definition in the crate `meaning`, and each leaving sound
-// words. Rests on the crates `meaning`, `chains`, `tables`, `changes` and `lookups`.
+// words. Rests on the crates `meaning`, `chains`, `tables`, `slots` and `lookups`.
 //
 // They are for callers who prove the words sound (`requires soundWords`), once for many calls: no call here looks at
 // more than the chains it touches. The crate `store` has the same calls for everybody, with the check first.

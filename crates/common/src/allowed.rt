@@ -1,6 +1,6 @@
-// The common set of an edit: the points that every access of it allows, asked of one point.
-// Also the end of what an access has read, on which both ends of the set rest (`lifting`, `sinking`). Rests on the
-// crates `meaning`, `locks`, `chains` and `tables` and on the module `points`.
+// The common set of an edit: the points that every access of it allows, asked of one point. Also the end of what an
+// access has read, on which both ends of the set rest (`lifting`, `sinking`). Rests on the crates `meaning`, `locks`,
+// `chains`, `tables` and `lookups`.
 ghost use mathlib.Core.Path.{_≡_};
 ghost use mathlib.Core.Bool.{true, _&&_};
 ghost use Prim.Native.Nat.{_≤_, _<_};

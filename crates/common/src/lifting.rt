@@ -1,6 +1,5 @@
-// The earliest point of the common set: access by access, the least point that the first ones allow.
-// LAST + 1 where there is none. Rests on the crates `meaning`, `chains` and `tables` and on the modules `allowed` and
-// `points`.
+// The earliest point of the common set: access by access, the least point that the first ones allow. LAST + 1 where
+// there is none. Rests on the crates `meaning`, `chains`, `tables` and `lookups` and on the module `allowed`.
 ghost use mathlib.Core.Path.{_≡_};
 ghost use mathlib.Core.Bool.{true};
 ghost use Prim.Native.Nat.{suc, _+_, _≤_, _<_};

@@ -1,6 +1,5 @@
-// The latest point of the common set: access by access, the greatest point that the first ones allow.
-// 0 where there is none. Rests on the crates `meaning`, `chains` and `tables` and on the modules `allowed` and
-// `points`.
+// The latest point of the common set: access by access, the greatest point that the first ones allow. 0 where there is
+// none. Rests on the crates `meaning`, `chains`, `tables` and `lookups` and on the module `allowed`.
 ghost use mathlib.Core.Path.{_≡_};
 ghost use mathlib.Core.Bool.{true};
 ghost use Prim.Native.Nat.{_+_, _≤_, _<_};

@@ -1,6 +1,7 @@
 // Read on sound words: equal to its definition in the crate `meaning`, and leaving sound words. For callers who prove
 // the words sound (`requires soundWords`), as the calls of `calls`. It goes along the edit's accesses, and along one
-// record's versions and locks. Rests on the crates `meaning`, `chains`, `tables`, `changes`, `lookups` and `calls`.
+// record's versions and locks. Rests on the crates `meaning`, `chains`, `tables`, `changes`, `slots`, `lookups` and
+// `calls`.
 ghost use mathlib.Core.Path.{_≡_};
 ghost use mathlib.Core.Bool.{true};
 ghost use Prim.Native.Nat.{_≤_, _<_};

@@ -1,6 +1,6 @@
 // Changes of a slot and of its accesses, as those of `changes`: each leaves the words well formed and equals a function
 // of the decoded store; the callers prove that the words are well formed (`Well`), that slots are in range, and that
-// there is room. Rests on the crates `meaning`, `chains`, `tables` and `changes`.
+// there is room. Rests on the crates `meaning`, `chains`, `updates`, `tables` and `changes`.
 ghost use mathlib.Core.Path.{_≡_};
 ghost use mathlib.Core.Bool.{true, false};
 ghost use mathlib.Core.List.{[]};
