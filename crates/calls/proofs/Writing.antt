@@ -1,4 +1,4 @@
--- What Write has done at each of its returns. Rests on Acting, Exits and CallsKeep of `meaning`.
+-- What Write has done at each of its returns. Rests on Acting, Exits, Handles and CallsKeep of `meaning`.
 use Prim.Native.Nat.{ℕ, _≤_, _<_}
 use mathlib.Core.Path.{_≡_, refl, sym, ap, _∙_}
 use mathlib.Core.Bool.{Bool, true, false}

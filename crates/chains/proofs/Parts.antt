@@ -17,7 +17,7 @@ use Rattle.chains.specs.declared.Heads.{Heads}
 use Rattle.chains.specs.Lists.{occ, sumTo, allTo}
 use Rattle.chains.specs.Walk.{more, rows, ends}
 use Rattle.chains.specs.Table.{link, chain, ended, front, headOf, rowsOf, endedOf}
-use Rattle.chains.specs.Partition.{onChains, partition, Marks, Clear, Unmarked, MarkedChain}
+use Rattle.chains.specs.Partition.{MARKS, onChains, partition, Marks, Clear, Unmarked, MarkedChain}
 use Rattle.chains.proofs.Bounded.{bool-false, all-suc, all-at, sum-front, sum-full}
 use Rattle.chains.proofs.Occurs.{occ-nil, occ-same, occ-other, occ-here}
 use Rattle.chains.proofs.Walks.{more-out, step, stop, rows-length}
@@ -25,12 +25,13 @@ use Rattle.chains.proofs.Segments.{seg-in, seg-rows, rows-seg}
 use Rattle.chains.proofs.Chains.{row-once, lengths-of, lengths}
 use Rattle.chains.proofs.Words.{partition-in, ended-seg, rep-of}
 
-zeros : (n i : ℕ) → _≡_ {A = ℕ} (getD (replicate n 0) i 0) 0
+-- a new array has 0 everywhere
+pub zeros : (n i : ℕ) → _≡_ {A = ℕ} (getD (replicate n 0) i 0) 0
 zeros zero i = refl
 zeros (suc n) zero = refl
 zeros (suc n) (suc i) = zeros n i
 
-pub clear-new : (n : ℕ) → n ≡ 4096 → Clear (replicate n 0)
+pub clear-new : (n : ℕ) → n ≡ MARKS → Clear (replicate n 0)
 clear-new n e = record { size = length-replicate n 0 ∙ e; clear = zeros n }
 
 -- one row marked
@@ -62,7 +63,7 @@ mark-start nx n f h k = record { fuel = omega arith; marks = k; met = λ i. refl
 
 pub mark-again : {nx : ℕ → ℕ} {n f₀ : ℕ} {m₀ : List ℕ} {h₀ : ℕ} {m : List ℕ} {h f h′ : ℕ} {r : Bool}
     → MarkInv nx n f₀ m₀ h₀ m h f
-    → n ≤ 4095 → r ≡ more n f h → r ≡ true → getD m h 0 ≡ 0 → h′ ≡ nx h → MarkInv nx n f₀ m₀ h₀ (set m h 1) h′ (f - 1)
+    → n < MARKS → r ≡ more n f h → r ≡ true → getD m h 0 ≡ 0 → h′ ≡ nx h → MarkInv nx n f₀ m₀ h₀ (set m h 1) h′ (f - 1)
 mark-again {nx} {n} {f₀} {m₀} {h₀} {m} {h} {f} i b d e z q =
     let o = more-out n f h d e in
     let s = step nx n f h d e in

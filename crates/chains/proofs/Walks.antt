@@ -1,5 +1,5 @@
 -- Steps of a walk over any next function: what the rows met are where the code goes on, and where it stops. Rests on
--- specs.Walk.
+-- Bounded.
 use Prim.Native.Nat.{ℕ, zero, suc, _-_, _≤_}
 use mathlib.Core.Path.{_≡_, refl, sym, _∙_}
 use mathlib.Core.Bool.{Bool, true, false}

@@ -29,13 +29,18 @@ pub record Parted (t : Table) (h : Heads) (w : List ℕ) : Type 0 where
 unfoldable pub used : Table → Heads → List ℕ → ℕ
 used t h w = sumTo (h .owners) (λ k. length (rowsOf t h w (suc k)))
 
+-- how many marks there are: one for each row number from 0 on, so that a row is its own index; a table that is checked
+-- has fewer rows
+abbrev pub MARKS : ℕ
+MARKS = 4096
+
 -- marks: one byte for each row, 1 where the row has been met
 pub record Marks (m : List ℕ) : Type 0 where
-  pub size : length m ≡ 4096
+  pub size : length m ≡ MARKS
   pub single : (i : ℕ) → getD m i 0 ≤ 1
 
 pub record Clear (m : List ℕ) : Type 0 where
-  pub size : length m ≡ 4096
+  pub size : length m ≡ MARKS
   pub clear : (i : ℕ) → getD m i 0 ≡ 0
 
 -- the chain from head has been marked: it ends within room rows, no row of it was marked before or stands on it twice,

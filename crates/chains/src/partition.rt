@@ -2,19 +2,22 @@
 // second time ends the check, so that on any words it takes at most one step for each row and one for each chain. Rests
 // on lib.rt.
 ghost use mathlib.Core.Path.{_≡_};
-ghost use Prim.Native.Nat.{_≤_};
+ghost use Prim.Native.Nat.{_≤_, _<_};
 ghost use Rattle.chains.specs.Table.{Lies, HeadsLie};
-ghost use Rattle.chains.specs.Partition.{partition, Marks, Clear, MarkedChain};
+ghost use Rattle.chains.specs.Partition.{MARKS, partition, Marks, Clear, MarkedChain};
 use crate::Heads;
 use crate::Table;
 use crate::head_of;
 use crate::more;
 use crate::next_of;
 
+// A mark for each row number from 0 on, so that a row is its own index: a table that is checked has fewer rows.
+const MARKS: usize = 4096;
+
 // Marks the chain from head. Replies one more than what it leaves of the room, or 0 if a row is marked already or the
 // chain does not end within the room.
-fn mark_chain(w: &[u64], t: Table, head: usize, room: usize, marks: &mut [u8; 4096]) -> usize
-    requires { ⌜ Lies t (now w) × (t .count ≤ 4095) × (room ≤ t .count) × Marks (now marks) ⌝ }
+fn mark_chain(w: &[u64], t: Table, head: usize, room: usize, marks: &mut [u8; MARKS]) -> usize
+    requires { ⌜ Lies t (now w) × (t .count < MARKS) × (room ≤ t .count) × Marks (now marks) ⌝ }
     ensures { λ r. ⌜ MarkedChain t (now (w .entry)) (now (marks .entry)) (now (marks .exit)) head room r ⌝ }
 {
     let n = t.count;
@@ -32,8 +35,8 @@ fn mark_chain(w: &[u64], t: Table, head: usize, room: usize, marks: &mut [u8; 40
 }
 
 // Marks one chain after the other; every row was met if the whole room is used.
-fn partition_with(w: &[u64], t: Table, h: Heads, marks: &mut [u8; 4096]) -> bool
-    requires { ⌜ Lies t (now w) × HeadsLie h (now w) × (t .count ≤ 4095) × Clear (now marks) ⌝ }
+fn partition_with(w: &[u64], t: Table, h: Heads, marks: &mut [u8; MARKS]) -> bool
+    requires { ⌜ Lies t (now w) × HeadsLie h (now w) × (t .count < MARKS) × Clear (now marks) ⌝ }
     ensures { λ r. ⌜ r ≡ partition t h (now (w .entry)) ⌝ }
 {
     let m = h.owners;
@@ -53,9 +56,9 @@ fn partition_with(w: &[u64], t: Table, h: Heads, marks: &mut [u8; 4096]) -> bool
 
 // Whether every chain ends and every row is on exactly one, once.
 pub fn partition_ok(w: &[u64], t: Table, h: Heads) -> bool
-    requires { ⌜ Lies t (now w) × HeadsLie h (now w) × (t .count ≤ 4095) ⌝ }
+    requires { ⌜ Lies t (now w) × HeadsLie h (now w) × (t .count < MARKS) ⌝ }
     ensures { λ r. ⌜ r ≡ partition t h (now (w .entry)) ⌝ }
 {
-    let mut marks = [0u8; 4096];
+    let mut marks = [0u8; MARKS];
     partition_with(w, t, h, &mut marks)
 }

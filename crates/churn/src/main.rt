@@ -1,7 +1,7 @@
 // Fills and frees every table of a small store three thousand times through the public calls, and prints how many calls
 // were granted and how many were refused, by the number of the refusal. Every round asks for the same, so each count is
 // a multiple of the rounds: a row or a slot that is lost, or refused while one is free, changes the output. Rests on
-// `store`.
+// the crates `io`, `meaning`, `soundness`, `format` and `store`.
 use meaning::AbortReply;
 use meaning::BeginReply;
 use meaning::CommitReply;

@@ -1,6 +1,6 @@
 -- The clauses of a slot, in the order in which the check tests them, are those of `soundEdit`: with no stamp k at
--- first, a record is named at most once exactly if it never bears the stamp k when it is met. Rests on Lists of the
--- crate `meaning`.
+-- first, a record is named at most once exactly if it never bears the stamp k when it is met. Rests on Steps and on
+-- Lists of the crate `meaning`.
 use Prim.Native.Nat.{ℕ, _-_, _≤_, _<_}
 use mathlib.Core.Path.{_≡_, refl, sym, ap, _∙_}
 use mathlib.Core.Logic.{_⊎_, inl, inr}
@@ -11,6 +11,7 @@ use lib.ListN.{length, getD, set, length-set}
 use lib.Seq.{getD-set-same, getD-set-other}
 use lib.Dec.{ltb, eqb}
 use borrow.Author.Tests.{ltb-true, lt-ltb, eqb-false, ne-eqb, not-true}
+use Rattle.meaning.specs.Limits.{MAX-RECORDS}
 use Rattle.meaning.specs.Lists.{_∈_, all, any, pairwise}
 use Rattle.meaning.specs.Store.{Rec, Edit, recOf, hasRead}
 use Rattle.meaning.specs.Sound.{stateListed, generationListed, pointListed, namesExisting, namesOnce, isPresent}
@@ -130,7 +131,7 @@ module _ (rs : List Rec) (k : ℕ) (a : Access) where
       implies-in (hasRead a) (locked && present)
       (λ q. and-in (implies-out (hasRead a) locked l q) (implies-out (hasRead a) present p q))
 
-module _ (rs : List Rec) (k : ℕ) (m : List ℕ) (e : Edit) (low : 1 ≤ k) (few : length rs ≤ 1024)
+module _ (rs : List Rec) (k : ℕ) (m : List ℕ) (e : Edit) (low : 1 ≤ k) (few : length rs ≤ MAX-RECORDS)
     (s : Stamps (k - 1) m) where
   abbrev pub editParts : Bool
   editParts = slotListed e && (accessesSound rs k m (e .accesses) && pointCommon rs k e)

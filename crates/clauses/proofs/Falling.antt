@@ -1,4 +1,4 @@
--- The loop over a record's versions, which keeps the last point met. Rests on Walk of `chains`.
+-- The loop over a record's versions, which keeps the last point met. Rests on Steps and on Loops of `chains`.
 use Prim.Native.Nat.{ℕ, _-_}
 use mathlib.Core.Path.{_≡_, refl, sym, ap, _∙_}
 use mathlib.Core.Bool.{Bool, true, false}

@@ -17,6 +17,7 @@ use Rattle.chains.specs.Partition.{partition}
 use Rattle.chains.proofs.Loops.{Walk}
 use Rattle.chains.proofs.Occurs.{occ-nil, occ-other, occ-here}
 use Rattle.chains.proofs.Words.{on-chain, on-one}
+use Rattle.meaning.specs.Limits.{MAX-ROWS}
 use Rattle.meaning.specs.Lists.{any, all, find, pairwise}
 use Rattle.meaning.specs.Store.{isOf, noAccess, accessOf}
 use Rattle.meaning.specs.Points.{isOwned}
@@ -26,7 +27,7 @@ use Rattle.meaning.specs.declared.Counts.{Counts}
 use Rattle.meaning.proofs.Lists.{test, and-left, and-right}
 use Rattle.tables.specs.Layout.{lockTable, lockHeads}
 use Rattle.tables.specs.Decode.{lockAt, slotAt, lockRows}
-use Rattle.clauses.specs.Marks.{ownMark, markOwn, markAccess, markAccesses, markSlots, Writers}
+use Rattle.clauses.specs.Marks.{MARKS, ownMark, markOwn, markAccess, markAccesses, markSlots, Writers}
 
 module _ (c : Counts) (w : List ℕ) where
   -- lengths
@@ -257,8 +258,8 @@ says-found r (a ∷ xs) h =
     go (inr e) ih = rw e ih
 
 -- the marks that the code makes
-pub writers : (c : Counts) (w m : List ℕ) → partition (lockTable c) (lockHeads c) w ≡ true → c .locks ≤ 4095
-    → length m ≡ 4096 → ((i : ℕ) → getD m i 0 ≡ 0)
+pub writers : (c : Counts) (w m : List ℕ) → partition (lockTable c) (lockHeads c) w ≡ true → c .locks ≤ MAX-ROWS
+    → length m ≡ MARKS → ((i : ℕ) → getD m i 0 ≡ 0)
     → ((k : ℕ) → IsRow (c .edits) k → namesOnce (slotAt c w k) ≡ true) → (r : ℕ) → r < c .records
     → Writers c w r (markSlots c w m (c .edits))
 unfolding namesOnce accessOf lockRows lockTable lockHeads

@@ -1,4 +1,4 @@
--- The loops that mark lock rows, and the rows ahead of a loop, which are rows of its chain. Rests on Marking.
+-- The loops that mark lock rows, and the rows ahead of a loop, which are rows of its chain. Rests on Marking and Slots.
 use Prim.Native.Nat.{ℕ, zero, suc, _+_, _-_, _≤_, _<_}
 use mathlib.Core.Path.{_≡_, refl, sym, ap, _∙_}
 use mathlib.Core.Bool.{Bool, true, false}
@@ -13,6 +13,7 @@ use Rattle.chains.specs.Walk.{IsRow, more, rows}
 use Rattle.chains.proofs.Bounded.{all-at}
 use Rattle.chains.proofs.Loops.{Walk, walk-again, walk-end}
 use Rattle.chains.proofs.Occurs.{occ-here, occ-there}
+use Rattle.chains.proofs.Parts.{zeros}
 use Rattle.chains.proofs.Walks.{step}
 use Rattle.meaning.specs.Sound.{stateListed, generationListed, pointListed, namesExisting, namesOnce, readsPresent}
 use Rattle.meaning.specs.Sound.{readsLocked, pointCommon, freeIdle, soundEdit}
@@ -25,8 +26,8 @@ use Rattle.tables.specs.Layout.{Fits}
 use Rattle.tables.specs.Decode.{lockAt, slotAt, recordsOf, lockRows}
 use Rattle.tables.specs.Words.{locksParted}
 use Rattle.clauses.specs.Clauses.{slotsSound}
-use Rattle.clauses.specs.Marks.{ownMark, markOwn, markAccess, markAccesses, markSlots, Writers}
-use Rattle.clauses.proofs.Slots.{slots-all, zeros}
+use Rattle.clauses.specs.Marks.{MARKS, ownMark, markOwn, markAccess, markAccesses, markSlots, Writers}
+use Rattle.clauses.proofs.Slots.{slots-all}
 use Rattle.clauses.proofs.Marking.{writers}
 
 -- the rows ahead are rows of the chain
@@ -120,7 +121,7 @@ module _ (c : Counts) (w m₀ : List ℕ) where
   pub slots-end : {m : List ℕ} {k n : ℕ} → m ≡ markSlots c w m₀ k → k ≡ n → m ≡ markSlots c w m₀ n
   slots-end e z = e ∙ ap (markSlots c w m₀) z
 
-pub new-size : (n : ℕ) → n ≡ 4096 → length (replicate {A = ℕ} n 0) ≡ 4096
+pub new-size : (n : ℕ) → n ≡ MARKS → length (replicate {A = ℕ} n 0) ≡ MARKS
 new-size n e = length-replicate n 0 ∙ e
 
 -- what the marks say of the lock l of row i
@@ -130,7 +131,7 @@ pub writers-at : (c : Counts) (w : List ℕ) (r i : ℕ) {m : List ℕ} {l : Loc
 writers-at c w r i W on e row = rw e (W .wrote i on (rw e at row))
 
 -- the marks of the new array serve every record
-pub writers-new : (c : Counts) (w : List ℕ) (n : ℕ) {m : List ℕ} → n ≡ 4096 → Fits c w → locksParted c w ≡ true
+pub writers-new : (c : Counts) (w : List ℕ) (n : ℕ) {m : List ℕ} → n ≡ MARKS → Fits c w → locksParted c w ≡ true
     → slotsSound c w ≡ true → m ≡ markSlots c w (replicate n 0) (c .edits) → (r : ℕ) → r < c .records → Writers c w r m
 unfolding locksParted soundEdit
 writers-new c w n e f d s o r l =

@@ -1,4 +1,5 @@
--- The clauses of a record, in the order in which the check tests them, are those of `soundRec`. Rests on Versions.
+-- The clauses of a record, in the order in which the check tests them, are those of `soundRec`. Rests on Versions and
+-- Steps.
 use Prim.Native.Nat.{ℕ}
 use mathlib.Core.Path.{_≡_, refl}
 use mathlib.Core.Bool.{Bool, true, _&&_}

@@ -1,19 +1,20 @@
--- All records and all slots, as loops over their numbers; a free slot without accesses. Rests on Builds of the crate
--- `tables`.
-use Prim.Native.Nat.{ℕ, zero, suc, _+_, _-_, _≤_}
+-- All records and all slots, as loops over their numbers; a free slot without accesses. Rests on Steps and on Builds of
+-- the crate `tables`.
+use Prim.Native.Nat.{ℕ, suc, _+_, _-_, _≤_}
 use mathlib.Core.Path.{_≡_, refl, sym, ap, _∙_}
 use mathlib.Core.Bool.{Bool, true, false, not}
 use mathlib.Core.List.{List, map}
 use native.Mathlib.Omega.{arith}
-use lib.ListN.{length, getD, replicate, length-replicate}
+use lib.ListN.{length, replicate, length-replicate}
 use lib.Dec.{eqb}
 use borrow.Author.Tests.{eq-eqb, ne-eqb}
 use Rattle.chains.specs.Lists.{allTo}
 use Rattle.chains.specs.Walk.{more, rows}
 use Rattle.chains.specs.Table.{link, headOf}
 use Rattle.chains.proofs.Bounded.{all-ext}
+use Rattle.chains.proofs.Parts.{zeros}
 use Rattle.chains.proofs.Walks.{step, stop}
-use Rattle.meaning.specs.Limits.{FREE}
+use Rattle.meaning.specs.Limits.{MAX-RECORDS, FREE}
 use Rattle.meaning.specs.Sound.{freeIdle, soundRec, soundEdit}
 use Rattle.meaning.specs.declared.Counts.{Counts}
 use Rattle.meaning.proofs.Lists.{test}
@@ -69,10 +70,5 @@ module _ (c : Counts) (w : List ℕ) (k : ℕ) where
 pub stamps-before : {k : ℕ} {m : List ℕ} → Stamps k m → Stamps (k + 1 - 1) m
 stamps-before {k} s = let e : k + 1 - 1 ≡ k = omega arith in rw e s
 
-pub zeros : (n i : ℕ) → _≡_ {A = ℕ} (getD (replicate n 0) i 0) 0
-zeros zero i = refl
-zeros (suc n) zero = refl
-zeros (suc n) (suc i) = zeros n i
-
-pub stamps-new : (n : ℕ) → n ≡ 1024 → Stamps 0 (replicate n 0)
+pub stamps-new : (n : ℕ) → n ≡ MAX-RECORDS → Stamps 0 (replicate n 0)
 stamps-new n e = record { size = length-replicate n 0 ∙ e; upto = λ i. omega (arith, zeros n i) }

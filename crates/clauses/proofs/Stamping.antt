@@ -1,4 +1,4 @@
--- The loop over a slot's accesses, which stamps each record it meets. Rests on Walk of `chains`.
+-- The loop over a slot's accesses, which stamps each record it meets. Rests on Steps and on Loops of `chains`.
 use Prim.Native.Nat.{ℕ, _-_, _≤_, _<_}
 use mathlib.Core.Path.{_≡_, refl, sym, ap, _∙_}
 use mathlib.Core.Bool.{Bool, true, false, not}

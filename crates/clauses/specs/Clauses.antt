@@ -8,7 +8,7 @@ use mathlib.Core.List.{List, [], _∷_}
 use lib.ListN.{length, getD, set}
 use lib.Dec.{leb, ltb, eqb}
 use Rattle.meaning.specs.Lists.{any, allFrom}
-use Rattle.meaning.specs.Limits.{LAST, READ, WRITE, SETTLED}
+use Rattle.meaning.specs.Limits.{LAST, MAX-RECORDS, READ, WRITE, SETTLED}
 use Rattle.meaning.specs.Store.{Rec, Edit, recOf, inUse, hasRead}
 use Rattle.meaning.specs.declared.Version.{Version}
 use Rattle.meaning.specs.declared.Lock.{Lock}
@@ -74,7 +74,7 @@ slotListed e = stateListed e && (generationListed e && (pointListed e && freeIdl
 
 -- one stamp for each record, none above k
 pub record Stamps (k : ℕ) (m : List ℕ) : Type 0 where
-  pub size : length m ≡ 1024
+  pub size : length m ≡ MAX-RECORDS
   pub upto : (i : ℕ) → getD m i 0 ≤ k
 
 -- all records, and all slots

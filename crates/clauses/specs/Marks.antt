@@ -1,6 +1,6 @@
 -- Marks of lock rows, by which the check knows in one step whether a lock's owner wrote the record. Rests on Decode of
 -- the crate `tables`.
-use Prim.Native.Nat.{ℕ, zero, suc, _≤_}
+use Prim.Native.Nat.{ℕ, zero, suc, _+_, _≤_}
 use mathlib.Core.Path.{_≡_}
 use mathlib.Core.Bool.{cond, _&&_}
 use mathlib.Core.List.{List, [], _∷_}
@@ -8,11 +8,16 @@ use lib.ListN.{length, getD, set}
 use lib.Dec.{ltb, eqb}
 use Rattle.chains.specs.Lists.{occ}
 use Rattle.chains.specs.Walk.{IsRow}
+use Rattle.meaning.specs.Limits.{MAX-ROWS}
 use Rattle.meaning.specs.Store.{accessOf}
 use Rattle.meaning.specs.Points.{isOwned}
 use Rattle.meaning.specs.declared.Access.{Access}
 use Rattle.meaning.specs.declared.Counts.{Counts}
 use Rattle.tables.specs.Decode.{lockAt, slotAt, lockRows}
+
+-- how many marks there are: one for each row number from 0 to the last, so that a row is its own index
+abbrev pub MARKS : ℕ
+MARKS = MAX-ROWS + 1
 
 -- of these rows, those that slot k owns become 1
 abbrev pub ownMark : Counts → List ℕ → ℕ → ℕ → ℕ → ℕ
@@ -36,6 +41,6 @@ markSlots c w m (suc k) = markAccesses c w (suc k) (markSlots c w m k) (slotAt c
 
 -- a lock row of record r bears 1 exactly if its owner wrote the record
 pub record Writers (c : Counts) (w : List ℕ) (r : ℕ) (m : List ℕ) : Type 0 where
-  pub size : length m ≡ 4096
+  pub size : length m ≡ MARKS
   pub wrote : (i : ℕ) → 1 ≤ occ i (lockRows c w r) → IsRow (c .edits) (lockAt c w i .owner)
       → eqb (getD m i 0) 1 ≡ accessOf (slotAt c w (lockAt c w i .owner)) r .written

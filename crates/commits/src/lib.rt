@@ -1,6 +1,7 @@
 // Commit on sound words: equal to its definition in the crate `meaning`, and leaving sound words. For callers who prove
-// the words sound (`requires soundWords`), as the calls of `calls` and `endings`. It goes along the edit's accesses,
-// and no further. Rests on the crates `meaning`, `chains`, `tables`, `changes`, `lookups`, `calls` and `endings`.
+// the words sound (`requires soundWords`), as the calls of `calls` and `endings`. It goes along the edit's accesses and
+// the locks of their records; if it settles the edit, along the locks of every record too. Rests on the crates
+// `meaning`, `chains`, `tables`, `changes`, `slots`, `lookups`, `common`, `calls` and `endings`.
 ghost use mathlib.Core.Path.{_≡_};
 ghost use mathlib.Core.Bool.{true};
 ghost use mathlib.Core.List.{_∷_, []};

@@ -1,4 +1,5 @@
--- The common set from the words: what each access allows, access by access. Rests on Decoded and Loops of `tables`.
+-- The common set from the words: what each access allows, access by access. Rests on Fronts, Reach and on Decoded and
+-- Loops of `tables`.
 use Prim.Native.Nat.{ℕ, _-_, _≤_, _<_}
 use mathlib.Core.Path.{_≡_, refl, sym, ap, _∙_}
 use mathlib.Core.Logic.{_⊎_, inl, inr}
@@ -7,7 +8,7 @@ use mathlib.Core.List.{List, map}
 use native.Mathlib.Omega.{arith}
 use lib.Dec.{ltb}
 use lib.ListN.{length}
-use borrow.Author.Tests.{ltb-true, lt-ltb, le-leb, lt-leb}
+use borrow.Author.Tests.{ltb-true, le-leb, lt-leb}
 use Rattle.chains.specs.Walk.{more}
 use Rattle.chains.specs.Table.{link, headOf}
 use Rattle.chains.proofs.Loops.{Walk}
@@ -15,7 +16,7 @@ use Rattle.meaning.specs.Limits.{LAST}
 use Rattle.meaning.specs.Lists.{all}
 use Rattle.meaning.specs.Points.{covered, own, writes, firstFree, ownOn, allowsWrite, allowsRead, allows, lowest}
 use Rattle.meaning.specs.Points.{inCommon}
-use Rattle.meaning.specs.Store.{Rec, Edit, hasRead}
+use Rattle.meaning.specs.Store.{Rec, Edit}
 use Rattle.meaning.specs.Sound.{namesExisting}
 use Rattle.meaning.specs.declared.Access.{Access}
 use Rattle.meaning.specs.declared.Lock.{Lock}
@@ -27,6 +28,7 @@ use Rattle.tables.proofs.Decoded.{rec-of, records-length}
 use Rattle.tables.proofs.Loops.{accesses-start, all-on, all-out}
 use Rattle.blocking.specs.Search.{counted}
 use Rattle.blocking.proofs.Free.{counted-own}
+use Rattle.common.proofs.Reach.{has-read}
 use Rattle.common.proofs.Fronts.{all-shorter}
 
 -- b implies x, where b holds
@@ -54,15 +56,12 @@ module _ (ls : List Lock) (a : Access) (p : ℕ) where
   pub read-none : a .from ≡ 0 → true ≡ allowsRead ls a p
   read-none e = rw e refl
 
-  has-read : (a .from ≡ 0 → ⊥) → hasRead a ≡ true
-  has-read n = lt-ltb 0 (a .from) (omega arith)
-
   pub read-below : (a .from ≡ 0 → ⊥) → p < a .from → false ≡ allowsRead ls a p
-  read-below n h = rw (has-read n, lt-leb (a .from) p h) refl
+  read-below n h = rw (has-read a n, lt-leb (a .from) p h) refl
 
   pub read-is : {q : ℕ} → (a .from ≡ 0 → ⊥) → a .from ≤ p → q ≡ firstFree ls (a .from) LAST
       → ltb p q ≡ allowsRead ls a p
-  read-is n h d = rw (has-read n, le-leb (a .from) p h, d) refl
+  read-is n h d = rw (has-read a n, le-leb (a .from) p h, d) refl
 
 module _ (rs : List Rec) (k p : ℕ) (a : Access) {q : Bool} (d : q ≡ allowsWrite (ownOn rs k a) a p) where
   pub allows-no : q ≡ false → false ≡ allows rs k p a

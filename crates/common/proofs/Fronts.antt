@@ -92,6 +92,15 @@ module _ (c : Counts) (w : List ℕ) (k : ℕ) where
             (sym x);
       }
 
+  -- what one access more and those before it pass, those before it pass, and so does it
+  pub next-front : {j : ℕ} {a : Access} (p : Access → Bool) → Next c w k j a
+      → all p (firstAccesses c w k (j + 1)) ≡ true → all p (firstAccesses c w k j) ≡ true
+  next-front {j} {a} p s e = all-front p (firstAccesses c w k j) (a ∷ []) (rw (s .joined) at e)
+
+  pub next-last : {j : ℕ} {a : Access} (p : Access → Bool) → Next c w k j a
+      → all p (firstAccesses c w k (j + 1)) ≡ true → p a ≡ true
+  next-last {j} {a} p s e = all-last p (firstAccesses c w k j) a (rw (s .joined) at e)
+
   -- the accesses are those met and those ahead
   pub accesses-split : (left : ℕ) {j cur : ℕ} → MetAccesses j cur → j + left ≡ c .accesses
       → slotAt c w k .accesses

@@ -1,5 +1,5 @@
 -- The search for the earliest point, access by access: one pass over the first accesses, passes until none moves the
--- point, one access more. Rests on Fronts and on CommonEnds of the crate `meaning`.
+-- point, one access more. Rests on Common, Fronts and on CommonEnds of the crate `meaning`.
 use Prim.Native.Nat.{ℕ, suc, _+_, _-_, _≤_, _<_}
 use mathlib.Core.Path.{_≡_, refl, ap}
 use mathlib.Core.Logic.{_⊎_, inl, inr}
@@ -25,7 +25,7 @@ use Rattle.tables.specs.Layout.{accessTable, accessHeads}
 use Rattle.tables.specs.Decode.{accessAt, slotAt, recordsOf}
 use Rattle.common.specs.Commit.{LeastFrom, Lifted, firstAccesses, Next}
 use Rattle.common.proofs.Common.{Named}
-use Rattle.common.proofs.Fronts.{all-front, all-last, all-snoc, MetAccesses, met-start, met-on, first-none}
+use Rattle.common.proofs.Fronts.{all-snoc, MetAccesses, met-start, met-on, first-none, next-front, next-last}
 use Rattle.common.proofs.Fronts.{accesses-all, front-of-all}
 
 -- One pass: q so far, with the accesses xs of which those in rest are still to be asked
@@ -139,19 +139,13 @@ module _ (allow : ℕ → Access → Bool) {c : Counts} {w : List ℕ} {k j : �
   abbrev ys : List Access
   ys = firstAccesses c w k (j + 1)
 
-  of-front : (x : ℕ) → all (allow x) ys ≡ true → all (allow x) xs ≡ true
-  of-front x e = all-front (allow x) xs (a ∷ []) (rw (s .joined) at e)
-
-  of-last : (x : ℕ) → all (allow x) ys ≡ true → allow x a ≡ true
-  of-last x e = all-last (allow x) xs a (rw (s .joined) at e)
-
   pub next-same : q ≡ p → LeastFrom (λ x. all (allow x) ys) 1 p
   next-same e =
       record {
         from = i .from;
         top = i .top;
         inside = λ l. rw (s .joined) (all-snoc (allow p) xs a (i .inside l) (rw e at (b .inside (omega arith))));
-        least = λ x f g t. i .least x f g (of-front x t);
+        least = λ x f g t. i .least x f g (next-front c w k (allow x) s t);
       }
 
   pub next-more : {y : ℕ} → LeastFrom (λ x. all (allow x) ys) q y → LeastFrom (λ x. all (allow x) ys) 1 y
@@ -165,8 +159,8 @@ module _ (allow : ℕ → Access → Bool) {c : Counts} {w : List ℕ} {k j : �
     where
       go : (x : ℕ) → 1 ≤ x → x < y → all (allow x) ys ≡ true → (ltb x p ≡ true) ⊎ (ltb x p ≡ false)
           → (ltb x q ≡ true) ⊎ (ltb x q ≡ false) → ⊥
-      go x f g t (inl u) v = i .least x f (ltb-true x p u) (of-front x t)
-      go x f g t (inr u) (inl v) = b .least x (ltb-false x p u) (ltb-true x q v) (of-last x t)
+      go x f g t (inl u) v = i .least x f (ltb-true x p u) (next-front c w k (allow x) s t)
+      go x f g t (inr u) (inl v) = b .least x (ltb-false x p u) (ltb-true x q v) (next-last c w k (allow x) s t)
       go x f g t (inr u) (inr v) = r .least x (ltb-false x q v) g t
 
 -- The least point that all accesses allow is the earliest

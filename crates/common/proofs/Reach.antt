@@ -6,7 +6,7 @@ use mathlib.Core.Logic.{_⊎_, inl, inr}
 use mathlib.Core.Bool.{Bool, true, false, cond}
 use mathlib.Core.List.{List, map, Memᴰ·map, Memᴰ·of-map}
 use native.Mathlib.Omega.{arith}
-use borrow.Author.Tests.{leb-true, le-leb, ltb-true, lt-ltb, le-ltb}
+use borrow.Author.Tests.{leb-true, le-leb, ltb-true, lt-ltb}
 use Rattle.meaning.specs.Limits.{LAST}
 use Rattle.meaning.specs.Lists.{_∈_, keep, least, greatest}
 use Rattle.meaning.specs.Points.{own, writes, firstFree, ownOn, allows}
@@ -15,7 +15,7 @@ use Rattle.meaning.specs.declared.Lock.{Lock}
 use Rattle.meaning.specs.declared.Access.{Access}
 use Rattle.meaning.proofs.Lists.{not-both, keep-in, keep-out, least-default, least-le, least-out, greatest-ge}
 use Rattle.meaning.proofs.Lists.{greatest-out}
-use Rattle.meaning.proofs.Tests.{Covered}
+use Rattle.meaning.proofs.Tests.{Covered, unread-in}
 use Rattle.meaning.proofs.Spans.{firstFree-top, firstFree-low}
 use Rattle.meaning.proofs.CommonSet.{Parts, parts-out, parts-in}
 use Rattle.blocking.specs.Search.{ownsWrite}
@@ -155,21 +155,18 @@ unfolding lastUnder
 last-under-own k high ls =
     ap (λ ys. greatest 0 (map (λ (l : Lock). min high (l .high)) (keep (endsBefore high) ys))) (sym (own-writes k ls))
 
+pub has-read : (a : Access) → (a .from ≡ 0 → ⊥) → hasRead a ≡ true
+has-read a n = lt-ltb 0 (a .from) (omega arith)
+
 -- the end of what was read
 module _ (ls : List Lock) (a : Access) where
-  has-read : (a .from ≡ 0 → ⊥) → hasRead a ≡ true
-  has-read n = lt-ltb 0 (a .from) (omega arith)
-
-  has-not : a .from ≡ 0 → hasRead a ≡ false
-  has-not e = le-ltb 0 (a .from) (omega arith)
-
   pub read-end-none : a .from ≡ 0 → suc LAST ≡ readEnd ls a
   unfolding readEnd
-  read-end-none e = rw (has-not e) refl
+  read-end-none e = rw (unread-in a e) refl
 
   pub read-end-is : {q : ℕ} → (a .from ≡ 0 → ⊥) → q ≡ firstFree ls (a .from) LAST → q ≡ readEnd ls a
   unfolding readEnd
-  read-end-is n d = rw (has-read n) d
+  read-end-is n d = rw (has-read a n) d
 
   end-in : {x : ℕ} → x < readEnd ls a → hasRead a ≡ true → x < firstFree ls (a .from) LAST
   unfolding readEnd

@@ -1,5 +1,5 @@
--- The search for the latest point, access by access, as Lifts does it upwards. Rests on Fronts and on CommonEnds of the
--- crate `meaning`.
+-- The search for the latest point, access by access, as Lifts does it upwards. Rests on Common, Fronts and on
+-- CommonEnds of the crate `meaning`.
 use Prim.Native.Nat.{ℕ, _+_, _-_, _≤_, _<_}
 use mathlib.Core.Path.{_≡_, refl, ap}
 use mathlib.Core.Logic.{_⊎_, inl, inr}
@@ -25,7 +25,7 @@ use Rattle.tables.specs.Layout.{accessTable, accessHeads}
 use Rattle.tables.specs.Decode.{accessAt, slotAt, recordsOf}
 use Rattle.common.specs.Commit.{GreatestTo, Lowered, firstAccesses, Next}
 use Rattle.common.proofs.Common.{Named}
-use Rattle.common.proofs.Fronts.{all-front, all-last, all-snoc, MetAccesses, met-start, met-on, first-none}
+use Rattle.common.proofs.Fronts.{all-snoc, MetAccesses, met-start, met-on, first-none, next-front, next-last}
 use Rattle.common.proofs.Fronts.{accesses-all, front-of-all}
 
 -- One pass: q so far, with the accesses xs of which those in rest are still to be asked
@@ -126,18 +126,12 @@ module _ (allow : ℕ → Access → Bool) {c : Counts} {w : List ℕ} {k j : �
   abbrev ys : List Access
   ys = firstAccesses c w k (j + 1)
 
-  of-front : (x : ℕ) → all (allow x) ys ≡ true → all (allow x) xs ≡ true
-  of-front x e = all-front (allow x) xs (a ∷ []) (rw (s .joined) at e)
-
-  of-last : (x : ℕ) → all (allow x) ys ≡ true → allow x a ≡ true
-  of-last x e = all-last (allow x) xs a (rw (s .joined) at e)
-
   pub next-same : q ≡ p → GreatestTo (λ x. all (allow x) ys) LAST p
   next-same e =
       record {
         upto = i .upto;
         inside = λ l. rw (s .joined) (all-snoc (allow p) xs a (i .inside l) (rw e at (b .inside (omega arith))));
-        greatest = λ x f g t. i .greatest x f g (of-front x t);
+        greatest = λ x f g t. i .greatest x f g (next-front c w k (allow x) s t);
       }
 
   pub next-more : {y : ℕ} → GreatestTo (λ x. all (allow x) ys) q y → GreatestTo (λ x. all (allow x) ys) LAST y
@@ -150,8 +144,8 @@ module _ (allow : ℕ → Access → Bool) {c : Counts} {w : List ℕ} {k j : �
     where
       go : (x : ℕ) → y < x → x ≤ LAST → all (allow x) ys ≡ true → (ltb p x ≡ true) ⊎ (ltb p x ≡ false)
           → (ltb q x ≡ true) ⊎ (ltb q x ≡ false) → ⊥
-      go x f g t (inl u) v = i .greatest x (ltb-true p x u) g (of-front x t)
-      go x f g t (inr u) (inl v) = b .greatest x (ltb-true q x v) (ltb-false p x u) (of-last x t)
+      go x f g t (inl u) v = i .greatest x (ltb-true p x u) g (next-front c w k (allow x) s t)
+      go x f g t (inr u) (inl v) = b .greatest x (ltb-true q x v) (ltb-false p x u) (next-last c w k (allow x) s t)
       go x f g t (inr u) (inr v) = r .greatest x f (ltb-false q x v) t
 
 -- The greatest point that all accesses allow is the latest

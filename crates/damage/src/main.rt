@@ -1,6 +1,7 @@
 // Formats stores and damages one: each clause of "A store is sound when" is broken by a change of one word, and the
 // verdict of the check is printed, 1 for sound and 0 for not, with what was changed. A damage breaks the clause that
-// its group names and no other; where that cannot be, the comment says why. Rests on `format` and `soundness`.
+// its group names and no other; where that cannot be, the comment says why. Rests on the crates `io`, `meaning`,
+// `tables`, `soundness` and `format`.
 ghost use Prim.Native.Nat.{_<_};
 use meaning::COMMITTED;
 use meaning::Counts;
@@ -8,6 +9,9 @@ use meaning::FREE;
 use meaning::FormatReply;
 use meaning::GENERATIONS;
 use meaning::LAST;
+use meaning::MAX_EDITS;
+use meaning::MAX_RECORDS;
+use meaning::MAX_ROWS;
 use meaning::OPEN;
 use tables::A_FROM;
 use tables::A_NEXT;
@@ -435,6 +439,7 @@ fn check_short() {
     print(b"seven words\n");
 }
 
+// The lengths 118 and 60,662 are document 01's own numbers, so that Format is tried against them.
 fn format_stores() {
     let mut small = [7u64; 118];
     lay_out(&mut small, counts(2, 2, 4, 8, 8), b"store 2 2 4 8 8\n");
@@ -451,7 +456,7 @@ fn format_stores() {
     let mut large = [7u64; 60662];
     lay_out(
         &mut large,
-        counts(1024, 63, 4095, 4095, 4095),
+        counts(MAX_RECORDS, MAX_EDITS, MAX_ROWS, MAX_ROWS, MAX_ROWS),
         b"the largest store\n",
     );
 }
@@ -459,7 +464,7 @@ fn format_stores() {
 fn main() {
     format_stores();
     check_short();
-    let mut words = [7u64; 164];
+    let mut words = [7u64; WORDS];
     lay_out(&mut words, counts(4, 4, 7, 12, 8), b"store 4 4 7 12 8\n");
     let state = with_accesses(with_locks(with_versions(with_slots(words))));
     damage(state, H_RECORDS, 4);

@@ -1,4 +1,5 @@
--- Changes of one record's locks or versions, one after the other, beside a walk along accesses. Rests on Folds.
+-- Changes of one record's locks or versions, one after the other, beside a walk along accesses. Rests on Folds and
+-- Leaving.
 use Prim.Native.Nat.{ℕ, suc, _+_, _≤_, _<_}
 use native.Mathlib.Omega.{arith}
 use mathlib.Core.Path.{_≡_, refl, sym, ap, _∙_}

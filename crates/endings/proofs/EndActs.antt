@@ -1,5 +1,5 @@
 -- Abort and Settle meet their contracts: one law for each return, from what the code has asked and made on the way.
--- Rests on Acting of `calls`.
+-- Rests on EndExits and on Acting of `calls`.
 use Prim.Native.Nat.{ℕ}
 use mathlib.Core.Path.{_≡_, refl, sym, ap, _∙_}
 use mathlib.Core.Bool.{Bool, true, false}

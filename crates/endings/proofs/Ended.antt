@@ -1,5 +1,5 @@
--- An open edit ends: what is sound and what the words mean after its state is set, aborted or committed. Rests on the
--- soundness laws of `meaning`.
+-- An open edit ends: what is sound and what the words mean after its state is set, aborted or committed. Rests on
+-- Saving, Settling and the soundness laws of `meaning`.
 use Prim.Native.Nat.{ℕ, _+_, _≤_, _<_}
 use native.Mathlib.Omega.{arith}
 use mathlib.Core.Path.{_≡_, refl, sym, ap, _∙_}

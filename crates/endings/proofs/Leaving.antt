@@ -1,5 +1,5 @@
 -- Settle's loop over the accesses of a committed edit: it ends with the settled locks of every record accessed, and
--- there is a free row at each step, since the edit's own locks have gone before. Rests on Folds and on Settled of
+-- there is a free row at each step, since the edit's own locks have gone before. Rests on Folds and on Laws of
 -- `meaning`.
 use Prim.Native.Nat.{ℕ, zero, suc, _+_, _≤_, _<_}
 use native.Mathlib.Omega.{arith}

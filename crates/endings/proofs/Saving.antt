@@ -1,5 +1,5 @@
 -- Commit's loop over the accesses of an edit: it ends with a version for every record written, and there is a free row
--- at each step. Rests on Folds.
+-- at each step. Rests on Folds and Besides.
 use Prim.Native.Nat.{ℕ, zero, suc, _+_, _≤_, _<_}
 use native.Mathlib.Omega.{arith}
 use mathlib.Core.Path.{_≡_, refl, sym, ap, _∙_}

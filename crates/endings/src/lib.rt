@@ -1,5 +1,5 @@
 // Settle and Abort on sound words: each equal to its definition in the crate `meaning`, and each leaving sound words.
-// Rests on the crates `meaning`, `chains`, `tables`, `changes`, `lookups` and `calls`.
+// Rests on the crates `meaning`, `chains`, `tables`, `changes`, `slots`, `lookups` and `calls`.
 //
 // They are for callers who prove the words sound (`requires soundWords`), as those of the crate `calls`. No call here
 // looks at more than the chains it touches; Settle looks at the locks of every record once.

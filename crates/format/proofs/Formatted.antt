@@ -9,6 +9,7 @@ use lib.ListN.{length, getD, replicate, length-append, length-replicate}
 use Rattle.chains.specs.Lists.{allOf}
 use Rattle.chains.specs.Walk.{IsRow}
 use Rattle.chains.specs.Table.{field, link, place, headCell, headOf}
+use Rattle.chains.proofs.Parts.{zeros}
 use Rattle.meaning.specs.Records.{goodCounts}
 use Rattle.meaning.specs.Store.{freshRec, freshEdit, fresh}
 use Rattle.meaning.specs.Sound.{soundStore}
@@ -31,11 +32,6 @@ use Rattle.format.proofs.Laying.{size-least, next-in, linked-size, vers
 use Rattle.format.proofs.Links.{linked-below, linked-link, free-parted, free-rows}
 
 -- the blank words: the header, then zeros
-zeros : (n i : ℕ) → _≡_ {A = ℕ} (getD (replicate n 0) i 0) 0
-zeros zero i = refl
-zeros (suc n) zero = refl
-zeros (suc n) (suc i) = zeros n i
-
 past-header : (c : Counts) (n j : ℕ)
     → getD (headerWords c ++ replicate n 0) (suc (suc (suc (suc (suc (suc (suc (suc j)))))))) 0 ≡ 0
 past-header c n j = zeros n j

@@ -1,5 +1,5 @@
 -- Free rows linked in rising order: they are the free chain, every row once, and the other chains are empty. Rests on
--- Segments and Words of `chains`.
+-- Laying and on Segments and Words of `chains`.
 use Prim.Native.Nat.{ℕ, zero, suc, _+_, _≤_, _<_}
 use mathlib.Core.Path.{_≡_, refl, sym, _∙_}
 use mathlib.Core.Bool.{true}

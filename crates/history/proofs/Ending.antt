@@ -1,5 +1,6 @@
 -- Commit, Abort and Settle as steps of the serial core: a commit at a point of the common set, an edit that ends
--- without one, and settling, which leaves of a committed edit what it needs. Rests on CallRuns and Changes.
+-- without one, and settling, which leaves of a committed edit what it needs. Rests on CallRuns, Changes, EveryCall and
+-- Valued.
 use Prim.Native.Nat.{ℕ, _≤_, _<_}
 use native.Mathlib.Omega.{arith}
 use native.Mathlib.Decide.{ℕ-discrete}

@@ -1,6 +1,6 @@
 -- The session of document 01 and two edits with one commit point over words: the contract of each call computed, so
--- that they are histories, their committed edits and orders, and what the claim says of them. Rests on WordSteps,
--- OverStore and CommitList.
+-- that they are histories, their committed edits and orders, and what the claim says of them. Rests on Examples,
+-- WordSteps, OverStore and CommitList.
 use Prim.Native.Nat.{ℕ, _≤_}
 use native.Mathlib.Omega.{arith}
 use mathlib.Core.Path.{_≡_, refl, sym, _∙_}
@@ -27,6 +27,7 @@ use Rattle.history.specs.WordSteps.{Step, readable, callsOf, repliesOf}
 use Rattle.history.specs.Examples.{commitsOf, sessionCounts, sessionCalls, equalCounts, equalCalls}
 use Rattle.history.specs.ExampleWords.{heardOf, wordsOf, InWords, SerialIn, sessionSteps, SessionOnWords}
 use Rattle.history.specs.ExampleWords.{SessionWordsSerial, equalSteps, EqualOnWords, EqualIn, EqualWordsSerial}
+use Rattle.history.proofs.Examples.{session-good, equal-good}
 use Rattle.history.proofs.OverStore.{store-words-serializable}
 use Rattle.history.proofs.CommitList.{as-listed, reversed, only-orders}
 use Rattle.history.proofs.WordSteps.{AllStepped, steps-history, steps-sound}
@@ -48,10 +49,6 @@ module _ (c : Counts) (ss : List Step) where
 infixr 50 _⨾_
 _⨾_ : {A B : Type 0} → A → B → A × B
 _⨾_ a b = (a, b)
-
-session-good : goodCounts sessionCounts ≡ true
-unfolding readable
-session-good = refl
 
 -- for each call: its reply, what the words mean after it, their form, and that a refused call changes none
 session-stepped : AllStepped (formattedWords sessionCounts) sessionSteps
@@ -130,10 +127,6 @@ session-words-serial =
     one : {o : Seq ℕ} → ((o ≡ ε ▸ 2 ▸ 1) × (7 ≤ 6)) ⊎ ((o ≡ ε ▸ 1 ▸ 2) × (6 ≤ 7)) → o ≡ ε ▸ 1 ▸ 2
     one (inl (q, h)) = absurd (omega (arith, h))
     one (inr (q, h)) = q
-
-equal-good : goodCounts equalCounts ≡ true
-unfolding readable
-equal-good = refl
 
 equal-stepped : AllStepped (formattedWords equalCounts) equalSteps
 unfolding opened readable equalSteps

@@ -21,7 +21,7 @@ serial-in : (counts : Counts) (cs : List Call) → goodCounts counts ≡ true �
     → CommitOrder (replied counts cs) o → Serial counts cs o
 serial-in counts cs g o order = record { order = order; serial = store-serializable counts cs g o order }
 
-session-good : goodCounts sessionCounts ≡ true
+pub session-good : goodCounts sessionCounts ≡ true
 unfolding goodCounts
 session-good = refl
 
@@ -43,7 +43,7 @@ pub session-views : SessionViews
 unfolding opened session sessionCalls
 session-views = (refl, refl)
 
-equal-good : goodCounts equalCounts ≡ true
+pub equal-good : goodCounts equalCounts ≡ true
 unfolding goodCounts
 equal-good = refl
 

@@ -1,5 +1,5 @@
--- A handle is given twice (`given-twice`): rounds of Begin and Abort are counted by induction, not run. Rests on the
--- calls' definitions.
+-- A handle is given twice (`given-twice`): rounds of Begin and Abort are counted by induction, not run. Rests on
+-- WordSteps and the calls' definitions.
 use Prim.Native.Nat.{ℕ, zero, suc, _+_, _*_, _/_, _%_, _≤_, _<_}
 use native.Mathlib.Omega.{arith}
 use mathlib.Core.Path.{_≡_, refl, sym, ap, _∙_, subst}

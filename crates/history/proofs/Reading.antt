@@ -1,4 +1,4 @@
--- Read as steps of the serial core: a new read, an own value, a repeated read. Rests on CallRuns and Changes.
+-- Read as steps of the serial core: a new read, an own value, a repeated read. Rests on CallRuns, Changes and Simple.
 use Prim.Native.Nat.{ℕ, suc, _-_, _<_}
 use native.Mathlib.Omega.{arith}
 use native.Mathlib.Decide.{ℕ-discrete}

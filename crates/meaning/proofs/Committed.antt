@@ -1,5 +1,6 @@
 -- Committing an open edit at a point of its common set keeps a store sound: an own write lock shuts every other owner
--- out there, so no version stands on the point yet, and it backs the new one. Rests on Changed, Kept and Inserted.
+-- out there, so no version stands on the point yet, and it backs the new one. Rests on Changed, Kept, EditChanged and
+-- Inserted.
 use Prim.Native.Nat.{ℕ, _+_, _≤_, _<_}
 use native.Mathlib.Omega.{arith}
 use native.Mathlib.Nat.{le-refl}

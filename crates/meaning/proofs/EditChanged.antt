@@ -1,5 +1,5 @@
 -- A store stays sound where one slot gets another edit that is in use, sound, and keeps what the old one wrote and
--- committed; Begin and Abort that keeps as instances. Rests on SoundParts' facts and Stores.
+-- committed; Begin and Abort that keeps as instances. Rests on Stores and StoresMore.
 use Prim.Native.Nat.{ℕ, _+_, _≤_}
 use native.Mathlib.Omega.{arith}
 use native.Mathlib.Decide.{ℕ-discrete}

@@ -1,5 +1,5 @@
 -- The clauses of soundness that speak of an edit, each as the fact that it says, both ways: edit-out and edit-in. Rests
--- on Lists, Tests and CommonSet.
+-- on Lists, Tests, CommonSet and RecParts.
 use Prim.Native.Nat.{ℕ, suc}
 use native.Mathlib.Omega.{arith}
 use mathlib.Core.Path.{_≡_, refl, ap}

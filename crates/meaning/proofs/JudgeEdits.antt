@@ -1,4 +1,4 @@
--- Begin and Write judged along the order of the checks. Rests on Judging, CauseTests and Granted.
+-- Begin and Write judged along the order of the checks. Rests on Judging, CauseTests, SoundParts and Granted.
 use Prim.Native.Nat.{ℕ, zero, suc, _+_, _≤_, _<_}
 use native.Mathlib.Omega.{arith}
 use mathlib.Core.Path.{_≡_, refl}

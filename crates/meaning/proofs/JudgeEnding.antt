@@ -1,4 +1,5 @@
--- Commit, Abort and Settle judged along the order of the checks. Rests on Judging, CauseTests and CommonEnds.
+-- Commit, Abort and Settle judged along the order of the checks. Rests on Judging, CauseTests, SoundParts and
+-- CommonEnds.
 use Prim.Native.Nat.{ℕ}
 use mathlib.Core.Path.{refl}
 use mathlib.Core.Bool.{not}

@@ -1,4 +1,4 @@
--- Lock judged along the order of the checks. Rests on Judging, CauseTests and Denials.
+-- Lock judged along the order of the checks. Rests on Judging, CauseTests, SoundParts and Denials.
 use Prim.Native.Nat.{ℕ, _≤_}
 use mathlib.Core.Path.{_≡_, refl}
 use mathlib.Core.Logic.{_↔_}

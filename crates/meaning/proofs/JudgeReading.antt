@@ -1,4 +1,5 @@
--- Read judged along the order of the checks. Rests on Judging, CauseTests, Denials and Accessed.
+-- Read judged along the order of the checks. Rests on Judging, JudgeLocking, CauseTests, SoundParts, Denials and
+-- Accessed.
 use Prim.Native.Nat.{ℕ, _-_, _≤_, _<_}
 use native.Mathlib.Omega.{arith}
 use mathlib.Core.Path.{_≡_, refl}

@@ -1,4 +1,4 @@
--- Purge and View judged along the order of the checks. Rests on Judging, CauseTests and Newest.
+-- Purge and View judged along the order of the checks. Rests on Judging, CauseTests, SoundParts and Newest.
 use Prim.Native.Nat.{ℕ, suc, _≤_, _<_}
 use native.Mathlib.Omega.{arith}
 use mathlib.Core.Path.{_≡_, refl}

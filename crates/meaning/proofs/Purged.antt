@@ -1,5 +1,6 @@
 -- Purging a record to a version above its floor, with no unsettled lock at or below it, keeps a store sound: every read
--- lock of an edit starts above it, so the version that the edit read stays. Rests on Changed, Kept and Trimmed.
+-- lock of an edit starts above it, so the version that the edit read stays. Rests on Changed, Kept, StoresMore and
+-- Trimmed.
 use Prim.Native.Nat.{ℕ, suc, _≤_, _<_}
 use native.Mathlib.Omega.{arith}
 use native.Mathlib.Decide.{ℕ-discrete}

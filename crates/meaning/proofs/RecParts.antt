@@ -1,5 +1,5 @@
 -- The clauses of soundness that speak of a record, each as the fact that it says, both ways: rec-out and rec-in. Rests
--- on Lists and Stores.
+-- on Lists, Stores and Tests.
 use Prim.Native.Nat.{ℕ, _≤_, _<_, max}
 use native.Mathlib.Omega.{arith}
 use mathlib.Core.Path.{_≡_, refl, sym, ap}

@@ -1,5 +1,6 @@
 -- Settling a slot in use keeps a store sound and needs no row: every point of a settled lock that is left was under a
--- lock of the edit, a write lock if it is one, so it meets no other owner. Rests on Changed, Kept and LocksLeft.
+-- lock of the edit, a write lock if it is one, so it meets no other owner. Rests on Changed, Kept, SoundParts and
+-- LocksLeft.
 use Prim.Native.Nat.{ℕ, suc, _+_, _≤_, _<_}
 use native.Mathlib.Omega.{arith}
 use native.Mathlib.Decide.{ℕ-discrete}

@@ -1,7 +1,7 @@
 // The clauses of a record: its locks each and in pairs, its versions, and what backs each version; `records_sound` is
 // all of them for all records. It asks that the slots are sound, for then the marks of `lock_marks` say of each lock
-// whether its owner wrote the record. Rests on the crates `meaning`, `chains`, `tables` and `lookups` and on the module
-// `lock_marks`.
+// whether its owner wrote the record. Rests on the crates `meaning`, `locks`, `chains`, `tables`, `lookups` and
+// `clauses` and on the module `lock_marks`.
 mod lock_marks;
 
 ghost use mathlib.Core.Path.{_≡_};
@@ -21,6 +21,7 @@ ghost use Rattle.tables.specs.Words.{locksParted};
 ghost use Rattle.clauses.specs.Clauses.{modeListed, spanLies, ownerUsed, lockSound, fallsBelow, endsOn};
 ghost use Rattle.clauses.specs.Clauses.{fallsTo, versionsSound, isBacked, recordsSound, slotsSound};
 ghost use Rattle.clauses.specs.Marks.{Writers};
+use lock_marks::MARKS;
 use lock_marks::mark_slots;
 use meaning::COMMITTED;
 use meaning::Counts;
@@ -224,7 +225,7 @@ fn wrote_at(w: &[u64], c: Counts, k: u64, r: usize, t: u64, wrote: bool) -> bool
     wrote
 }
 
-fn row_backs(w: &[u64], c: Counts, r: usize, p: u64, i: usize, marks: &[u8; 4096]) -> bool
+fn row_backs(w: &[u64], c: Counts, r: usize, p: u64, i: usize, marks: &[u8; MARKS]) -> bool
     requires { ⌜
         Fits c (now w) × IsRow (c .locks) i × Writers c (now w) r (now marks) × (1 ≤ occ i (lockRows c (now w) r))
         ⌝ }
@@ -243,7 +244,7 @@ fn row_backs(w: &[u64], c: Counts, r: usize, p: u64, i: usize, marks: &[u8; 4096
     wrote_at(w, c, l.owner, r, p, marks[i] == 1)
 }
 
-fn any_backs(w: &[u64], c: Counts, r: usize, p: u64, marks: &[u8; 4096]) -> bool
+fn any_backs(w: &[u64], c: Counts, r: usize, p: u64, marks: &[u8; MARKS]) -> bool
     requires { ⌜ Fits c (now w) × (r < c .records) × Writers c (now w) r (now marks) ⌝ }
     ensures { λ q. ⌜ q ≡ any (backs (editsOf c (now (w .entry))) r p) (recordAt c (now (w .entry)) r .locks) ⌝ }
 {
@@ -260,7 +261,7 @@ fn any_backs(w: &[u64], c: Counts, r: usize, p: u64, marks: &[u8; 4096]) -> bool
     false
 }
 
-fn row_backed(w: &[u64], c: Counts, r: usize, i: usize, marks: &[u8; 4096]) -> bool
+fn row_backed(w: &[u64], c: Counts, r: usize, i: usize, marks: &[u8; MARKS]) -> bool
     requires { ⌜ Fits c (now w) × (r < c .records) × IsRow (c .versions) i × Writers c (now w) r (now marks) ⌝ }
     ensures { λ q. ⌜
         q ≡ isBacked (editsOf c (now (w .entry))) r (recordAt c (now (w .entry)) r) (versionAt c (now (w .entry)) i)
@@ -273,7 +274,7 @@ fn row_backed(w: &[u64], c: Counts, r: usize, i: usize, marks: &[u8; 4096]) -> b
     any_backs(w, c, r, v.point, marks)
 }
 
-fn versions_backed(w: &[u64], c: Counts, r: usize, marks: &[u8; 4096]) -> bool
+fn versions_backed(w: &[u64], c: Counts, r: usize, marks: &[u8; MARKS]) -> bool
     requires { ⌜ Fits c (now w) × (r < c .records) × Writers c (now w) r (now marks) ⌝ }
     ensures { λ q. ⌜
         q ≡ all (isBacked (editsOf c (now (w .entry))) r (recordAt c (now (w .entry)) r))
@@ -295,7 +296,7 @@ fn versions_backed(w: &[u64], c: Counts, r: usize, marks: &[u8; 4096]) -> bool
 
 // The clauses of a record, and of all records.
 
-fn record_sound(w: &[u64], c: Counts, r: usize, marks: &[u8; 4096]) -> bool
+fn record_sound(w: &[u64], c: Counts, r: usize, marks: &[u8; MARKS]) -> bool
     requires { ⌜ Fits c (now w) × (r < c .records) × Writers c (now w) r (now marks) ⌝ }
     ensures { λ q. ⌜ q ≡ soundRec (editsOf c (now (w .entry))) r (recordAt c (now (w .entry)) r) ⌝ }
 {
@@ -311,7 +312,7 @@ fn record_sound(w: &[u64], c: Counts, r: usize, marks: &[u8; 4096]) -> bool
     versions_backed(w, c, r, marks)
 }
 
-fn records_sound_with(w: &[u64], c: Counts, marks: &[u8; 4096]) -> bool
+fn records_sound_with(w: &[u64], c: Counts, marks: &[u8; MARKS]) -> bool
     requires { ⌜ Fits c (now w) × ((r : ℕ) → r < c .records → Writers c (now w) r (now marks)) ⌝ }
     ensures { λ q. ⌜ q ≡ recordsSound c (now (w .entry)) ⌝ }
 {
@@ -330,7 +331,7 @@ pub fn records_sound(w: &[u64], c: Counts) -> bool
     requires { ⌜ Fits c (now w) × (locksParted c (now w) ≡ true) × (slotsSound c (now w) ≡ true) ⌝ }
     ensures { λ q. ⌜ q ≡ recordsSound c (now (w .entry)) ⌝ }
 {
-    let mut marks = [0u8; 4096];
+    let mut marks = [0u8; MARKS];
     mark_slots(w, c, &mut marks);
     records_sound_with(w, c, &marks)
 }

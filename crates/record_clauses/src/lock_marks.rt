@@ -1,15 +1,18 @@
 // Marks of lock rows, so that one step tells whether a lock's owner wrote the record: for each record that an edit has
-// written, the rows of its own locks on that record become 1. specs/Marks has the same marks on lists. Rests on the
-// crates `meaning`, `chains` and `tables`.
+// written, the rows of its own locks on that record become 1. Marks of the crate `clauses` has the same marks on lists.
+// Rests on the crates `meaning`, `chains`, `tables` and `clauses`.
 ghost use mathlib.Core.Path.{_≡_};
 ghost use Prim.Native.Nat.{_<_};
 ghost use lib.ListN.{length};
 ghost use Rattle.chains.specs.Walk.{IsRow};
 ghost use Rattle.tables.specs.Layout.{Fits};
 ghost use Rattle.tables.specs.Decode.{slotAt, lockRows};
-ghost use Rattle.clauses.specs.Marks.{ownMark, markOwn, markAccess, markAccesses, markSlots};
+ghost use Rattle.clauses.specs.Marks.{MARKS, ownMark, markOwn, markAccess, markAccesses, markSlots};
 use meaning::Access;
 use meaning::Counts;
+
+// A mark for each row number from 0 to the last, so that a row is its own index.
+pub const MARKS: usize = meaning::MAX_ROWS + 1;
 
 fn own_mark(w: &[u64], c: Counts, k: u64, i: usize, old: u8) -> u8
     requires { ⌜ Fits c (now w) × IsRow (c .locks) i ⌝ }
@@ -19,8 +22,8 @@ fn own_mark(w: &[u64], c: Counts, k: u64, i: usize, old: u8) -> u8
     if l.owner == k { 1 } else { old }
 }
 
-fn mark_own(w: &[u64], c: Counts, k: u64, r: usize, marks: &mut [u8; 4096])
-    requires { ⌜ Fits c (now w) × (r < c .records) × (length (now marks) ≡ 4096) ⌝ }
+fn mark_own(w: &[u64], c: Counts, k: u64, r: usize, marks: &mut [u8; MARKS])
+    requires { ⌜ Fits c (now w) × (r < c .records) × (length (now marks) ≡ MARKS) ⌝ }
     ensures { λ _. ⌜
         now (marks .exit) ≡ markOwn c (now (w .entry)) k (now (marks .entry)) (lockRows c (now (w .entry)) r)
         ⌝ }
@@ -36,8 +39,8 @@ fn mark_own(w: &[u64], c: Counts, k: u64, r: usize, marks: &mut [u8; 4096])
     }
 }
 
-fn mark_access(w: &[u64], c: Counts, k: usize, a: Access, marks: &mut [u8; 4096])
-    requires { ⌜ Fits c (now w) × (length (now marks) ≡ 4096) ⌝ }
+fn mark_access(w: &[u64], c: Counts, k: usize, a: Access, marks: &mut [u8; MARKS])
+    requires { ⌜ Fits c (now w) × (length (now marks) ≡ MARKS) ⌝ }
     ensures { λ _. ⌜ now (marks .exit) ≡ markAccess c (now (w .entry)) k (now (marks .entry)) a ⌝ }
 {
     if !a.written {
@@ -49,8 +52,8 @@ fn mark_access(w: &[u64], c: Counts, k: usize, a: Access, marks: &mut [u8; 4096]
     mark_own(w, c, chains::word(k), chains::wide(a.rec), marks);
 }
 
-fn mark_slot(w: &[u64], c: Counts, k: usize, marks: &mut [u8; 4096])
-    requires { ⌜ Fits c (now w) × IsRow (c .edits) k × (length (now marks) ≡ 4096) ⌝ }
+fn mark_slot(w: &[u64], c: Counts, k: usize, marks: &mut [u8; MARKS])
+    requires { ⌜ Fits c (now w) × IsRow (c .edits) k × (length (now marks) ≡ MARKS) ⌝ }
     ensures { λ _. ⌜
         now (marks .exit)
         ≡ markAccesses c (now (w .entry)) k (now (marks .entry)) (slotAt c (now (w .entry)) k .accesses)
@@ -67,8 +70,8 @@ fn mark_slot(w: &[u64], c: Counts, k: usize, marks: &mut [u8; 4096])
     }
 }
 
-pub fn mark_slots(w: &[u64], c: Counts, marks: &mut [u8; 4096])
-    requires { ⌜ Fits c (now w) × (length (now marks) ≡ 4096) ⌝ }
+pub fn mark_slots(w: &[u64], c: Counts, marks: &mut [u8; MARKS])
+    requires { ⌜ Fits c (now w) × (length (now marks) ≡ MARKS) ⌝ }
     ensures { λ _. ⌜ now (marks .exit) ≡ markSlots c (now (w .entry)) (now (marks .entry)) (c .edits) ⌝ }
 {
     let n = c.edits;

@@ -1,5 +1,6 @@
 // The clauses of a slot: its words, the records that its accesses name, its reads, and its point; `slots_sound` is all
-// of them for all slots. Rests on `common` for the common set.
+// of them for all slots. Rests on the crates `meaning`, `locks`, `chains`, `tables`, `common` (for the common set) and
+// `clauses`.
 ghost use mathlib.Core.Path.{_≡_};
 ghost use mathlib.Core.Bool.{true, _||_};
 ghost use Prim.Native.Nat.{_-_, _<_};
@@ -17,6 +18,7 @@ use meaning::COMMITTED;
 use meaning::Counts;
 use meaning::FREE;
 use meaning::GENERATIONS;
+use meaning::MAX_RECORDS;
 
 // A record read: the edit has a read lock that starts just after the point read, and that point is a present version,
 // or 0 under floor 0.
@@ -104,7 +106,7 @@ fn read_sound(w: &[u64], c: Counts, k: usize, a: Access) -> bool
 // The accesses of slot k: each names an existing record, at most once, and its read is in order. A record that slot k
 // has named bears the stamp k; slots rise, so an older stamp is lower.
 
-fn accesses_sound(w: &[u64], c: Counts, k: usize, stamps: &mut [u8; 1024]) -> bool
+fn accesses_sound(w: &[u64], c: Counts, k: usize, stamps: &mut [u8; MAX_RECORDS]) -> bool
     requires { ⌜ Fits c (now w) × IsRow (c .edits) k × Stamps k (now stamps) ⌝ }
     ensures { λ q. ⌜
         (q
@@ -189,7 +191,7 @@ fn point_common(w: &[u64], c: Counts, k: usize) -> bool
 
 // The clauses of a slot, and of all slots.
 
-fn slot_sound(w: &[u64], c: Counts, k: usize, stamps: &mut [u8; 1024]) -> bool
+fn slot_sound(w: &[u64], c: Counts, k: usize, stamps: &mut [u8; MAX_RECORDS]) -> bool
     requires { ⌜ Fits c (now w) × IsRow (c .edits) k × Stamps (k - 1) (now stamps) ⌝ }
     ensures { λ q. ⌜
         (q ≡ soundEdit (recordsOf c (now (w .entry))) k (slotAt c (now (w .entry)) k)) × Stamps k (now (stamps .exit))
@@ -204,7 +206,7 @@ fn slot_sound(w: &[u64], c: Counts, k: usize, stamps: &mut [u8; 1024]) -> bool
     point_common(w, c, k)
 }
 
-fn slots_sound_with(w: &[u64], c: Counts, stamps: &mut [u8; 1024]) -> bool
+fn slots_sound_with(w: &[u64], c: Counts, stamps: &mut [u8; MAX_RECORDS]) -> bool
     requires { ⌜ Fits c (now w) × Stamps 0 (now stamps) ⌝ }
     ensures { λ q. ⌜ q ≡ slotsSound c (now (w .entry)) ⌝ }
 {
@@ -223,6 +225,6 @@ pub fn slots_sound(w: &[u64], c: Counts) -> bool
     requires { ⌜ Fits c (now w) ⌝ }
     ensures { λ q. ⌜ q ≡ slotsSound c (now (w .entry)) ⌝ }
 {
-    let mut stamps = [0u8; 1024];
+    let mut stamps = [0u8; MAX_RECORDS];
     slots_sound_with(w, c, &mut stamps)
 }

@@ -1,7 +1,7 @@
 -- The row of an edit's access of a record, as a search finds it: where there is one it stands on the slot's chain and
 -- names the record, and where there is none the edit does not name the record. Rests on Accesses, and on Searches of
 -- `chains`.
-use Prim.Native.Nat.{ℕ, suc, _≤_, _<_}
+use Prim.Native.Nat.{ℕ, _≤_, _<_}
 use mathlib.Core.Path.{_≡_, refl, sym, ap, _∙_}
 use mathlib.Core.Bool.{Bool, true, false}
 use mathlib.Core.List.{List, [], _∷_, map}
@@ -10,7 +10,7 @@ use borrow.Author.Tests.{eqb-true, ltb-true}
 use Rattle.chains.specs.Lists.{occ, firstOf}
 use Rattle.chains.specs.Walk.{IsRow}
 use Rattle.chains.proofs.Occurs.{occ-here, occ-there, occ-append}
-use Rattle.chains.proofs.Searches.{first-found}
+use Rattle.chains.proofs.Searches.{first-found, first-none}
 use Rattle.chains.proofs.Words.{on-chain}
 use Rattle.meaning.specs.Lists.{any}
 use Rattle.meaning.specs.Store.{editAt, isOf, names, accessesUsed}
@@ -27,16 +27,11 @@ first-some p rs i e n =
     let q = first-found p rs i e (omega (arith, n)) in
     (rw (q .parts) (omega (arith, occ-append i (q .before) (i ∷ q .beyond), occ-here i (q .beyond))), q .passes)
 
-first-none : {A : Type 0} (f : ℕ → A) (p : A → Bool) (rs : List ℕ) → ((x : ℕ) → 1 ≤ occ x rs → 1 ≤ x)
-    → firstOf (λ i. p (f i)) rs ≡ 0 → any p (map f rs) ≡ false
-unfolding firstOf
-first-none f p [] l e = refl
-first-none f p (r ∷ rs) l e = go (p (f r)) refl (first-none f p rs (λ x o. l x (omega (arith, occ-there x r rs))))
-  where
-    go : (b : Bool) → p (f r) ≡ b → (firstOf (λ i. p (f i)) rs ≡ 0 → any p (map f rs) ≡ false)
-        → any p (map f (r ∷ rs)) ≡ false
-    go true h ih = let z : r ≡ 0 = rw (h, firstOf) at e in absurd (omega (arith, l r (occ-here r rs)))
-    go false h ih = rw h (ih (rw (h, firstOf) at e))
+-- where no row passes, no entry does
+no-entry : {A : Type 0} (f : ℕ → A) (p : A → Bool) (rs : List ℕ) → ((i : ℕ) → 1 ≤ occ i rs → p (f i) ≡ false)
+    → any p (map f rs) ≡ false
+no-entry f p [] h = refl
+no-entry f p (r ∷ rs) h = rw (h r (occ-here r rs)) (no-entry f p rs (λ i o. h i (omega (arith, occ-there i r rs))))
 
 module _ {c : Counts} {w : List ℕ} (W : Well c w) {k : ℕ} (l : IsRow (c .edits) k) (r : ℕ) {i : ℕ}
     (e : i ≡ firstOf (λ j. isOf r (accessAt c w j)) (accessRows c w k)) where
@@ -48,8 +43,9 @@ module _ {c : Counts} {w : List ℕ} (W : Well c w) {k : ℕ} (l : IsRow (c .edi
   pub row-none : i ≡ 0 → names (editAt (decodeAt c w) k) r ≡ false
   unfolding names accessesOf accessRows accessTable accessHeads
   row-none z = ap (any (isOf r)) (accesses-at c w k l)
-      ∙ first-none (accessAt c w) (isOf r) (accessRows c w k)
-      (λ x o. on-chain (accessTable c) (accessHeads c) w (W .accesses-parted) k (l .high) x o .low) (sym e ∙ z)
+      ∙ no-entry (accessAt c w) (isOf r) (accessRows c w k)
+      (first-none (λ j. isOf r (accessAt c w j)) (accessRows c w k)
+      (λ x o. on-chain (accessTable c) (accessHeads c) w (W .accesses-parted) k (l .high) x o .low) (sym e ∙ z))
 
 -- so there is room for a new one
 pub room-none : {c : Counts} {w : List ℕ} (k r : ℕ) → Well c w → accessRoom (decodeAt c w) k r ≡ true

@@ -1,5 +1,5 @@
 -- A row of a slot's chain that is filled again, by an access of the record that it names: its entry alone changes.
--- Rests on Stored and Lists.
+-- Rests on Accesses and on Stored and Lists of `changes`.
 use Prim.Native.Nat.{ℕ, suc, _≤_, _<_}
 use mathlib.Core.Path.{_≡_, refl, sym, ap, _∙_}
 use mathlib.Core.Logic.{_⊎_, inl, inr}

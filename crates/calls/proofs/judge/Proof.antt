@@ -1,4 +1,4 @@
--- `calls::judge` meets its contract: a frozen point, or one held by a slot. Rests on Judged.
+-- `calls::judge` meets its contract: a frozen point, or one held by a slot. Rests on Judged and Acting.
 use Rattle.calls.proofs.Acting.{generation-fits}
 use Rattle.calls.proofs.Judged.{refused-frozen, refused-held}
 use Rattle.calls.proofs.judge.Statement.{statement}

@@ -1,4 +1,5 @@
--- `calls::view` meets its contract: each refusal, and the newest version at or below the point. Rests on Viewing.
+-- `calls::view` meets its contract: each refusal, and the newest version at or below the point. Rests on Viewing and
+-- Answers.
 use Rattle.calls.proofs.Answers.{off, on}
 use Rattle.calls.proofs.Handles.{row-there}
 use Rattle.calls.proofs.Viewing.{header-there, header-counts, viewed-no-record, viewed-bad-point, viewed-below}

@@ -1,4 +1,4 @@
--- `calls::write` meets its contract: each refusal, and what `write_open` makes. Rests on Writing.
+-- `calls::write` meets its contract: each refusal, and what `write_open` makes. Rests on Writing and Answers.
 use Rattle.calls.proofs.Answers.{off, on}
 use Rattle.calls.proofs.Acting.{has-header, ready, slot-row}
 use Rattle.calls.proofs.Writing.{wrote-no-edit, wrote-ended, wrote-no-record, wrote}

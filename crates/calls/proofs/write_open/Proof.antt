@@ -1,4 +1,4 @@
--- `calls::write_open` meets its contract: no access row, or the value stored. Rests on Writing.
+-- `calls::write_open` meets its contract: no access row, or the value stored. Rests on Writing, Rooms and Answers.
 use Rattle.lookups.proofs.Found.{access-within}
 use Rattle.calls.proofs.Answers.{off, on}
 use Rattle.calls.proofs.Rooms.{once}

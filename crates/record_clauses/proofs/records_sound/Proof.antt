@@ -7,13 +7,13 @@ use Rattle.record_clauses.proofs.records_sound.Statement.{statement}
 use Rattle.record_clauses.proofs.records_sound.Tie as tie
 
 mark-slots-requires : tie.Need-mark-slots-requires
-mark-slots-requires c κs = (c .before .before .pre .0, new-size 4096 refl)
+mark-slots-requires c κs = (c .before .before .pre .0, new-size _ refl)
 
 records-sound-with-requires : tie.Need-records-sound-with-requires
 records-sound-with-requires c κs = (
   c .before .before .before .before .pre .0,
   writers-new (c .before .before .before .before .args .c) (now (c .before .before .before .before .args .w))
-      4096 refl (c .before .before .before .before .pre .0) (c .before .before .before .before .pre .1)
+      _ refl (c .before .before .before .before .pre .0) (c .before .before .before .before .pre .1)
       (c .before .before .before .before .pre .2) (c .before .mark-slots .ensures),
 )
 

@@ -7,7 +7,7 @@ use Rattle.chains.proofs.partition.partition_ok.Tie as tie
 
 partition-with-requires : tie.Need-partition-with-requires
 partition-with-requires c κs =
-    (c .before .before .pre .0, c .before .before .pre .1, c .before .before .pre .2, clear-new 4096 refl)
+    (c .before .before .pre .0, c .before .before .pre .1, c .before .before .pre .2, clear-new _ refl)
 
 returns : tie.Need-returns
 returns c = search needs

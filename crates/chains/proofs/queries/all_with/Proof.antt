@@ -1,4 +1,4 @@
--- `chains::all_with` meets its contract: a test of every row, with an early exit. Rests on Loops.
+-- `chains::all_with` meets its contract: a test of every row, with an early exit. Rests on Loops and Tests.
 use native.Mathlib.Omega.{arith}
 use denote.Ref.{now}
 use Rattle.chains.specs.Lists.{allOf}

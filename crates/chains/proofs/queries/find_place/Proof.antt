@@ -1,4 +1,4 @@
--- `chains::find_place` meets its contract: the place after a front of rows. Rests on Loops.
+-- `chains::find_place` meets its contract: the place after a front of rows. Rests on Loops and Tests.
 use native.Mathlib.Omega.{arith}
 use denote.Ref.{now}
 use Rattle.chains.specs.Lists.{lastOr, takeWhile}

@@ -1,4 +1,4 @@
--- `chains::first_with` meets its contract: a search with an early exit. Rests on Loops.
+-- `chains::first_with` meets its contract: a search with an early exit. Rests on Loops and Tests.
 use native.Mathlib.Omega.{arith}
 use denote.Ref.{now}
 use Rattle.chains.specs.Lists.{firstOf}

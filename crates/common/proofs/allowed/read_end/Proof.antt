@@ -1,4 +1,4 @@
--- `common::allowed::read_end` meets its contract. Rests on Reach.
+-- `common::allowed::read_end` meets its contract. Rests on Reach and Common.
 use denote.Ref.{now}
 use Rattle.meaning.specs.Points.{ownOn}
 use Rattle.tables.specs.Decode.{recordsOf}

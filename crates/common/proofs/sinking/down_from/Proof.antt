@@ -1,4 +1,4 @@
--- `common::sinking::down_from` meets its contract. Rests on Reach.
+-- `common::sinking::down_from` meets its contract. Rests on Reach and Common.
 use mathlib.Core.Path.{ap, _∙_}
 use denote.Ref.{now}
 use borrow.Author.Tests.{not-true, not-false}

@@ -10,7 +10,7 @@ use Rattle.chains.proofs.Loops.{Walk}
 use Rattle.tables.specs.Layout.{lockTable}
 use Rattle.tables.specs.Decode.{lockRows}
 use Rattle.tables.proofs.Loops.{lock-rows-start}
-use Rattle.clauses.specs.Marks.{markOwn}
+use Rattle.clauses.specs.Marks.{MARKS, markOwn}
 use Rattle.clauses.proofs.Marks.{own-on, own-done}
 use Rattle.record_clauses.proofs.lock_marks.mark_own.Statement.{statement}
 use Rattle.record_clauses.proofs.lock_marks.mark_own.Tie as tie
@@ -18,7 +18,7 @@ use Rattle.record_clauses.proofs.lock_marks.mark_own.Tie as tie
 abbrev Inv-loop : tie.InvT-loop
 Inv-loop w c k r marks₀ n cur₀ left₀ marks cur left =
     Walk (link (lockTable c) w) n (λ rs. markOwn c w k marks rs) (markOwn c w k marks₀ (lockRows c w r)) cur left
-    × (length marks ≡ 4096)
+    × (length marks ≡ MARKS)
 
 abbrev μ-loop : tie.MeasureT-loop
 μ-loop w c k r marks₀ n cur₀ left₀ marks cur left = left

@@ -11,7 +11,7 @@ use Rattle.chains.proofs.Loops.{Walk}
 use Rattle.tables.specs.Layout.{accessTable}
 use Rattle.tables.specs.Decode.{accessAt, slotAt}
 use Rattle.tables.proofs.Loops.{accesses-start}
-use Rattle.clauses.specs.Marks.{markAccesses}
+use Rattle.clauses.specs.Marks.{MARKS, markAccesses}
 use Rattle.clauses.proofs.Marking.{access-size}
 use Rattle.clauses.proofs.Marks.{accesses-on, accesses-done}
 use Rattle.record_clauses.proofs.lock_marks.mark_slot.Statement.{statement}
@@ -21,7 +21,7 @@ abbrev Inv-loop : tie.InvT-loop
 Inv-loop w c k marks₀ n cur₀ left₀ marks cur left =
     Walk (link (accessTable c) w) n (λ rs. markAccesses c w k marks (map (accessAt c w) rs))
     (markAccesses c w k marks₀ (slotAt c w k .accesses)) cur left
-    × (length marks ≡ 4096)
+    × (length marks ≡ MARKS)
 
 abbrev μ-loop : tie.MeasureT-loop
 μ-loop w c k marks₀ n cur₀ left₀ marks cur left = left

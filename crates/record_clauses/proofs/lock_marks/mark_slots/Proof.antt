@@ -4,14 +4,14 @@ use mathlib.Core.Path.{_≡_, ap, _∙_}
 use native.Mathlib.Omega.{arith}
 use lib.ListN.{length}
 use denote.Ref.{now}
-use Rattle.clauses.specs.Marks.{markSlots}
+use Rattle.clauses.specs.Marks.{MARKS, markSlots}
 use Rattle.clauses.proofs.Marking.{accesses-size}
 use Rattle.clauses.proofs.Marks.{slots-none, slots-on, slots-end}
 use Rattle.record_clauses.proofs.lock_marks.mark_slots.Statement.{statement}
 use Rattle.record_clauses.proofs.lock_marks.mark_slots.Tie as tie
 
 abbrev Inv-loop : tie.InvT-loop
-Inv-loop w c marks₀ n k₀ marks k = (marks ≡ markSlots c w marks₀ k) × (length marks ≡ 4096) × (k ≤ n)
+Inv-loop w c marks₀ n k₀ marks k = (marks ≡ markSlots c w marks₀ k) × (length marks ≡ MARKS) × (k ≤ n)
 
 abbrev μ-loop : tie.MeasureT-loop
 μ-loop w c marks₀ n k₀ marks k = n - k

@@ -1,5 +1,6 @@
 -- `soundness::word_clauses::accesses_parted` meets its contract. Rests on Cells of `chains`, on Places of `tables`.
 use mathlib.Core.Path.{sym}
+use native.Mathlib.Omega.{arith}
 use Rattle.chains.proofs.Cells.{lies, heads-lie}
 use Rattle.tables.specs.Layout.{accessTable}
 use Rattle.tables.specs.Words.{accessesParted}
@@ -19,7 +20,7 @@ unfolding accessTable
 partition-ok-requires c κs =
     rw (c .before .access-table .ensures, c .access-heads .ensures)
     (let l = Places.accesses-laid (c .before .before .before .pre) in
-    (lies l, heads-lie l, c .before .before .before .pre .ranged .accesses-high))
+    (lies l, heads-lie l, omega (arith, c .before .before .before .pre .ranged .accesses-high)))
 
 returns : tie.Need-returns
 unfolding accessesParted

@@ -1,5 +1,6 @@
 -- `soundness::word_clauses::locks_parted` meets its contract. Rests on Cells of `chains`, on Places of `tables`.
 use mathlib.Core.Path.{sym}
+use native.Mathlib.Omega.{arith}
 use Rattle.chains.proofs.Cells.{lies, heads-lie}
 use Rattle.tables.specs.Layout.{lockTable}
 use Rattle.tables.specs.Words.{locksParted}
@@ -19,7 +20,7 @@ unfolding lockTable
 partition-ok-requires c κs =
     rw (c .before .lock-table .ensures, c .lock-heads .ensures)
     (let l = Places.locks-laid (c .before .before .before .pre) in
-    (lies l, heads-lie l, c .before .before .before .pre .ranged .locks-high))
+    (lies l, heads-lie l, omega (arith, c .before .before .before .pre .ranged .locks-high)))
 
 returns : tie.Need-returns
 unfolding locksParted

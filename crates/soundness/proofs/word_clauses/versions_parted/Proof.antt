@@ -1,5 +1,6 @@
 -- `soundness::word_clauses::versions_parted` meets its contract. Rests on Cells of `chains`, on Places of `tables`.
 use mathlib.Core.Path.{sym}
+use native.Mathlib.Omega.{arith}
 use Rattle.chains.proofs.Cells.{lies, heads-lie}
 use Rattle.tables.specs.Layout.{versionTable}
 use Rattle.tables.specs.Words.{versionsParted}
@@ -19,7 +20,7 @@ unfolding versionTable
 partition-ok-requires c κs =
     rw (c .before .version-table .ensures, c .version-heads .ensures)
     (let l = Places.versions-laid (c .before .before .before .pre) in
-    (lies l, heads-lie l, c .before .before .before .pre .ranged .versions-high))
+    (lies l, heads-lie l, omega (arith, c .before .before .before .pre .ranged .versions-high)))
 
 returns : tie.Need-returns
 unfolding versionsParted
