@@ -1,3 +1,2 @@
--- Laws of the script program: what an answered line says of the words, and how bytes are gathered. Rests on specs/.
+-- Laws of the script program: what an answered line says of the words. Rests on specs/.
 pub mod Saying
-pub mod Bytes

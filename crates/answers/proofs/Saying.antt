@@ -23,9 +23,9 @@ use Rattle.store.specs.Answers.{Does}
 use Rattle.replies.specs.Lines.{lineOf}
 use Rattle.replies.specs.declared.Line.{Line}
 use Rattle.replies.specs.declared.Line.the-variants as L
-use Rattle.lines.specs.declared.Parsed.{Parsed}
+use Rattle.fields.specs.declared.Parsed.{Parsed}
 use Rattle.answers.specs.Script.{Has, nothing, one, Stands, Said, Says, Answers, called, kept, formatted, said}
-use Rattle.answers.specs.Script.{roomFor, wordsFor}
+use Rattle.format_room.specs.Room.{roomFor, wordsFor}
 
 -- no words are no sound store
 none-unsound : soundWords (lent []) ≡ false

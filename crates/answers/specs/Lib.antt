@@ -1,4 +1,2 @@
--- What a line of a script is answered, and how a line is gathered. Rests on the crates `lines`, `replies`, `store` and
--- `format`.
+-- What a line of a script is answered. Rests on the crates `fields`, `replies`, `store` and `format`.
 pub mod Script
-pub mod Gathered

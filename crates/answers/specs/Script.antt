@@ -1,24 +1,22 @@
 -- What a line of a script prints and what the program has after it: "Before the first F that succeeds every other call
--- prints `no 1`; a refused F keeps the earlier store"; "It lays out at most 8,000 words (more: `no 16`)". Rests on the
--- calls of meaning, the layout of tables, and lines.
+-- prints `no 1`; a refused F keeps the earlier store". Rests on the calls of meaning, the words of tables,
+-- `format_room`, `fields` and `replies`.
 use Prim.Native.Nat.{ℕ, _≤_}
 use mathlib.Core.Path.{_≡_}
-use mathlib.Core.Bool.{Bool, true, false, cond, _&&_}
+use mathlib.Core.Bool.{Bool, true, false}
 use mathlib.Core.List.{List, []}
 use lib.ListN.{length, take}
-use lib.Dec.{leb}
 use Rattle.meaning.specs.Store.{Store, fresh}
 use Rattle.meaning.specs.Calls.{act}
-use Rattle.meaning.specs.Records.{goodCounts}
 use Rattle.meaning.specs.declared.Call.{Call}
 use Rattle.meaning.specs.declared.Counts.{Counts}
-use Rattle.tables.specs.Layout.{sizeOf}
 use Rattle.tables.specs.Words.{lent, decode, soundWords}
+use Rattle.format_room.specs.Room.{roomFor}
 use Rattle.replies.specs.Lines.{lineOf}
 use Rattle.replies.specs.declared.Line.{Line}
 use Rattle.replies.specs.declared.Line.the-variants as L
-use Rattle.lines.specs.declared.Parsed.{Parsed}
-use Rattle.lines.specs.declared.Parsed.the-variants as P
+use Rattle.fields.specs.declared.Parsed.{Parsed}
+use Rattle.fields.specs.declared.Parsed.the-variants as P
 
 -- the store, if a Format has succeeded
 pub data Has : Type 0 where
@@ -33,14 +31,6 @@ Stands (one s) w = (soundWords (lent w) ≡ true) × (decode (lent w) ≡ s)
 pub record Said : Type 0 where
   pub line : Line
   pub has : Has
-
--- the counts are in range, and there is room for the words that they ask for
-unfoldable pub roomFor : ℕ → Counts → Bool
-roomFor room c = goodCounts c && leb (sizeOf c) room
-
--- how many words Format is lent
-unfoldable pub wordsFor : ℕ → Counts → ℕ
-wordsFor room c = cond (roomFor room c) (sizeOf c) 0
 
 abbrev pub formatted : Counts → Bool → Has → Said
 formatted c true h = record { line = L.Ok; has = one (fresh c) }

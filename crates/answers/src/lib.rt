@@ -1,15 +1,14 @@
 // A line run on the store, by the public calls. The store is the part of the words that is in use; before the first
-// Format that succeeds it is empty, and no empty slice is a sound store. Rests on the crates `meaning`, `tables`,
-// `format`, `store`, `printing`, `rendering` and `lines`.
-mod gathering;
-
+// Format that succeeds it is empty, and no empty slice is a sound store. Rests on the crates `meaning`, `format`,
+// `format_room`, `store`, `replies`, `rendering`, `fields` and `lines`.
 ghost use mathlib.Core.Path.{_≡_};
 ghost use Prim.Native.Nat.{_≤_};
 ghost use lib.ListN.{length, take};
 ghost use Rattle.lines.specs.Calls.{parsed};
-ghost use Rattle.answers.specs.Script.{Says, Answers, called, formatted, said, roomFor, wordsFor};
-pub use gathering::gather;
-use lines::Parsed;
+ghost use Rattle.answers.specs.Script.{Says, Answers, called, formatted, said};
+ghost use Rattle.format_room.specs.Room.{roomFor};
+use fields::Parsed;
+use format_room::words_for;
 use lines::parse;
 use meaning::Call;
 use meaning::Counts;
@@ -23,18 +22,6 @@ use store::perform;
 pub struct Answered {
     pub line: Line,
     pub used: usize,
-}
-
-// How many words Format is lent: as many as the counts ask for, or none where they are out of range or ask for more
-// than there is room. Lent none, Format refuses with 16.
-fn words_for(c: Counts, room: usize) -> usize
-    ensures { λ r. ⌜ r ≡ wordsFor room c ⌝ }
-{
-    if !tables::good_counts(c) {
-        return 0;
-    }
-    let n = tables::size_of(c);
-    if n <= room { n } else { 0 }
 }
 
 // Format: the words in use stay the same if it is refused.

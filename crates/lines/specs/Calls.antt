@@ -1,70 +1,19 @@
 -- Which call a script line is, by document 01: "F records edits versions locks accesses; B; W handle record value; L
 -- handle record low high flag; R handle record m flag; C handle E, L or point, S or K; A handle S or K; S handle; P
--- record b; V record p". Any other line, one of more than 200 bytes among them, is malformed. Rests on Fields and the
--- types of meaning.
+-- record b; V record p". Any other line, one of more than 200 bytes among them, is malformed. Rests on Fields and Kinds
+-- of the crate `fields` and the types of meaning.
 use Prim.Native.Nat.{ℕ}
 use Prim.Native.Char.{code}
 use mathlib.Core.Bool.{cond}
 use mathlib.Core.List.{List}
 use lib.ListN.{length}
 use lib.Dec.{leb, eqb}
-use Rattle.lines.specs.Fields.{fields, number, letterOr, done}
-use Rattle.lines.specs.declared.Parsed.{Parsed}
-use Rattle.lines.specs.declared.Parsed.the-variants as P
-use Rattle.meaning.specs.declared.Handle.{Handle}
-use Rattle.meaning.specs.declared.Point.{Point}
+use Rattle.fields.specs.Fields.{fields, number, done}
+use Rattle.fields.specs.Kinds.{Fields, handle, point, letter, extent, finish, pick}
+use Rattle.fields.specs.declared.Parsed.{Parsed}
+use Rattle.fields.specs.declared.Parsed.the-variants as P
 use Rattle.meaning.specs.declared.Counts.{Counts}
-use Rattle.meaning.specs.declared.Extent.{Extent}
-use Rattle.meaning.specs.declared.Extent.the-variants as X
-use Rattle.meaning.specs.declared.Finish.{Finish}
-use Rattle.meaning.specs.declared.Finish.the-variants as F
-use Rattle.meaning.specs.declared.Pick.{Pick}
-use Rattle.meaning.specs.declared.Pick.the-variants as K
 use Rattle.meaning.specs.declared.Call.the-variants as C
-
-abbrev pub Fields : Type 0
-Fields = List (List ℕ)
-
--- what follows from a flag or a pick, and from the fields after it
-abbrev pub ExtentNext : Type 0
-ExtentNext = Extent → Fields → Parsed
-
-abbrev pub FinishNext : Type 0
-FinishNext = Finish → Fields → Parsed
-
-abbrev pub PickNext : Type 0
-PickNext = Pick → Fields → Parsed
-
-abbrev pub handle : ℕ → Handle
-handle n = record { 0 = n }
-
-abbrev pub point : ℕ → Point
-point n = record { 0 = n }
-
-abbrev pub letter : Fields → (ℕ → Fields → Parsed) → Parsed
-letter fs next = letterOr fs P.Malformed next
-
--- the flag A or P
-unfoldable pub extent : Fields → ExtentNext → Parsed
-extent fs next =
-    letter fs
-    (λ b rest. cond (eqb b (code "A")) (next X.All rest) (cond (eqb b (code "P")) (next X.Part rest) P.Malformed))
-
--- the flag S or K
-unfoldable pub finish : Fields → FinishNext → Parsed
-finish fs next =
-    letter fs
-    (λ b rest. cond (eqb b (code "S")) (next F.Settle rest) (cond (eqb b (code "K")) (next F.Keep rest) P.Malformed))
-
-abbrev pub named : Fields → PickNext → Parsed
-named fs next = number fs (λ p rest. next (K.Named (point p)) rest)
-
--- E, L or a point
-unfoldable pub pick : Fields → PickNext → Parsed
-pick fs next =
-    letterOr fs (named fs next)
-    (λ b rest. cond (eqb b (code "E")) (next K.Earliest rest)
-    (cond (eqb b (code "L")) (next K.Latest rest) (named fs next)))
 
 abbrev pub counts : ℕ → ℕ → ℕ → ℕ → ℕ → Counts
 counts r e v l a = record { records = r; edits = e; versions = v; locks = l; accesses = a }

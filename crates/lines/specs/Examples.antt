@@ -1,5 +1,5 @@
 -- Computed examples: the session of document 01 from its texts and back to them, and lines at the edges of the form.
--- proofs/Examples computes each claim. Rests on Calls, Shown and meaning's session.
+-- proofs/Examples computes each claim. Rests on Calls, on Shown of the crate `printing` and meaning's session.
 use Prim.Native.Nat.{ℕ}
 use mathlib.Core.Path.{_≡_}
 use mathlib.Core.List.{List, [], _∷_, map}
@@ -7,12 +7,13 @@ use lib.ListN.{replicate}
 use Rattle.meaning.specs.Session.{session, sessionReplies}
 use Rattle.meaning.specs.Calls as M
 use Rattle.meaning.specs.declared.Call.the-variants as C
-use Rattle.printing.specs.Text.{text}
-use Rattle.lines.specs.Calls.{handle, point, parsed}
+use Rattle.texts.specs.Text.{text}
+use Rattle.fields.specs.Kinds.{handle}
+use Rattle.lines.specs.Calls.{parsed}
 use Rattle.printing.specs.Shown.{shown}
 use Rattle.replies.specs.Lines.{lineOf}
-use Rattle.lines.specs.declared.Parsed.{Parsed}
-use Rattle.lines.specs.declared.Parsed.the-variants as P
+use Rattle.fields.specs.declared.Parsed.{Parsed}
+use Rattle.fields.specs.declared.Parsed.the-variants as P
 
 abbrev pub ofLine : M.Line → Parsed
 ofLine (M.format c) = P.Format c

@@ -1,20 +1,20 @@
-// The calls, one function for each letter, and the whole line. Rests on the crate `meaning` and on the module `fields`.
+// The calls, one function for each letter, and the whole line. Rests on the crates `meaning` and `fields`.
 ghost use mathlib.Core.Path.{_≡_};
 ghost use Rattle.lines.specs.Calls.{formatting, beginning, writing, locking, reading, committing, aborting};
 ghost use Rattle.lines.specs.Calls.{settling, purging, viewing, called as called·of, parsed};
-ghost use Rattle.lines.specs.Cursor.{left};
-use crate::FoundExtent;
-use crate::FoundFinish;
-use crate::FoundLetter;
-use crate::FoundNumber;
-use crate::FoundPick;
+ghost use Rattle.fields.specs.Cursor.{left};
 use crate::LONGEST;
-use crate::Parsed;
-use crate::fields::extent;
-use crate::fields::finish;
-use crate::fields::letter;
-use crate::fields::number;
-use crate::fields::pick;
+use fields::FoundExtent;
+use fields::FoundFinish;
+use fields::FoundLetter;
+use fields::FoundNumber;
+use fields::FoundPick;
+use fields::Parsed;
+use fields::extent;
+use fields::finish;
+use fields::letter;
+use fields::number;
+use fields::pick;
 use meaning::Call;
 use meaning::Counts;
 

@@ -1,3 +1,2 @@
--- Laws of printing: bytes put one after another, and the decimal digits of a number. Rests on specs/Shown.
-pub mod Writes
-pub mod Decimal
+-- A whole line written. Rests on specs/Shown.
+pub mod Printed

@@ -1,3 +1,2 @@
--- What is printed.
-pub mod Text
+-- What is printed. Rests on the crates `replies` and `texts`.
 pub mod Shown

@@ -2,7 +2,7 @@
 // chain run in a circle, and on the empty slice, and prints each reply and whether any word moved. A store
 // that is not sound must reply `no 1` and keep every word; on the sound one each call has another reply, so that the
 // lines can differ. Rests on `store` and, for the text of calls and replies, on `lines`.
-use lines::Parsed;
+use fields::Parsed;
 use meaning::Call;
 use replies::Line;
 
@@ -29,12 +29,12 @@ enum Part {
 // The reply of the call's own function.
 fn direct(words: &mut [u64], call: Call) -> Line {
     match call {
-        Call::Begin => replies::line_of_begin(store::begin(words)),
+        Call::Begin => value_replies::line_of_begin(store::begin(words)),
         Call::Write(h, rec, value) => replies::line_of_write(store::write(words, h, rec, value)),
         Call::Lock(h, rec, low, high, extent) => {
-            replies::line_of_lock(store::lock(words, h, rec, low, high, extent))
+            value_replies::line_of_lock(store::lock(words, h, rec, low, high, extent))
         }
-        Call::Read(h, rec, m, extent) => replies::line_of_read(store::read(
+        Call::Read(h, rec, m, extent) => value_replies::line_of_read(store::read(
             words,
             h,
             rec,
@@ -42,12 +42,12 @@ fn direct(words: &mut [u64], call: Call) -> Line {
             extent,
         )),
         Call::Commit(h, pick, finish) => {
-            replies::line_of_commit(store::commit(words, h, pick, finish))
+            value_replies::line_of_commit(store::commit(words, h, pick, finish))
         }
         Call::Abort(h, finish) => replies::line_of_abort(store::abort(words, h, finish)),
         Call::Settle(h) => replies::line_of_settle(store::settle(words, h)),
-        Call::Purge(rec, b) => replies::line_of_purge(store::purge(words, rec, b)),
-        Call::View(rec, p) => replies::line_of_view(store::view(words, rec, p)),
+        Call::Purge(rec, b) => value_replies::line_of_purge(store::purge(words, rec, b)),
+        Call::View(rec, p) => value_replies::line_of_view(store::view(words, rec, p)),
     }
 }
 

@@ -5,15 +5,15 @@ ghost use Rattle.store.specs.Answers.{ofAnswer};
 ghost use Rattle.replies.specs.Lines.{lineOf};
 use replies::Line;
 use replies::line_of_abort;
-use replies::line_of_begin;
-use replies::line_of_commit;
-use replies::line_of_lock;
-use replies::line_of_purge;
-use replies::line_of_read;
 use replies::line_of_settle;
-use replies::line_of_view;
 use replies::line_of_write;
 use store::Answer;
+use value_replies::line_of_begin;
+use value_replies::line_of_commit;
+use value_replies::line_of_lock;
+use value_replies::line_of_purge;
+use value_replies::line_of_read;
+use value_replies::line_of_view;
 
 // The line of an answer: that of its reply.
 pub fn line_of_answer(a: Answer) -> Line

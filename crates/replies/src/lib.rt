@@ -1,20 +1,13 @@
-// The line of each reply, by meaning's number and values of its case; `printing` writes a line. Rests on the crate
-// `meaning`.
+// What a line prints, and the line of a refusal and of each call that answers `ok`, by meaning's number and values of
+// its case. `value_replies` has the calls that answer values; `printing` writes a line. Rests on the crate `meaning`.
 ghost use mathlib.Core.Path.{_≡_};
-ghost use Rattle.meaning.specs.Replies.{ofRefusal, ofFormat, ofBegin, ofWrite, ofLock, ofRead, ofCommit, ofAbort};
-ghost use Rattle.meaning.specs.Replies.{ofSettle, ofPurge, ofView};
+ghost use Rattle.meaning.specs.Replies.{ofRefusal, ofFormat, ofWrite, ofAbort, ofSettle};
 ghost use Rattle.replies.specs.Lines.{lineOf};
 use meaning::AbortReply;
-use meaning::BeginReply;
-use meaning::CommitReply;
 use meaning::FormatReply;
-use meaning::LockReply;
-use meaning::PurgeReply;
-use meaning::ReadReply;
 use meaning::Refusal;
 use meaning::SettleReply;
 use meaning::Value;
-use meaning::ViewReply;
 use meaning::WriteReply;
 
 // What a line prints: a reply, or `?`.
@@ -58,7 +51,7 @@ pub fn line_of_refusal(r: Refusal) -> Line
     }
 }
 
-// The line of each call's reply.
+// The line of the reply of each call that answers `ok`.
 pub fn line_of_format(r: FormatReply) -> Line
     ensures { λ l. ⌜ l ≡ lineOf (ofFormat r) ⌝ }
 {
@@ -68,58 +61,12 @@ pub fn line_of_format(r: FormatReply) -> Line
     }
 }
 
-pub fn line_of_begin(r: BeginReply) -> Line
-    ensures { λ l. ⌜ l ≡ lineOf (ofBegin r) ⌝ }
-{
-    match r {
-        BeginReply::Edit(h) => Line::Edit(meaning::word_of_handle(h)),
-        BeginReply::Refused(x) => line_of_refusal(x),
-    }
-}
-
 pub fn line_of_write(r: WriteReply) -> Line
     ensures { λ l. ⌜ l ≡ lineOf (ofWrite r) ⌝ }
 {
     match r {
         WriteReply::Done => Line::Ok,
         WriteReply::Refused(x) => line_of_refusal(x),
-    }
-}
-
-pub fn line_of_lock(r: LockReply) -> Line
-    ensures { λ l. ⌜ l ≡ lineOf (ofLock r) ⌝ }
-{
-    match r {
-        LockReply::Locked(low, high) => Line::Locked(
-            meaning::word_of_point(low),
-            meaning::word_of_point(high),
-        ),
-        LockReply::Refused(x) => line_of_refusal(x),
-    }
-}
-
-pub fn line_of_read(r: ReadReply) -> Line
-    ensures { λ l. ⌜ l ≡ lineOf (ofRead r) ⌝ }
-{
-    match r {
-        ReadReply::Read(tr, end, v) => Line::Read(
-            meaning::word_of_point(tr),
-            meaning::word_of_point(end),
-            v,
-        ),
-        ReadReply::Own(v) => Line::Own(v),
-        ReadReply::Again(tr, v) => Line::Again(meaning::word_of_point(tr), v),
-        ReadReply::Refused(x) => line_of_refusal(x),
-    }
-}
-
-pub fn line_of_commit(r: CommitReply) -> Line
-    ensures { λ l. ⌜ l ≡ lineOf (ofCommit r) ⌝ }
-{
-    match r {
-        CommitReply::Commit(p) => Line::Commit(meaning::word_of_point(p)),
-        CommitReply::NoPoint => Line::NoPoint,
-        CommitReply::Refused(x) => line_of_refusal(x),
     }
 }
 
@@ -138,23 +85,5 @@ pub fn line_of_settle(r: SettleReply) -> Line
     match r {
         SettleReply::Done => Line::Ok,
         SettleReply::Refused(x) => line_of_refusal(x),
-    }
-}
-
-pub fn line_of_purge(r: PurgeReply) -> Line
-    ensures { λ l. ⌜ l ≡ lineOf (ofPurge r) ⌝ }
-{
-    match r {
-        PurgeReply::Purged(versions, locks) => Line::Purged(versions, locks),
-        PurgeReply::Refused(x) => line_of_refusal(x),
-    }
-}
-
-pub fn line_of_view(r: ViewReply) -> Line
-    ensures { λ l. ⌜ l ≡ lineOf (ofView r) ⌝ }
-{
-    match r {
-        ViewReply::At(p, v) => Line::At(meaning::word_of_point(p), v),
-        ViewReply::Refused(x) => line_of_refusal(x),
     }
 }

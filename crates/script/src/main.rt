@@ -1,9 +1,7 @@
 // The script program: standard input has one call a line, and each line is answered by one line on standard output. It
 // runs the public calls of the store. It reads and writes in blocks, and its memory does not grow with the input. Rests
-// on the crates `io`, `libc`, `meaning`, `tables`, `format`, `store`, `printing` and `lines`.
-//
-// This file reads blocks; `gathering` makes lines of bytes, `answers` runs a line on the store, and `output` collects
-// what is to be written.
+// on the crates `io`, `libc`, `lines`, `gathering`, which makes lines of bytes, and `answers`, which runs a line on the
+// store. This file reads blocks; `output` collects what is to be written.
 ghost use Prim.Native.Nat.{_≤_};
 ghost use lib.ListN.{length};
 ghost use Rattle.script.specs.Run.{Inside};
@@ -11,7 +9,7 @@ ghost use Rattle.script.specs.Run.{Inside};
 mod output;
 
 use answers::answer;
-use answers::gather;
+use gathering::gather;
 use output::BUFFER;
 use output::NEWLINE;
 use output::finish;

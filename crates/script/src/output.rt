@@ -2,7 +2,7 @@
 // `io` and `libc`.
 ghost use Prim.Native.Nat.{_+_, _≤_};
 ghost use lib.ListN.{length};
-ghost use Rattle.printing.specs.Text.{WIDTH};
+ghost use Rattle.printing.specs.Shown.{WIDTH};
 ghost use Rattle.script.specs.Run.{BUFFER};
 use replies::Line;
 

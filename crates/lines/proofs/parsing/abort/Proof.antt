@@ -3,7 +3,7 @@
 use borrow.Author.Needs.{needs}
 use mathlib.Core.Path.{sym, _∙_}
 use Rattle.lines.specs.Calls.{aborting}
-use Rattle.lines.proofs.Found.{number-at, number-off, finish-at, finish-off, done-past, done-within, handle-is}
+use Rattle.fields.proofs.Found.{number-at, number-off, finish-at, finish-off, done-past, done-within, handle-is}
 use Rattle.lines.proofs.parsing.abort.Statement.{statement}
 use Rattle.lines.proofs.parsing.abort.Tie as tie
 

@@ -2,7 +2,7 @@
 -- Assumes nothing.
 use mathlib.Core.Path.{sym}
 use Rattle.lines.specs.Calls.{beginning}
-use Rattle.lines.proofs.Found.{done-past, done-within}
+use Rattle.fields.proofs.Found.{done-past, done-within}
 use Rattle.lines.proofs.parsing.begin.Statement.{statement}
 use Rattle.lines.proofs.parsing.begin.Tie as tie
 

@@ -3,8 +3,8 @@
 use borrow.Author.Needs.{needs}
 use mathlib.Core.Path.{sym, _∙_}
 use Rattle.lines.specs.Calls.{committing}
-use Rattle.lines.proofs.Found.{number-at, number-off, finish-at, finish-off, pick-at, pick-off, done-past}
-use Rattle.lines.proofs.Found.{done-within, handle-is}
+use Rattle.fields.proofs.Found.{number-at, number-off, finish-at, finish-off, pick-at, pick-off, done-past}
+use Rattle.fields.proofs.Found.{done-within, handle-is}
 use Rattle.lines.proofs.parsing.commit.Statement.{statement}
 use Rattle.lines.proofs.parsing.commit.Tie as tie
 

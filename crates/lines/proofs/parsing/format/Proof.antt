@@ -3,7 +3,7 @@
 use borrow.Author.Needs.{needs}
 use mathlib.Core.Path.{sym, _∙_}
 use Rattle.lines.specs.Calls.{formatting}
-use Rattle.lines.proofs.Found.{number-at, number-off, done-past, done-within}
+use Rattle.fields.proofs.Found.{number-at, number-off, done-past, done-within}
 use Rattle.lines.proofs.parsing.format.Statement.{statement}
 use Rattle.lines.proofs.parsing.format.Tie as tie
 

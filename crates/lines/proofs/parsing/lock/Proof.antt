@@ -3,8 +3,8 @@
 use borrow.Author.Needs.{needs}
 use mathlib.Core.Path.{sym, _∙_}
 use Rattle.lines.specs.Calls.{locking}
-use Rattle.lines.proofs.Found.{number-at, number-off, extent-at, extent-off, done-past, done-within, handle-is}
-use Rattle.lines.proofs.Found.{point-is}
+use Rattle.fields.proofs.Found.{number-at, number-off, extent-at, extent-off, done-past, done-within, handle-is}
+use Rattle.fields.proofs.Found.{point-is}
 use Rattle.lines.proofs.parsing.lock.Statement.{statement}
 use Rattle.lines.proofs.parsing.lock.Tie as tie
 

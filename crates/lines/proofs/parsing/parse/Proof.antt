@@ -5,7 +5,7 @@ use mathlib.Core.Path.{sym, _∙_}
 use lib.ListN.{length}
 use borrow.Author.Tests.{lt-leb, le-leb}
 use Rattle.lines.specs.Calls.{LONGEST, parsed}
-use Rattle.lines.proofs.Found.{letter-at, letter-off, left-all}
+use Rattle.fields.proofs.Found.{letter-at, letter-off, left-all}
 use Rattle.lines.proofs.parsing.parse.Statement.{statement}
 use Rattle.lines.proofs.parsing.parse.Tie as tie
 

@@ -3,7 +3,7 @@
 use borrow.Author.Needs.{needs}
 use mathlib.Core.Path.{sym, _∙_}
 use Rattle.lines.specs.Calls.{purging}
-use Rattle.lines.proofs.Found.{number-at, number-off, done-past, done-within, point-is}
+use Rattle.fields.proofs.Found.{number-at, number-off, done-past, done-within, point-is}
 use Rattle.lines.proofs.parsing.purge.Statement.{statement}
 use Rattle.lines.proofs.parsing.purge.Tie as tie
 

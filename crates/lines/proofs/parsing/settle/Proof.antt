@@ -3,9 +3,9 @@
 use borrow.Author.Needs.{needs}
 use mathlib.Core.Path.{sym, ap, _∙_}
 use Rattle.meaning.specs.declared.Call.the-variants as C
-use Rattle.lines.specs.declared.Parsed.the-variants as P
+use Rattle.fields.specs.declared.Parsed.the-variants as P
 use Rattle.lines.specs.Calls.{settling}
-use Rattle.lines.proofs.Found.{number-at, number-off, done-past, done-within, handle-is}
+use Rattle.fields.proofs.Found.{number-at, number-off, done-past, done-within, handle-is}
 use Rattle.lines.proofs.parsing.settle.Statement.{statement}
 use Rattle.lines.proofs.parsing.settle.Tie as tie
 

@@ -1,0 +1,2 @@
+-- The room that a Format of a script has. Rests on the crates `meaning` and `tables`.
+pub mod Room

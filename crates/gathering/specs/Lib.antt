@@ -1,0 +1,2 @@
+-- How a line is gathered. Rests on nothing.
+pub mod Gathered
