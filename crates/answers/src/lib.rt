@@ -1,6 +1,6 @@
 // A line run on the store, by the public calls. The store is the part of the words that is in use; before the first
 // Format that succeeds it is empty, and no empty slice is a sound store. Rests on the crates `meaning`, `tables`,
-// `format`, `store`, `printing`, `rendering` and `lines`.
+// `format`, `store`, `replies`, `rendering` and `lines`.
 mod gathering;
 
 ghost use mathlib.Core.Path.{_≡_};

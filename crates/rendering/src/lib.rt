@@ -1,8 +1,9 @@
 // The line that prints the answer of `perform`, for every program that runs calls read from text. Rests on the crates
-// `meaning`, `store` and `replies`.
+// `meaning` and `replies`.
 ghost use mathlib.Core.Path.{_≡_};
-ghost use Rattle.store.specs.Answers.{ofAnswer};
+ghost use Rattle.meaning.specs.Replies.{ofAnswer};
 ghost use Rattle.replies.specs.Lines.{lineOf};
+use meaning::Answer;
 use replies::Line;
 use replies::line_of_abort;
 use replies::line_of_begin;
@@ -13,7 +14,6 @@ use replies::line_of_read;
 use replies::line_of_settle;
 use replies::line_of_view;
 use replies::line_of_write;
-use store::Answer;
 
 // The line of an answer: that of its reply.
 pub fn line_of_answer(a: Answer) -> Line

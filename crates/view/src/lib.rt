@@ -1,7 +1,6 @@
 // The chart reader: a struct that holds the lent store and answers from it. It is made once, with the one check of the
 // words, and asked many times; an ask costs one record's version chain. Nobody outside this file can make a reader
-// whose flag is not the check's verdict. Rests on the crates `meaning`, `chains`, `tables`, `lookups`, `soundness` and
-// `calls`.
+// whose flag is not the check's verdict. Rests on the crates `meaning`, `tables`, `soundness` and `calls`.
 ghost use mathlib.Core.Path.{_≡_};
 ghost use mathlib.Core.Bool.{Bool};
 ghost use Rattle.meaning.specs.Replies.{ofView};
