@@ -1,6 +1,3 @@
--- Laws of the rows of replies, of the kinds of calls and of lists of calls.
-pub mod Telling
-pub mod Decoding
+-- The batch call by call, and its law. Rests on specs/ and on Rows of the crate `encoding`.
 pub mod Running
-pub mod Viewing
 pub mod Laws

@@ -1,5 +1,5 @@
 -- The batch call by call: after i turns the first i calls are done, each with its own contract, and told. Rests on
--- Telling and on the lists of calls of `history`.
+-- Rows of `encoding` and on the lists of calls of `history`.
 use Prim.Native.Nat.{ℕ, _+_, _*_, _≤_, _<_}
 use mathlib.Core.Path.{_≡_, refl, sym, ap, _∙_}
 use mathlib.Core.Bool.{Bool, true, false}
@@ -15,9 +15,9 @@ use Rattle.meaning.specs.Contract as contract
 use Rattle.tables.specs.Words.{Lent, lent, decode, soundWords}
 use Rattle.history.specs.Words.{Calls, done, then}
 use Rattle.store.specs.Answers.{Does}
-use Rattle.batch.specs.Encoding.{CALL-WORDS, NUMBERS, REPLY-WORDS, callAt, callsOf}
+use Rattle.encoding.specs.Encoding.{CALL-WORDS, NUMBERS, REPLY-WORDS, callAt, callsOf}
 use Rattle.batch.specs.Runs.{Answers, Steps, Runs, fitting}
-use Rattle.batch.proofs.Telling.{Told, told-none, told-more}
+use Rattle.encoding.proofs.Rows.{Told, told-none, told-more}
 
 -- the list of calls grows at its end
 calls-more : (c : Call) {w w₁ w₂ : Lent} {q : Reply} {cs : List Call} {qs : List Reply}

@@ -1,5 +1,3 @@
--- Calls and replies as words, and what the batch and the many views do.
-pub mod Encoding
+-- What the batch promises, and what that implies. Rests on the crates `encoding`, `store` and `history`.
 pub mod Runs
-pub mod Views
 pub mod Laws

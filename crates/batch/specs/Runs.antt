@@ -1,5 +1,6 @@
 -- What the batch promises: the calls of the list, each with its own contract on what the one before left, and their
--- replies as rows of words. Rests on Encoding and on the lists of calls of `history`.
+-- replies as rows of words. Rests on Encoding of the crate `encoding` and on the lists of calls of
+-- `history`.
 use Prim.Native.Nat.{ℕ, _*_, _/_, min}
 use mathlib.Core.Path.{_≡_}
 use mathlib.Core.List.{List, _++_}
@@ -11,7 +12,7 @@ use Rattle.meaning.specs.declared.Call.{Call}
 use Rattle.tables.specs.Words.{Lent, lent, decode, soundWords}
 use Rattle.history.specs.Words.{Calls}
 use Rattle.store.specs.Answers.{Does}
-use Rattle.batch.specs.Encoding.{CALL-WORDS, NUMBERS, REPLY-WORDS, callAt, callsOf, rowOf, rowsOf}
+use Rattle.encoding.specs.Encoding.{CALL-WORDS, NUMBERS, REPLY-WORDS, callAt, callsOf, rowOf, rowsOf}
 
 -- one call: its contract, and its reply as a row of words
 pub record Answers (call : Call) (before after row : List ℕ) : Type 0 where

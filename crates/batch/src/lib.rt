@@ -1,38 +1,24 @@
 // Many calls after one check of the words: a lent list of calls as rows of words, and a lent area for their replies.
-// The public functions have no `requires`. Each call leaves the words as sound as they were, so that one check serves
-// all. Rests on the crates `meaning`, `tables`, `soundness`, `format`, `history`, `calls`, `locking`, `reading`,
-// `endings`, `commits`, `purges`, `store` and `codes`.
-ghost use Prim.Native.Nat.{_+_, _*_, _≤_, min};
+// The public function has no `requires`. Each call leaves the words as sound as they were, so that one check serves
+// all. Rests on the crates `meaning`, `tables`, `soundness`, `format`, `history`, `store`, `codes`, `encoding` and
+// `performing`.
+ghost use Prim.Native.Nat.{_+_, _*_, _≤_};
 ghost use mathlib.Core.Path.{_≡_};
 ghost use lib.ListN.{length};
 ghost use Rattle.tables.specs.Words.{lent, soundWords};
-ghost use Rattle.batch.specs.Encoding.{CALL-WORDS, REPLY-WORDS, wordsOf};
+ghost use Rattle.encoding.specs.Encoding.{CALL-WORDS, REPLY-WORDS, wordsOf};
 ghost use Rattle.batch.specs.Runs.{Answers, Steps, Runs};
-ghost use Rattle.batch.specs.Views.{Views};
-use asks::ASK_WORDS;
-use asks::VIEW_WORDS;
-use asks::view_step;
 use encoding::CALL_WORDS;
+use encoding::REPLY_WORDS;
+use encoding::Row;
 use encoding::call_at;
-use known::perform;
+use encoding::least;
+use encoding::put_row;
+use encoding::row_0;
+use encoding::row_of;
 use meaning::Call;
 use meaning::Refusal;
-use rows::REPLY_WORDS;
-use rows::Row;
-use rows::put_row;
-use rows::row_0;
-use rows::row_of;
-
-mod asks;
-mod encoding;
-mod known;
-mod rows;
-
-fn least(a: usize, b: usize) -> usize
-    ensures { λ r. ⌜ r ≡ min a b ⌝ }
-{
-    if a <= b { a } else { b }
-}
+use performing::perform;
 
 // The call on words of which it is known whether they are sound, and its reply as a row.
 fn answer(words: &mut [u64], good: bool, call: Call) -> Row
@@ -76,22 +62,6 @@ pub fn run(words: &mut [u64], list: &[u64], replies: &mut [u64]) -> usize
     let mut i = 0;
     while i < n {
         step(words, good, list, i, replies);
-        i += 1;
-    }
-    n
-}
-
-// Answers the asks of the list in their order, until the list ends or the next reply has no room; returns how many.
-pub fn views(words: &[u64], list: &[u64], replies: &mut [u64]) -> usize
-    ensures { λ n. ⌜
-        Views (now (words .entry)) (now (list .entry)) (now (replies .entry)) (now (replies .exit)) n
-        ⌝ }
-{
-    let good = soundness::check(words);
-    let n = least(list.len() / ASK_WORDS, replies.len() / VIEW_WORDS);
-    let mut i = 0;
-    while i < n {
-        view_step(words, good, list, i, replies);
         i += 1;
     }
     n

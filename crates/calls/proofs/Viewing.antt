@@ -12,16 +12,24 @@ use Rattle.meaning.specs.Store.{Rec, Store, recAt, newestAt}
 use Rattle.meaning.specs.Replies.{at, refusing}
 use Rattle.meaning.specs.Outcomes.{Outcome, hasRecord}
 use Rattle.meaning.specs.Records.{viewing}
+use Rattle.meaning.specs.Sound.{soundStore}
 use Rattle.meaning.specs.declared.Counts.{Counts}
 use Rattle.meaning.specs.declared.Version.{Version}
 use Rattle.tables.specs.Layout.{HEADER, countsOf, sizeOf, headerOk, Fits}
 use Rattle.tables.specs.Decode.{recordAt, decodeAt}
-use Rattle.tables.specs.Words.{lent, decode}
+use Rattle.tables.specs.Words.{lent, decode, formed, formedAt, soundWords}
+use Rattle.meaning.proofs.Lists.{and-left}
 use Rattle.tables.proofs.Header.{header-fits}
 use Rattle.tables.proofs.Decoded.{rec-at}
 use Rattle.calls.proofs.Acting.{decode-at}
 use Rattle.calls.proofs.Handles.{has-record-is}
 use Rattle.calls.proofs.Exits.{view-no-record, view-bad-point, view-below, view-done}
+
+-- sound words have a good header
+pub sound-header : (w : List ℕ) → soundWords (lent w) ≡ true → headerOk w ≡ true
+unfolding soundWords formed
+sound-header w h =
+    and-left (headerOk w) (formedAt (countsOf w) w) (and-left (formed w) (soundStore (decode (lent w))) h)
 
 pub header-there : (w : List ℕ) → headerOk w ≡ true → HEADER ≤ length w
 unfolding sizeOf

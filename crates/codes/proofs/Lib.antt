@@ -1,3 +1,3 @@
--- How a reply is told by a number and lent numbers, and the laws of these numbers. Rests on specs/.
-pub mod Telling
+-- The cases of a refusal's number and of the flags, and the laws of the numbers of replies. Rests on specs/.
+pub mod Cases
 pub mod Laws

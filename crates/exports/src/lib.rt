@@ -1,6 +1,7 @@
 // The library that a product links: each call as a C function over lent words and numbers, and many calls as one. A
 // call returns 0 for granted, else the number of the refusal. None has a `requires`; the contract of each is the
-// promise of its call. Rests on the crates `meaning`, `format`, `store`, `codes` and `batch`.
+// promise of its call. Rests on the crates `meaning`, `format`, `store`, `codes`, `telling`,
+// `batch` and `asks`.
 ghost use mathlib.Core.Path.{_≡_};
 ghost use mathlib.Core.List.{[], _∷_};
 ghost use Rattle.meaning.specs.Edits.{beginning, writing};
@@ -12,7 +13,7 @@ ghost use Rattle.format.specs.Format.{Formats};
 ghost use Rattle.store.specs.Answers.{Does, Shows};
 ghost use Rattle.codes.specs.Codes.{Answers, extentOf, finishOf, named, counts};
 ghost use Rattle.batch.specs.Runs.{Runs};
-ghost use Rattle.batch.specs.Views.{Views};
+ghost use Rattle.asks.specs.Views.{Views};
 use meaning::Counts;
 use meaning::Pick;
 
@@ -26,7 +27,7 @@ pub extern "C" fn zohetiwa_point(clock: u64, seat: u64, point: &mut u64) -> u64
         ⌝ }
 {
     let reply = store::point(meaning::reading_of(clock), meaning::seat_of(seat));
-    codes::point(reply, point)
+    telling::point(reply, point)
 }
 
 // Format. The counts are lengths of tables, so they are sizes.
@@ -55,7 +56,7 @@ pub extern "C" fn zohetiwa_format(
             accesses: accesses,
         },
     );
-    codes::format(reply)
+    telling::format(reply)
 }
 
 // Begin: the handle of the edit.
@@ -68,7 +69,7 @@ pub extern "C" fn zohetiwa_begin(words: &mut [u64], handle: &mut u64) -> u64
         ⌝ }
 {
     let reply = store::begin(words);
-    codes::begin(reply, handle)
+    telling::begin(reply, handle)
 }
 
 // Write: no further values.
@@ -79,7 +80,7 @@ pub extern "C" fn zohetiwa_write(words: &mut [u64], handle: u64, rec: u64, value
         ⌝ }
 {
     let reply = store::write(words, meaning::handle_of_word(handle), rec, value);
-    codes::write(reply)
+    telling::write(reply)
 }
 
 // Lock: the first and the last point locked.
@@ -104,7 +105,7 @@ pub extern "C" fn zohetiwa_lock(
     let from = meaning::point_of_word(low);
     let to = meaning::point_of_word(high);
     let reply = store::lock(words, h, rec, from, to, codes::extent(part));
-    codes::lock(reply, first, last)
+    telling::lock(reply, first, last)
 }
 
 // Read: which of its three replies, the point of the version, the last point locked, whether the value was ever
@@ -131,7 +132,7 @@ pub extern "C" fn zohetiwa_read(
     let h = meaning::handle_of_word(handle);
     let upto = meaning::point_of_word(m);
     let reply = store::read(words, h, rec, upto, codes::extent(part));
-    codes::read(reply, kind, tr, end, written, value)
+    telling::read(reply, kind, tr, end, written, value)
 }
 
 // Commit, a function for each choice of the point: the commit point.
@@ -154,7 +155,7 @@ pub extern "C" fn zohetiwa_commit_earliest(
         Pick::Earliest,
         codes::finish(keep),
     );
-    codes::commit(reply, point)
+    telling::commit(reply, point)
 }
 
 #[no_mangle]
@@ -176,7 +177,7 @@ pub extern "C" fn zohetiwa_commit_latest(
         Pick::Latest,
         codes::finish(keep),
     );
-    codes::commit(reply, point)
+    telling::commit(reply, point)
 }
 
 #[no_mangle]
@@ -196,7 +197,7 @@ pub extern "C" fn zohetiwa_commit_at(
     let h = meaning::handle_of_word(handle);
     let pick = Pick::Named(meaning::point_of_word(at));
     let reply = store::commit(words, h, pick, codes::finish(keep));
-    codes::commit(reply, point)
+    telling::commit(reply, point)
 }
 
 // Abort: no further values.
@@ -207,7 +208,7 @@ pub extern "C" fn zohetiwa_abort(words: &mut [u64], handle: u64, keep: u64) -> u
         ⌝ }
 {
     let reply = store::abort(words, meaning::handle_of_word(handle), codes::finish(keep));
-    codes::abort(reply)
+    telling::abort(reply)
 }
 
 // Settle: no further values.
@@ -216,7 +217,7 @@ pub extern "C" fn zohetiwa_settle(words: &mut [u64], handle: u64) -> u64
     ensures { λ code. ⌜ Answers (Does (settling handle) (now (words .entry)) (now (words .exit))) code [] [] ⌝ }
 {
     let reply = store::settle(words, meaning::handle_of_word(handle));
-    codes::settle(reply)
+    telling::settle(reply)
 }
 
 // Purge: the version rows and the lock rows freed.
@@ -235,7 +236,7 @@ pub extern "C" fn zohetiwa_purge(
         ⌝ }
 {
     let reply = store::purge(words, rec, meaning::point_of_word(b));
-    codes::purge(reply, versions, locks)
+    telling::purge(reply, versions, locks)
 }
 
 // View: the point of the version, whether it was ever written, its bits.
@@ -255,11 +256,11 @@ pub extern "C" fn zohetiwa_view(
         ⌝ }
 {
     let reply = store::view(words, rec, meaning::point_of_word(p));
-    codes::view(reply, point, written, value)
+    telling::view(reply, point, written, value)
 }
 
-// Many calls after one check of the words: how many were done. The crate `batch` says what the words of a call and of
-// a reply mean.
+// Many calls after one check of the words: how many were done. The crate `encoding` says what the words of a call and
+// of a reply mean.
 #[no_mangle]
 pub extern "C" fn zohetiwa_batch(words: &mut [u64], calls: &[u64], replies: &mut [u64]) -> u64
     ensures { λ n. ⌜
@@ -278,5 +279,5 @@ pub extern "C" fn zohetiwa_views(words: &[u64], asks: &[u64], replies: &mut [u64
         Views (now (words .entry)) (now (asks .entry)) (now (replies .entry)) (now (replies .exit)) n
         ⌝ }
 {
-    batch::views(words, asks, replies) as u64
+    asks::views(words, asks, replies) as u64
 }

@@ -32,6 +32,8 @@ use Rattle.meaning.specs.declared.PurgeReply.{PurgeReply}
 use Rattle.meaning.specs.declared.PurgeReply.the-variants as Pg
 use Rattle.meaning.specs.declared.ViewReply.{ViewReply}
 use Rattle.meaning.specs.declared.ViewReply.the-variants as Vw
+use Rattle.meaning.specs.declared.Answer.{Answer}
+use Rattle.meaning.specs.declared.Answer.the-variants as An
 
 -- "Replies: `ok`; `edit` handle; `locked` low high; `read` tr end value; `own` value; `again` tr value; `commit` point;
 -- `nopoint`; `purged` versions locks; `at` point value; `no` number (8: then the handle)." A refusal carries its number
@@ -164,3 +166,15 @@ ofPurge (Pg.Refused r) = ofRefusal r
 abbrev pub ofView : ViewReply → Reply
 ofView (Vw.At p v) = at (p .0) v
 ofView (Vw.Refused r) = ofRefusal r
+
+-- a call of any kind: that of its kind
+abbrev pub ofAnswer : Answer → Reply
+ofAnswer (An.Begin r) = ofBegin r
+ofAnswer (An.Write r) = ofWrite r
+ofAnswer (An.Lock r) = ofLock r
+ofAnswer (An.Read r) = ofRead r
+ofAnswer (An.Commit r) = ofCommit r
+ofAnswer (An.Abort r) = ofAbort r
+ofAnswer (An.Settle r) = ofSettle r
+ofAnswer (An.Purge r) = ofPurge r
+ofAnswer (An.View r) = ofView r

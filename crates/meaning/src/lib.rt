@@ -210,6 +210,19 @@ pub enum ViewReply {
     Refused(Refusal),
 }
 
+// The reply of a call of any kind.
+pub enum Answer {
+    Begin(BeginReply),
+    Write(WriteReply),
+    Lock(LockReply),
+    Read(ReadReply),
+    Commit(CommitReply),
+    Abort(AbortReply),
+    Settle(SettleReply),
+    Purge(PurgeReply),
+    View(ViewReply),
+}
+
 // A word as a clock reading; `make_point` refuses one above 2^40 - 1.
 pub fn reading_of(word: u64) -> Reading
     ensures { λ r. ⌜ r .0 ≡ word ⌝ }

@@ -2,13 +2,12 @@
 -- the contract records.
 use Prim.Native.Nat.{ℕ}
 use mathlib.Core.Path.{_≡_, refl, sym, _∙_}
-use mathlib.Core.Bool.{Bool, true, false, _&&_, false≢true}
+use mathlib.Core.Bool.{Bool, true, false, false≢true}
 use mathlib.Core.List.{List, []}
 use Rattle.meaning.specs.Store.{Store}
 use Rattle.meaning.specs.Replies.{Reply, refusing}
 use Rattle.meaning.specs.Outcomes.{Outcome}
-use Rattle.tables.specs.Layout.{headerOk}
-use Rattle.tables.specs.Words.{lent, decode, formed, formedAt, soundWords}
+use Rattle.tables.specs.Words.{lent, decode, soundWords}
 use Rattle.calls.specs.Contract.{Acts}
 use Rattle.store.specs.Answers.{Does, Shows}
 
@@ -42,12 +41,3 @@ shows-sound s e = record { unsound = λ u. never s u; reply = λ h. e }
 
 pub shows-unsound : {call : Store → Outcome} {w : List ℕ} → soundWords (lent w) ≡ false → Shows call w (refusing 1 [])
 shows-unsound s = record { unsound = λ u. refl; reply = λ h. never h s }
-
--- sound words have a good header
-first : (a b : Bool) → (a && b) ≡ true → a ≡ true
-first true b h = refl
-first false b h = h
-
-pub sound-header : (w : List ℕ) → soundWords (lent w) ≡ true → headerOk w ≡ true
-unfolding soundWords formed
-sound-header w h = first _ _ (first _ _ h)

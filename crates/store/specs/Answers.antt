@@ -1,14 +1,12 @@
--- The answers of `perform`, and what the public calls promise of the words they are lent: the contract record of
--- `meaning` over the words of `tables`. Rests on both.
+-- What the public calls promise of the words they are lent: the contract records of `meaning` over the words of
+-- `tables`. Rests on both.
 use Prim.Native.Nat.{ℕ}
 use mathlib.Core.List.{List}
 use Rattle.meaning.specs.Store.{Store}
-use Rattle.meaning.specs.Replies.{Reply, ofBegin, ofWrite, ofLock, ofRead, ofCommit, ofAbort, ofSettle, ofPurge, ofView}
+use Rattle.meaning.specs.Replies.{Reply}
 use Rattle.meaning.specs.Outcomes.{Outcome}
 use Rattle.meaning.specs.Contract as contract
 use Rattle.tables.specs.Words.{Lent, lent, decode, soundWords}
-use Rattle.store.specs.declared.Answer.{Answer}
-use Rattle.store.specs.declared.Answer.the-variants as A
 
 -- what a call does with the words it is lent, and what one that only looks shows
 abbrev pub Does : (Store → Outcome) → List ℕ → List ℕ → Reply → Type 0
@@ -16,14 +14,3 @@ Does call before after r = contract.Does Lent decode soundWords call (lent befor
 
 abbrev pub Shows : (Store → Outcome) → List ℕ → Reply → Type 0
 Shows call words r = contract.Shows Lent decode soundWords call (lent words) r
-
-abbrev pub ofAnswer : Answer → Reply
-ofAnswer (A.Begin r) = ofBegin r
-ofAnswer (A.Write r) = ofWrite r
-ofAnswer (A.Lock r) = ofLock r
-ofAnswer (A.Read r) = ofRead r
-ofAnswer (A.Commit r) = ofCommit r
-ofAnswer (A.Abort r) = ofAbort r
-ofAnswer (A.Settle r) = ofSettle r
-ofAnswer (A.Purge r) = ofPurge r
-ofAnswer (A.View r) = ofView r

@@ -3,7 +3,7 @@
 // for every slice and argument. Rests on the crates `meaning`, `tables`, `soundness`, `format`, `calls`, `locking`,
 // `reading`, `endings`, `commits` and `purges`.
 ghost use Rattle.meaning.specs.Replies.{ofPoint, ofFormat, ofBegin, ofWrite, ofLock, ofRead, ofCommit, ofAbort};
-ghost use Rattle.meaning.specs.Replies.{ofSettle, ofPurge, ofView};
+ghost use Rattle.meaning.specs.Replies.{ofSettle, ofPurge, ofView, ofAnswer};
 ghost use Rattle.meaning.specs.Edits.{beginning, writing};
 ghost use Rattle.meaning.specs.Locking.{locking, reading};
 ghost use Rattle.meaning.specs.Ending.{committing, aborting, settling};
@@ -11,8 +11,9 @@ ghost use mathlib.Core.Path.{_≡_};
 ghost use Rattle.meaning.specs.Records.{purging, viewing, pointing};
 ghost use Rattle.format.specs.Format.{Formats};
 ghost use Rattle.meaning.specs.Calls.{act};
-ghost use Rattle.store.specs.Answers.{Does, Shows, ofAnswer};
+ghost use Rattle.store.specs.Answers.{Does, Shows};
 use meaning::AbortReply;
+use meaning::Answer;
 use meaning::BeginReply;
 use meaning::Call;
 use meaning::CommitReply;
@@ -33,19 +34,6 @@ use meaning::Seat;
 use meaning::SettleReply;
 use meaning::ViewReply;
 use meaning::WriteReply;
-
-// The answer of a call of any kind.
-pub enum Answer {
-    Begin(BeginReply),
-    Write(WriteReply),
-    Lock(LockReply),
-    Read(ReadReply),
-    Commit(CommitReply),
-    Abort(AbortReply),
-    Settle(SettleReply),
-    Purge(PurgeReply),
-    View(ViewReply),
-}
 
 // The point of a clock reading and a seat.
 pub fn point(reading: Reading, seat: Seat) -> PointReply

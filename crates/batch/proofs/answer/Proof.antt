@@ -2,8 +2,8 @@
 use mathlib.Core.Path.{refl, _∙_}
 use mathlib.Core.List.{[]}
 use Rattle.meaning.specs.Replies.{refusing}
-use Rattle.batch.specs.Encoding.{NUMBERS}
-use Rattle.batch.proofs.Telling.{told-row}
+use Rattle.encoding.specs.Encoding.{NUMBERS}
+use Rattle.encoding.proofs.Rows.{told-row}
 use Rattle.store.proofs.Doing.{does-unsound}
 use borrow.Author.Needs.{needs}
 use Rattle.batch.proofs.answer.Statement.{statement}

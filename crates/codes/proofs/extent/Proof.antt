@@ -1,5 +1,5 @@
 -- `extent` meets its contract. Assumes nothing.
-use Rattle.codes.proofs.Telling.{all-of, part-of}
+use Rattle.codes.proofs.Cases.{all-of, part-of}
 use Rattle.codes.proofs.extent.Statement.{statement}
 use Rattle.codes.proofs.extent.Tie as tie
 

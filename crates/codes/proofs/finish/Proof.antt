@@ -1,5 +1,5 @@
 -- `finish` meets its contract. Assumes nothing.
-use Rattle.codes.proofs.Telling.{settle-of, keep-of}
+use Rattle.codes.proofs.Cases.{settle-of, keep-of}
 use Rattle.codes.proofs.finish.Statement.{statement}
 use Rattle.codes.proofs.finish.Tie as tie
 

@@ -1,7 +1,7 @@
 -- `codes::refusal` meets its contract: 8 with the holder above it, the others bare. Assumes nothing.
 use borrow.Author.Needs.{needs}
 use mathlib.Core.Path.{refl, _∙_}
-use Rattle.codes.proofs.Telling.{bare}
+use Rattle.codes.proofs.Cases.{bare}
 use Rattle.codes.proofs.refusal.Statement.{statement}
 use Rattle.codes.proofs.refusal.Tie as tie
 

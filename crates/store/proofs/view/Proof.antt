@@ -1,7 +1,8 @@
 -- `view` meets its contract: sound words have a good header, and unsound words are refused. Assumes nothing.
 use borrow.Author.Needs.{needs}
 use mathlib.Core.Path.{sym, _∙_}
-use Rattle.store.proofs.Doing.{shows-sound, shows-unsound, sound-header}
+use Rattle.calls.proofs.Viewing.{sound-header}
+use Rattle.store.proofs.Doing.{shows-sound, shows-unsound}
 use Rattle.store.proofs.view.Statement.{statement}
 use Rattle.store.proofs.view.Tie as tie
 

@@ -1,0 +1,218 @@
+// What a caller from another language hears of a reply: the number of each reply and the lent numbers after it, by
+// meaning's number and values of its case. Rests on the crates `meaning` and `codes`.
+ghost use mathlib.Core.Path.{_≡_};
+ghost use mathlib.Core.List.{[], _∷_};
+ghost use Rattle.meaning.specs.Replies.{ofPoint, ofFormat, ofBegin, ofWrite, ofLock, ofRead, ofCommit};
+ghost use Rattle.meaning.specs.Replies.{ofAbort, ofSettle, ofPurge, ofView};
+ghost use Rattle.codes.specs.Codes.{markOf, bitsOf, Tells};
+use codes::refusal;
+use meaning::AbortReply;
+use meaning::BeginReply;
+use meaning::CommitReply;
+use meaning::FormatReply;
+use meaning::LockReply;
+use meaning::PointReply;
+use meaning::PurgeReply;
+use meaning::ReadReply;
+use meaning::SettleReply;
+use meaning::Value;
+use meaning::ViewReply;
+use meaning::WriteReply;
+
+// The number of `nopoint`, which is above those of the refusals and below codes' CODES.
+const NOPOINT: u64 = 31;
+
+// Which of its three replies a granted Read has.
+const NEW: u64 = 1;
+
+const OWN: u64 = 2;
+
+const AGAIN: u64 = 3;
+
+// A value as two numbers: whether it was ever written, and its bits.
+fn mark(v: Value) -> u64
+    ensures { λ n. ⌜ n ≡ markOf v ⌝ }
+{
+    match v {
+        Value::Never => 0,
+        Value::Written(_) => 1,
+    }
+}
+
+fn bits(v: Value) -> u64
+    ensures { λ n. ⌜ n ≡ bitsOf v ⌝ }
+{
+    match v {
+        Value::Never => 0,
+        Value::Written(x) => x,
+    }
+}
+
+// Each call's reply: 0 and its values, or the number of a refusal, which leaves the lent numbers.
+pub fn point(r: PointReply, point: &mut u64) -> u64
+    ensures { λ n. ⌜ Tells (ofPoint r) n (now (point .entry) ∷ []) (now (point .exit) ∷ []) ⌝ }
+{
+    match r {
+        PointReply::Made(p) => {
+            *point = meaning::word_of_point(p);
+            0
+        }
+        PointReply::Refused(x) => refusal(x),
+    }
+}
+
+pub fn format(r: FormatReply) -> u64
+    ensures { λ n. ⌜ Tells (ofFormat r) n [] [] ⌝ }
+{
+    match r {
+        FormatReply::Done => 0,
+        FormatReply::Refused(x) => refusal(x),
+    }
+}
+
+pub fn begin(r: BeginReply, handle: &mut u64) -> u64
+    ensures { λ n. ⌜ Tells (ofBegin r) n (now (handle .entry) ∷ []) (now (handle .exit) ∷ []) ⌝ }
+{
+    match r {
+        BeginReply::Edit(h) => {
+            *handle = meaning::word_of_handle(h);
+            0
+        }
+        BeginReply::Refused(x) => refusal(x),
+    }
+}
+
+pub fn write(r: WriteReply) -> u64
+    ensures { λ n. ⌜ Tells (ofWrite r) n [] [] ⌝ }
+{
+    match r {
+        WriteReply::Done => 0,
+        WriteReply::Refused(x) => refusal(x),
+    }
+}
+
+pub fn lock(r: LockReply, low: &mut u64, high: &mut u64) -> u64
+    ensures { λ n. ⌜
+        Tells (ofLock r) n
+        (now (low .entry) ∷ now (high .entry) ∷ [])
+        (now (low .exit) ∷ now (high .exit) ∷ [])
+        ⌝ }
+{
+    match r {
+        LockReply::Locked(first, last) => {
+            *low = meaning::word_of_point(first);
+            *high = meaning::word_of_point(last);
+            0
+        }
+        LockReply::Refused(x) => refusal(x),
+    }
+}
+
+pub fn read(
+    r: ReadReply,
+    kind: &mut u64,
+    tr: &mut u64,
+    end: &mut u64,
+    written: &mut u64,
+    value: &mut u64,
+) -> u64
+    ensures { λ n. ⌜
+        Tells (ofRead r) n
+        (now (kind .entry) ∷ now (tr .entry) ∷ now (end .entry) ∷ now (written .entry) ∷ now (value .entry) ∷ [])
+        (now (kind .exit) ∷ now (tr .exit) ∷ now (end .exit) ∷ now (written .exit) ∷ now (value .exit) ∷ [])
+        ⌝ }
+{
+    match r {
+        ReadReply::Read(from, to, v) => {
+            *kind = NEW;
+            *tr = meaning::word_of_point(from);
+            *end = meaning::word_of_point(to);
+            *written = mark(v);
+            *value = bits(v);
+            0
+        }
+        ReadReply::Own(x) => {
+            *kind = OWN;
+            *tr = 0;
+            *end = 0;
+            *written = 1;
+            *value = x;
+            0
+        }
+        ReadReply::Again(from, v) => {
+            *kind = AGAIN;
+            *tr = meaning::word_of_point(from);
+            *end = 0;
+            *written = mark(v);
+            *value = bits(v);
+            0
+        }
+        ReadReply::Refused(x) => refusal(x),
+    }
+}
+
+pub fn commit(r: CommitReply, point: &mut u64) -> u64
+    ensures { λ n. ⌜ Tells (ofCommit r) n (now (point .entry) ∷ []) (now (point .exit) ∷ []) ⌝ }
+{
+    match r {
+        CommitReply::Commit(t) => {
+            *point = meaning::word_of_point(t);
+            0
+        }
+        CommitReply::NoPoint => NOPOINT,
+        CommitReply::Refused(x) => refusal(x),
+    }
+}
+
+pub fn abort(r: AbortReply) -> u64
+    ensures { λ n. ⌜ Tells (ofAbort r) n [] [] ⌝ }
+{
+    match r {
+        AbortReply::Done => 0,
+        AbortReply::Refused(x) => refusal(x),
+    }
+}
+
+pub fn settle(r: SettleReply) -> u64
+    ensures { λ n. ⌜ Tells (ofSettle r) n [] [] ⌝ }
+{
+    match r {
+        SettleReply::Done => 0,
+        SettleReply::Refused(x) => refusal(x),
+    }
+}
+
+pub fn purge(r: PurgeReply, versions: &mut u64, locks: &mut u64) -> u64
+    ensures { λ n. ⌜
+        Tells (ofPurge r) n
+        (now (versions .entry) ∷ now (locks .entry) ∷ [])
+        (now (versions .exit) ∷ now (locks .exit) ∷ [])
+        ⌝ }
+{
+    match r {
+        PurgeReply::Purged(vs, ls) => {
+            *versions = vs;
+            *locks = ls;
+            0
+        }
+        PurgeReply::Refused(x) => refusal(x),
+    }
+}
+
+pub fn view(r: ViewReply, point: &mut u64, written: &mut u64, value: &mut u64) -> u64
+    ensures { λ n. ⌜
+        Tells (ofView r) n
+        (now (point .entry) ∷ now (written .entry) ∷ now (value .entry) ∷ [])
+        (now (point .exit) ∷ now (written .exit) ∷ now (value .exit) ∷ [])
+        ⌝ }
+{
+    match r {
+        ViewReply::At(at, v) => {
+            *point = meaning::word_of_point(at);
+            *written = mark(v);
+            *value = bits(v);
+            0
+        }
+        ViewReply::Refused(x) => refusal(x),
+    }
+}
