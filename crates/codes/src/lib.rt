@@ -1,11 +1,12 @@
-// What a caller from another language says and hears as numbers: the flags of a call, and the number of a refusal. The
-// functions that tell a whole reply are in the crate `telling`. Rests on `meaning`.
+// What a caller from another language says and hears as numbers: the flags of a call, the number of a refusal, and a
+// value. The crates `verdicts` and `telling` tell whole replies by them. Rests on `meaning`.
 ghost use mathlib.Core.Path.{_≡_};
 ghost use Rattle.meaning.specs.Replies.{ofRefusal};
-ghost use Rattle.codes.specs.Codes.{codeOf, extentOf, finishOf};
+ghost use Rattle.codes.specs.Codes.{codeOf, markOf, bitsOf, extentOf, finishOf};
 use meaning::Extent;
 use meaning::Finish;
 use meaning::Refusal;
+use meaning::Value;
 
 // A handle is below HANDLES, and the number of a refusal below CODES, so that both fit in one word.
 const HANDLES: u64 = meaning::GENERATIONS * meaning::SLOTS;
@@ -38,4 +39,23 @@ pub fn refusal(r: Refusal) -> u64
         return meaning::word_of_handle(h) % HANDLES * CODES + meaning::refusal_number(r);
     }
     meaning::refusal_number(r)
+}
+
+// A value as two numbers: whether it was ever written, and its bits.
+pub fn mark(v: Value) -> u64
+    ensures { λ n. ⌜ n ≡ markOf v ⌝ }
+{
+    match v {
+        Value::Never => 0,
+        Value::Written(_) => 1,
+    }
+}
+
+pub fn bits(v: Value) -> u64
+    ensures { λ n. ⌜ n ≡ bitsOf v ⌝ }
+{
+    match v {
+        Value::Never => 0,
+        Value::Written(x) => x,
+    }
 }

@@ -1,5 +1,5 @@
--- Rows of replies: what `telling` tells of a reply, with 0 held before, is its row; and a row put after the rows before
--- it. Rests on Encoding.
+-- Rows of replies: what is told of a reply (`Tells` of `codes`), with 0 held before, is its row; and a row put after
+-- the rows before it. Rests on Encoding.
 use Prim.Native.Nat.{ℕ, zero, suc, _+_, _*_, _≤_}
 use mathlib.Core.Path.{_≡_, refl, sym, ap, _∙_}
 use mathlib.Core.List.{List, [], _∷_, _++_, append-nil, append-assoc}

@@ -1,6 +1,6 @@
 // Calls and replies as words: a row of CALL_WORDS words is a call's kind and its numbers, a row of REPLY_WORDS words a
 // reply's code and its numbers, with 0 for those that it lacks. Every row is a call. Rests on the crates `meaning`,
-// `codes` and `telling`.
+// `codes`, `verdicts` and `telling`.
 ghost use Prim.Native.Nat.{_+_, _*_, _≤_, min};
 ghost use mathlib.Core.Path.{_≡_};
 ghost use mathlib.Core.List.{_∷_};
@@ -186,12 +186,12 @@ pub fn row_of(a: Answer) -> Row
 {
     match a {
         Answer::Begin(r) => of_begin(r),
-        Answer::Write(r) => row_0(telling::write(r)),
+        Answer::Write(r) => row_0(verdicts::write(r)),
         Answer::Lock(r) => of_lock(r),
         Answer::Read(r) => of_read(r),
         Answer::Commit(r) => of_commit(r),
-        Answer::Abort(r) => row_0(telling::abort(r)),
-        Answer::Settle(r) => row_0(telling::settle(r)),
+        Answer::Abort(r) => row_0(verdicts::abort(r)),
+        Answer::Settle(r) => row_0(verdicts::settle(r)),
         Answer::Purge(r) => of_purge(r),
         Answer::View(r) => of_view(r),
     }

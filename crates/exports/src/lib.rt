@@ -1,7 +1,7 @@
 // The library that a product links: each call as a C function over lent words and numbers, and many calls as one. A
 // call returns 0 for granted, else the number of the refusal. None has a `requires`; the contract of each is the
-// promise of its call. Rests on the crates `meaning`, `format`, `store`, `codes`, `telling`,
-// `batch` and `asks`.
+// promise of its call. Rests on the crates `meaning`, `format`, `store`, `codes`, `verdicts`,
+// `telling`, `batch` and `asks`.
 ghost use mathlib.Core.Path.{_≡_};
 ghost use mathlib.Core.List.{[], _∷_};
 ghost use Rattle.meaning.specs.Edits.{beginning, writing};
@@ -56,7 +56,7 @@ pub extern "C" fn zohetiwa_format(
             accesses: accesses,
         },
     );
-    telling::format(reply)
+    verdicts::format(reply)
 }
 
 // Begin: the handle of the edit.
@@ -80,7 +80,7 @@ pub extern "C" fn zohetiwa_write(words: &mut [u64], handle: u64, rec: u64, value
         ⌝ }
 {
     let reply = store::write(words, meaning::handle_of_word(handle), rec, value);
-    telling::write(reply)
+    verdicts::write(reply)
 }
 
 // Lock: the first and the last point locked.
@@ -208,7 +208,7 @@ pub extern "C" fn zohetiwa_abort(words: &mut [u64], handle: u64, keep: u64) -> u
         ⌝ }
 {
     let reply = store::abort(words, meaning::handle_of_word(handle), codes::finish(keep));
-    telling::abort(reply)
+    verdicts::abort(reply)
 }
 
 // Settle: no further values.
@@ -217,7 +217,7 @@ pub extern "C" fn zohetiwa_settle(words: &mut [u64], handle: u64) -> u64
     ensures { λ code. ⌜ Answers (Does (settling handle) (now (words .entry)) (now (words .exit))) code [] [] ⌝ }
 {
     let reply = store::settle(words, meaning::handle_of_word(handle));
-    telling::settle(reply)
+    verdicts::settle(reply)
 }
 
 // Purge: the version rows and the lock rows freed.

@@ -1,23 +1,18 @@
-// What a caller from another language hears of a reply: the number of each reply and the lent numbers after it, by
-// meaning's number and values of its case. Rests on the crates `meaning` and `codes`.
-ghost use mathlib.Core.Path.{_≡_};
+// What a caller from another language hears of a reply that hands something out: its number and the lent numbers after
+// it, by meaning's number and values of its case. Rests on the crates `meaning` and `codes`.
 ghost use mathlib.Core.List.{[], _∷_};
-ghost use Rattle.meaning.specs.Replies.{ofPoint, ofFormat, ofBegin, ofWrite, ofLock, ofRead, ofCommit};
-ghost use Rattle.meaning.specs.Replies.{ofAbort, ofSettle, ofPurge, ofView};
-ghost use Rattle.codes.specs.Codes.{markOf, bitsOf, Tells};
+ghost use Rattle.meaning.specs.Replies.{ofPoint, ofBegin, ofLock, ofRead, ofCommit, ofPurge, ofView};
+ghost use Rattle.codes.specs.Codes.{Tells};
+use codes::bits;
+use codes::mark;
 use codes::refusal;
-use meaning::AbortReply;
 use meaning::BeginReply;
 use meaning::CommitReply;
-use meaning::FormatReply;
 use meaning::LockReply;
 use meaning::PointReply;
 use meaning::PurgeReply;
 use meaning::ReadReply;
-use meaning::SettleReply;
-use meaning::Value;
 use meaning::ViewReply;
-use meaning::WriteReply;
 
 // The number of `nopoint`, which is above those of the refusals and below codes' CODES.
 const NOPOINT: u64 = 31;
@@ -28,25 +23,6 @@ const NEW: u64 = 1;
 const OWN: u64 = 2;
 
 const AGAIN: u64 = 3;
-
-// A value as two numbers: whether it was ever written, and its bits.
-fn mark(v: Value) -> u64
-    ensures { λ n. ⌜ n ≡ markOf v ⌝ }
-{
-    match v {
-        Value::Never => 0,
-        Value::Written(_) => 1,
-    }
-}
-
-fn bits(v: Value) -> u64
-    ensures { λ n. ⌜ n ≡ bitsOf v ⌝ }
-{
-    match v {
-        Value::Never => 0,
-        Value::Written(x) => x,
-    }
-}
 
 // Each call's reply: 0 and its values, or the number of a refusal, which leaves the lent numbers.
 pub fn point(r: PointReply, point: &mut u64) -> u64
@@ -61,15 +37,6 @@ pub fn point(r: PointReply, point: &mut u64) -> u64
     }
 }
 
-pub fn format(r: FormatReply) -> u64
-    ensures { λ n. ⌜ Tells (ofFormat r) n [] [] ⌝ }
-{
-    match r {
-        FormatReply::Done => 0,
-        FormatReply::Refused(x) => refusal(x),
-    }
-}
-
 pub fn begin(r: BeginReply, handle: &mut u64) -> u64
     ensures { λ n. ⌜ Tells (ofBegin r) n (now (handle .entry) ∷ []) (now (handle .exit) ∷ []) ⌝ }
 {
@@ -79,15 +46,6 @@ pub fn begin(r: BeginReply, handle: &mut u64) -> u64
             0
         }
         BeginReply::Refused(x) => refusal(x),
-    }
-}
-
-pub fn write(r: WriteReply) -> u64
-    ensures { λ n. ⌜ Tells (ofWrite r) n [] [] ⌝ }
-{
-    match r {
-        WriteReply::Done => 0,
-        WriteReply::Refused(x) => refusal(x),
     }
 }
 
@@ -161,24 +119,6 @@ pub fn commit(r: CommitReply, point: &mut u64) -> u64
         }
         CommitReply::NoPoint => NOPOINT,
         CommitReply::Refused(x) => refusal(x),
-    }
-}
-
-pub fn abort(r: AbortReply) -> u64
-    ensures { λ n. ⌜ Tells (ofAbort r) n [] [] ⌝ }
-{
-    match r {
-        AbortReply::Done => 0,
-        AbortReply::Refused(x) => refusal(x),
-    }
-}
-
-pub fn settle(r: SettleReply) -> u64
-    ensures { λ n. ⌜ Tells (ofSettle r) n [] [] ⌝ }
-{
-    match r {
-        SettleReply::Done => 0,
-        SettleReply::Refused(x) => refusal(x),
     }
 }
 

@@ -1,6 +1,6 @@
 -- `zohetiwa_commit_at` meets its contract: the reply is that of the call, and it is told. Assumes nothing.
 use borrow.Author.Needs.{needs}
-use Rattle.telling.proofs.Telling.{answered, named-at}
+use Rattle.codes.proofs.Telling.{answered, named-at}
 use Rattle.exports.proofs.zohetiwa_commit_at.Statement.{statement}
 use Rattle.exports.proofs.zohetiwa_commit_at.Tie as tie
 

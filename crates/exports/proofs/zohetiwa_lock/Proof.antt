@@ -1,6 +1,6 @@
 -- `zohetiwa_lock` meets its contract: the reply is that of the call, and it is told. Assumes nothing.
 use borrow.Author.Needs.{needs}
-use Rattle.telling.proofs.Telling.{answered}
+use Rattle.codes.proofs.Telling.{answered}
 use Rattle.exports.proofs.zohetiwa_lock.Statement.{statement}
 use Rattle.exports.proofs.zohetiwa_lock.Tie as tie
 

@@ -1,6 +1,6 @@
 -- `zohetiwa_point` meets its contract: the reply is that of the call, and it is told. Assumes nothing.
 use borrow.Author.Needs.{needs}
-use Rattle.telling.proofs.Telling.{answered, made}
+use Rattle.codes.proofs.Telling.{answered, made}
 use Rattle.exports.proofs.zohetiwa_point.Statement.{statement}
 use Rattle.exports.proofs.zohetiwa_point.Tie as tie
 

@@ -1,6 +1,6 @@
 -- `zohetiwa_settle` meets its contract: the reply is that of the call, and it is told. Assumes nothing.
 use borrow.Author.Needs.{needs}
-use Rattle.telling.proofs.Telling.{answered}
+use Rattle.codes.proofs.Telling.{answered}
 use Rattle.exports.proofs.zohetiwa_settle.Statement.{statement}
 use Rattle.exports.proofs.zohetiwa_settle.Tie as tie
 

@@ -2,7 +2,7 @@
 use borrow.Author.Needs.{needs}
 use mathlib.Core.Path.{refl}
 use Rattle.meaning.specs.Replies.{ofPurge}
-use Rattle.telling.proofs.Telling.{telling}
+use Rattle.codes.proofs.Telling.{telling}
 use Rattle.telling.proofs.purge.Statement.{statement}
 use Rattle.telling.proofs.purge.Tie as tie
 

@@ -1,10 +1,10 @@
--- `telling::format` meets its contract: each case of the answer is told by its number and values. Assumes nothing.
+-- `verdicts::format` meets its contract: each case of the answer is told by its number and values. Assumes nothing.
 use borrow.Author.Needs.{needs}
 use mathlib.Core.Path.{refl}
 use Rattle.meaning.specs.Replies.{ofFormat}
-use Rattle.telling.proofs.Telling.{telling}
-use Rattle.telling.proofs.format.Statement.{statement}
-use Rattle.telling.proofs.format.Tie as tie
+use Rattle.codes.proofs.Telling.{telling}
+use Rattle.verdicts.proofs.format.Statement.{statement}
+use Rattle.verdicts.proofs.format.Tie as tie
 
 enum-told : tie.Need-enum-told
 enum-told c = search needs

@@ -1,9 +1,9 @@
--- `telling::mark` meets its contract, case by case. Assumes nothing.
+-- `codes::mark` meets its contract, case by case. Assumes nothing.
 use borrow.Author.Needs.{needs}
 use mathlib.Core.Path.{sym, ap}
 use Rattle.codes.specs.Codes.{markOf}
-use Rattle.telling.proofs.mark.Statement.{statement}
-use Rattle.telling.proofs.mark.Tie as tie
+use Rattle.codes.proofs.mark.Statement.{statement}
+use Rattle.codes.proofs.mark.Tie as tie
 
 enum-told : tie.Need-enum-told
 enum-told c = search needs

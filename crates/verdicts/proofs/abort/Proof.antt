@@ -1,10 +1,10 @@
--- `telling::abort` meets its contract: each case of the answer is told by its number and values. Assumes nothing.
+-- `verdicts::abort` meets its contract: each case of the answer is told by its number and values. Assumes nothing.
 use borrow.Author.Needs.{needs}
 use mathlib.Core.Path.{refl}
 use Rattle.meaning.specs.Replies.{ofAbort}
-use Rattle.telling.proofs.Telling.{telling}
-use Rattle.telling.proofs.abort.Statement.{statement}
-use Rattle.telling.proofs.abort.Tie as tie
+use Rattle.codes.proofs.Telling.{telling}
+use Rattle.verdicts.proofs.abort.Statement.{statement}
+use Rattle.verdicts.proofs.abort.Tie as tie
 
 enum-told : tie.Need-enum-told
 enum-told c = search needs

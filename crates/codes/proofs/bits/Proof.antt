@@ -1,9 +1,9 @@
--- `telling::bits` meets its contract, case by case. Assumes nothing.
+-- `codes::bits` meets its contract, case by case. Assumes nothing.
 use borrow.Author.Needs.{needs}
 use mathlib.Core.Path.{sym, ap}
 use Rattle.codes.specs.Codes.{bitsOf}
-use Rattle.telling.proofs.bits.Statement.{statement}
-use Rattle.telling.proofs.bits.Tie as tie
+use Rattle.codes.proofs.bits.Statement.{statement}
+use Rattle.codes.proofs.bits.Tie as tie
 
 enum-told : tie.Need-enum-told
 enum-told c = search needs

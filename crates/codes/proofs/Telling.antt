@@ -1,4 +1,4 @@
--- A reply is told by the case that it is: the number and the values of that case. Rests on Codes of the crate `codes`.
+-- A reply is told by the case that it is: the number and the values of that case. Rests on Codes.
 use Prim.Native.Nat.{ℕ}
 use mathlib.Core.Path.{_≡_, sym, ap}
 use mathlib.Core.List.{List}

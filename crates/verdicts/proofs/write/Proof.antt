@@ -1,10 +1,10 @@
--- `telling::write` meets its contract: each case of the answer is told by its number and values. Assumes nothing.
+-- `verdicts::write` meets its contract: each case of the answer is told by its number and values. Assumes nothing.
 use borrow.Author.Needs.{needs}
 use mathlib.Core.Path.{refl}
 use Rattle.meaning.specs.Replies.{ofWrite}
-use Rattle.telling.proofs.Telling.{telling}
-use Rattle.telling.proofs.write.Statement.{statement}
-use Rattle.telling.proofs.write.Tie as tie
+use Rattle.codes.proofs.Telling.{telling}
+use Rattle.verdicts.proofs.write.Statement.{statement}
+use Rattle.verdicts.proofs.write.Tie as tie
 
 enum-told : tie.Need-enum-told
 enum-told c = search needs
