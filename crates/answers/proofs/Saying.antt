@@ -12,9 +12,9 @@ use borrow.Author.Needs.{needs}
 use borrow.Author.Tests.{leb-true, eq-eqb, ne-eqb}
 use Rattle.meaning.specs.Calls.{act}
 use Rattle.meaning.specs.Records.{goodCounts}
-use Rattle.meaning.specs.Replies.{Reply, refused, refusing, ok}
-use Rattle.meaning.specs.declared.Call.{Call}
-use Rattle.meaning.specs.declared.Counts.{Counts}
+use Rattle.types.specs.Replies.{Reply, refused, refusing, ok}
+use Rattle.types.specs.declared.Call.{Call}
+use Rattle.types.specs.declared.Counts.{Counts}
 use Rattle.tables.specs.Layout.{sizeOf, headerOk, countsOf}
 use Rattle.tables.specs.Words.{lent, decode, soundWords, formed}
 use Rattle.format.specs.Format.{formatFits, formattedWords, Formats}

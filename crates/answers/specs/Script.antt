@@ -8,8 +8,8 @@ use mathlib.Core.List.{List, []}
 use lib.ListN.{length, take}
 use Rattle.meaning.specs.Store.{Store, fresh}
 use Rattle.meaning.specs.Calls.{act}
-use Rattle.meaning.specs.declared.Call.{Call}
-use Rattle.meaning.specs.declared.Counts.{Counts}
+use Rattle.types.specs.declared.Call.{Call}
+use Rattle.types.specs.declared.Counts.{Counts}
 use Rattle.tables.specs.Words.{lent, decode, soundWords}
 use Rattle.format_room.specs.Room.{roomFor}
 use Rattle.replies.specs.Lines.{lineOf}

@@ -1,7 +1,6 @@
 // A line run on the store, by the public calls. The store is the part of the words that is in use; before the first
-// Format that succeeds it is empty, and no empty slice is a sound store. Rests on the crates `meaning`, `format`,
-// `format_room`, `store`, `replies`, `rendering`, `fields` and `lines`.
-ghost use mathlib.Core.Path.{_≡_};
+// Format that succeeds it is empty, and no empty slice is a sound store. Rests on the crates `types`, `meaning`,
+// `format`, `format_room`, `store`, `replies`, `rendering`, `fields` and `lines`.
 ghost use Prim.Native.Nat.{_≤_};
 ghost use lib.ListN.{length, take};
 ghost use Rattle.lines.specs.Calls.{parsed};
@@ -10,13 +9,13 @@ ghost use Rattle.format_room.specs.Room.{roomFor};
 use fields::Parsed;
 use format_room::words_for;
 use lines::parse;
-use meaning::Call;
-use meaning::Counts;
-use meaning::FormatReply;
 use rendering::line_of_answer;
 use replies::Line;
 use replies::line_of_refusal;
 use store::perform;
+use types::Call;
+use types::Counts;
+use types::FormatReply;
 
 // The line to print, and how many words are in use after it.
 pub struct Answered {

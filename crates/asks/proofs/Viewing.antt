@@ -7,7 +7,7 @@ use native.Mathlib.Omega.{arith}
 use native.Mathlib.Numerals.{add-one}
 use lib.ListN.{length, set, replicate}
 use lib.Seq.{sets}
-use Rattle.meaning.specs.Replies.{Reply, refusing}
+use Rattle.types.specs.Replies.{Reply, refusing}
 use Rattle.meaning.specs.Records.{viewing}
 use Rattle.tables.specs.Words.{lent, decode, soundWords}
 use Rattle.codes.specs.Codes.{Tells}

@@ -1,3 +1,3 @@
--- What the many views promise, and what that implies. Rests on the crates `meaning`, `tables` and `encoding`.
+-- What the many views promise, and what that implies. Rests on the crates `types`, `meaning`, `tables` and `encoding`.
 pub mod Views
 pub mod Laws

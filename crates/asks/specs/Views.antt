@@ -5,7 +5,7 @@ use mathlib.Core.Path.{_≡_}
 use mathlib.Core.Bool.{cond}
 use mathlib.Core.List.{List, [], _∷_, _++_}
 use lib.ListN.{length, drop}
-use Rattle.meaning.specs.Replies.{Reply, refusing}
+use Rattle.types.specs.Replies.{Reply, refusing}
 use Rattle.meaning.specs.Records.{viewing}
 use Rattle.tables.specs.Words.{lent, decode, soundWords}
 use Rattle.encoding.specs.Encoding.{wordAt, rowsOf}

@@ -1,18 +1,18 @@
 // Many views after one check of the words: a lent list of asks and a lent area for their replies. An ask is a row of
-// ASK_WORDS words, a record and a point; its reply a row of VIEW_WORDS words. Rests on the crates `meaning`, `tables`,
-// `soundness`, `calls`, `telling` and `encoding`.
+// ASK_WORDS words, a record and a point; its reply a row of VIEW_WORDS words. Rests on the crates `types`, `meaning`,
+// `tables`, `soundness`, `calls`, `telling` and `encoding`.
 ghost use Prim.Native.Nat.{_+_, _*_, _≤_};
 ghost use mathlib.Core.Path.{_≡_};
 ghost use lib.ListN.{length};
 ghost use lib.Seq.{sets};
-ghost use Rattle.meaning.specs.Replies.{ofView};
+ghost use Rattle.types.specs.Replies.{ofView};
 ghost use Rattle.tables.specs.Words.{lent, soundWords};
 ghost use Rattle.encoding.specs.Encoding.{rowOf};
 ghost use Rattle.asks.specs.Views.{ASK-WORDS, VIEW-NUMBERS, VIEW-WORDS, asked, askedAt, Views};
 use encoding::least;
-use meaning::Refusal;
-use meaning::ViewReply;
-use meaning::point_of_word;
+use types::Refusal;
+use types::ViewReply;
+use types::point_of_word;
 
 const ASK_WORDS: usize = 2;
 

@@ -2,8 +2,8 @@
 -- `history`.
 use Prim.Native.Nat.{ℕ}
 use mathlib.Core.List.{List}
-use Rattle.meaning.specs.Replies.{ok}
-use Rattle.meaning.specs.declared.Counts.{Counts}
+use Rattle.types.specs.Replies.{ok}
+use Rattle.types.specs.declared.Counts.{Counts}
 use Rattle.format.specs.Format.{Formats}
 use Rattle.history.specs.StoreWords.{HistoryOn}
 use Rattle.encoding.specs.Encoding.{callsOf}

@@ -6,9 +6,9 @@ use mathlib.Core.Path.{_≡_}
 use mathlib.Core.List.{List, _++_}
 use lib.ListN.{length, drop}
 use lib.Seq.{sets}
-use Rattle.meaning.specs.Replies.{Reply}
+use Rattle.types.specs.Replies.{Reply}
 use Rattle.meaning.specs.Calls.{act}
-use Rattle.meaning.specs.declared.Call.{Call}
+use Rattle.types.specs.declared.Call.{Call}
 use Rattle.tables.specs.Words.{Lent, lent, decode, soundWords}
 use Rattle.history.specs.Words.{Calls}
 use Rattle.store.specs.Answers.{Does}

@@ -1,7 +1,7 @@
 // Many calls after one check of the words: a lent list of calls as rows of words, and a lent area for their replies.
 // The public function has no `requires`. Each call leaves the words as sound as they were, so that one check serves
-// all. Rests on the crates `meaning`, `tables`, `soundness`, `format`, `history`, `store`, `codes`, `encoding` and
-// `performing`.
+// all. Rests on the crates `types`, `meaning`, `tables`, `soundness`, `format`, `history`, `store`, `codes`, `encoding`
+// and `performing`.
 ghost use Prim.Native.Nat.{_+_, _*_, _≤_};
 ghost use mathlib.Core.Path.{_≡_};
 ghost use lib.ListN.{length};
@@ -16,9 +16,9 @@ use encoding::least;
 use encoding::put_row;
 use encoding::row_0;
 use encoding::row_of;
-use meaning::Call;
-use meaning::Refusal;
 use performing::perform;
+use types::Call;
+use types::Refusal;
 
 // The call on words of which it is known whether they are sound, and its reply as a row.
 fn answer(words: &mut [u64], good: bool, call: Call) -> Row

@@ -11,7 +11,7 @@ use lib.Dec.{ltb}
 use borrow.Author.Tests.{ltb-true, ltb-false}
 use Rattle.meaning.specs.Lists.{_∈_, any, keep}
 use Rattle.meaning.specs.Points.{covers, covered, own, writes, isWrite, isOwned, firstFree}
-use Rattle.meaning.specs.declared.Lock.{Lock}
+use Rattle.types.specs.declared.Lock.{Lock}
 use Rattle.meaning.proofs.Lists.{test, keep-in, keep-out, greatest-ge, greatest-out}
 use Rattle.meaning.proofs.Tests.{Covered, covers-out, covers-in}
 use Rattle.meaning.proofs.Spans.{firstFree-top, firstFree-low, firstFree-is, firstFree-run}

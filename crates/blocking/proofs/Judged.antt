@@ -8,13 +8,13 @@ use mathlib.Core.List.{List, [], _∷_, map, List·Memᴰ·head, List·Memᴰ·t
 use native.Mathlib.Omega.{arith}
 use lib.Dec.{leb, eqb}
 use borrow.Author.Tests.{le-leb, lt-leb, eqb-true, eq-eqb}
-use Rattle.meaning.specs.Limits.{SLOTS, SETTLED}
+use Rattle.types.specs.Limits.{SLOTS, SETTLED}
 use Rattle.meaning.specs.Lists.{_∈_, any, keep, least}
 use Rattle.meaning.specs.Points.{covers, meets, blocks, blockers, firstCovered, firstBlocked, frozen, holder}
 use Rattle.meaning.specs.Pointwise.{Proper, SettledOn, Frozen}
 use Rattle.meaning.specs.Store.{Rec, Store, recAt}
-use Rattle.meaning.specs.declared.Lock.{Lock}
-use Rattle.meaning.specs.declared.Counts.{Counts}
+use Rattle.types.specs.declared.Lock.{Lock}
+use Rattle.types.specs.declared.Counts.{Counts}
 use Rattle.meaning.proofs.Lists.{and-in, and-left, and-right, false-in, not-both}
 use Rattle.meaning.proofs.Lists.{keep-in, keep-out, least-le, least-out}
 use Rattle.meaning.proofs.Points.{version-out, version-in, frozen-is}

@@ -11,11 +11,11 @@ use lib.Dec.{ltb, eqb}
 use borrow.Author.Tests.{ltb-true, ltb-false, lt-ltb, le-ltb, eq-eqb, ne-eqb}
 use Rattle.chains.specs.Walk.{more, rows}
 use Rattle.chains.proofs.Loops.{Walk, walk-again, walk-end}
-use Rattle.meaning.specs.Limits.{SLOTS}
+use Rattle.types.specs.Limits.{SLOTS}
 use Rattle.meaning.specs.Lists.{keep, least}
 use Rattle.meaning.specs.Points.{meets, blocks, blockers, firstCovered, firstBlocked}
 use Rattle.meaning.specs.Store.{Rec}
-use Rattle.meaning.specs.declared.Lock.{Lock}
+use Rattle.types.specs.declared.Lock.{Lock}
 use Rattle.meaning.proofs.Lists.{test, least-default}
 use Rattle.blocking.specs.declared.Blocked.{Blocked}
 use Rattle.blocking.specs.Search.{joined, nearer, nearest, nobody}

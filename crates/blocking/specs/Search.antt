@@ -4,11 +4,11 @@ use Prim.Native.Nat.{ℕ, suc, min, max}
 use mathlib.Core.Bool.{Bool, cond, _&&_}
 use mathlib.Core.List.{List, [], _∷_, map}
 use lib.Dec.{leb, ltb}
-use Rattle.meaning.specs.Limits.{SLOTS, SETTLED}
+use Rattle.types.specs.Limits.{SLOTS, SETTLED}
 use Rattle.meaning.specs.Lists.{keep, greatest}
 use Rattle.meaning.specs.Points.{isWrite, isOwned, covers, meets, blocks, firstBlocked, frozen, holder}
 use Rattle.meaning.specs.Store.{Store, recAt}
-use Rattle.meaning.specs.declared.Lock.{Lock}
+use Rattle.types.specs.declared.Lock.{Lock}
 use Rattle.blocking.specs.declared.Blocked.{Blocked}
 
 -- the locks of slot k, or those of others that block it in a mode

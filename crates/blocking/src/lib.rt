@@ -1,12 +1,11 @@
 // Points of a record r under its locks: the first free one, and the first blocked one with who blocks it. Read-only,
 // each equal to a function of the decoded store. `mine` picks slot k's own locks, else those of others that block it in
-// the mode. Rests on the crates `meaning`, `locks`, `chains`, `tables` and `lookups`.
-//
-// A caller proves that the words have these counts (`Fits`) and that the record and the points are in range, so the
-// functions have `requires`; `first_blocked` also asks that the record's locks are spans (`Proper`).
+// the mode. Rests on the crates `types`, `meaning`, `locks`, `chains`, `tables` and `lookups`.  A caller proves that
+// the words have these counts (`Fits`) and that the record and the points are in range, so the functions have
+// `requires`; `first_blocked` also asks that the record's locks are spans (`Proper`).
 ghost use mathlib.Core.Path.{_≡_};
 ghost use Prim.Native.Nat.{_≤_, _<_, min, max};
-ghost use Rattle.meaning.specs.Limits.{LAST};
+ghost use Rattle.types.specs.Limits.{LAST};
 ghost use Rattle.meaning.specs.Points.{meets, firstFree};
 ghost use Rattle.meaning.specs.Pointwise.{Proper};
 ghost use Rattle.meaning.specs.Store.{recAt};
@@ -14,10 +13,10 @@ ghost use Rattle.tables.specs.Layout.{Fits};
 ghost use Rattle.tables.specs.Decode.{decodeAt, recordAt};
 ghost use Rattle.blocking.specs.Search.{counts, counted, pastOf, further};
 ghost use Rattle.blocking.specs.Search.{joined, nearer, nearest, nobody, firstJudged};
-use meaning::Counts;
-use meaning::Lock;
-use meaning::SETTLED;
-use meaning::SLOTS;
+use types::Counts;
+use types::Lock;
+use types::SETTLED;
+use types::SLOTS;
 
 // What a search for a blocked point found: the point, and who blocks it: SETTLED if it is frozen, else the lowest slot.
 pub struct Blocked {

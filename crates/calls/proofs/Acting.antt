@@ -2,22 +2,23 @@
 -- from what was made. Rests on the bridge between `formed` and `Well` of `tables`, and on Verdicts of `meaning`.
 use Prim.Native.Nat.{ℕ, _≤_, _<_}
 use mathlib.Core.Path.{_≡_, refl, sym, ap, _∙_}
-use mathlib.Core.Bool.{Bool, true, false, true≢false}
+use mathlib.Core.Bool.{true, false, true≢false}
 use mathlib.Core.List.{List}
 use native.Mathlib.Omega.{arith}
 use lib.ListN.{length}
 use Rattle.chains.specs.Walk.{IsRow}
-use Rattle.meaning.specs.Limits.{GENERATIONS, FREE, OPEN, MAX-EDITS}
-use Rattle.meaning.specs.Store.{Store, slotOf, editAt}
-use Rattle.meaning.specs.Replies.{Reply, refused, refusing}
-use Rattle.meaning.specs.Outcomes.{Outcome, replies, knows, isOpen, hasRecord}
+use Rattle.types.specs.Limits.{GENERATIONS}
+use Rattle.meaning.specs.Store.{Store, editAt}
+use Rattle.types.specs.Numbers.{slotOf}
+use Rattle.types.specs.Replies.{Reply, refused, refusing}
+use Rattle.meaning.specs.Outcomes.{Outcome, replies, knows, hasRecord}
 use Rattle.meaning.specs.Sound.{soundStore}
 use Rattle.meaning.specs.SoundFacts.{SoundStore}
-use Rattle.meaning.specs.declared.Counts.{Counts}
+use Rattle.types.specs.declared.Counts.{Counts}
 use Rattle.meaning.proofs.Lists.{and-left, and-right, and-in}
 use Rattle.meaning.proofs.SoundParts.{sound-out}
-use Rattle.meaning.proofs.Verdicts.{Known, knows-out, isOpen-out, hasRecord-out}
-use Rattle.tables.specs.Layout.{HEADER, countsOf, sizeOf, Fits}
+use Rattle.meaning.proofs.Verdicts.{knows-out, hasRecord-out}
+use Rattle.tables.specs.Layout.{HEADER, countsOf, sizeOf}
 use Rattle.tables.specs.Decode.{decodeAt}
 use Rattle.tables.specs.Words.{lent, decode, formed, soundWords, Well}
 use Rattle.tables.proofs.Bridge.{well-out, well-in}

@@ -1,18 +1,19 @@
 -- What Begin needs of sound words, and what it has done at each of its returns. Rests on Acting, Exits and CallsKeep of
 -- `meaning`.
 use Prim.Native.Nat.{ℕ, _≤_, _<_}
-use mathlib.Core.Path.{_≡_, refl, sym, ap, _∙_}
+use mathlib.Core.Path.{_≡_, refl, ap, _∙_}
 use mathlib.Core.Bool.{true}
 use mathlib.Core.List.{List, []}
 use native.Mathlib.Omega.{arith}
 use lib.ListN.{length}
 use Rattle.chains.specs.Walk.{IsRow}
-use Rattle.meaning.specs.Limits.{SLOTS, GENERATIONS, MAX-EDITS}
-use Rattle.meaning.specs.Store.{Edit, Store, handle, nextGeneration, editAt, withEdit}
-use Rattle.meaning.specs.Replies.{edit, refusing}
+use Rattle.types.specs.Limits.{SLOTS, GENERATIONS}
+use Rattle.meaning.specs.Store.{Edit, editAt, withEdit}
+use Rattle.types.specs.Numbers.{handle, nextGeneration}
+use Rattle.types.specs.Replies.{edit, refusing}
 use Rattle.meaning.specs.Outcomes.{replies, handleAt}
 use Rattle.meaning.specs.Edits.{freeSlot, openedEdit, begun, beginning}
-use Rattle.meaning.specs.declared.Counts.{Counts}
+use Rattle.types.specs.declared.Counts.{Counts}
 use Rattle.meaning.proofs.Stores.{edit-same}
 use Rattle.meaning.proofs.Granted.{free-found}
 use Rattle.meaning.proofs.CallsKeep.{begin-keeps}
@@ -20,7 +21,7 @@ use Rattle.tables.specs.Layout.{countsOf, Fits}
 use Rattle.tables.specs.Decode.{decodeAt}
 use Rattle.tables.specs.Words.{lent, soundWords, Well}
 use Rattle.changes.specs.Becomes.{Becomes}
-use Rattle.calls.specs.Contract.{Acts, Ready}
+use Rattle.calls.specs.Contract.{Acts}
 use Rattle.calls.proofs.Acting.{ready, facts, slots-counted, generation-fits, makes-refused, makes-done, acts}
 use Rattle.calls.proofs.Exits.{begin-full, begin-done}
 

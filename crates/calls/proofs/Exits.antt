@@ -1,14 +1,16 @@
 -- The ways that Begin, Write and View end, one law for each return of the code. Rests on Verdicts.
 use Prim.Native.Nat.{ℕ, _≤_, _<_}
 use mathlib.Core.Path.{_≡_, _∙_}
-use mathlib.Core.Bool.{Bool, true, false}
+use mathlib.Core.Bool.{true, false}
 use mathlib.Core.List.{[]}
 use lib.Dec.{leb}
 use lib.ListN.{length}
 use borrow.Author.Tests.{le-leb, lt-leb}
-use Rattle.meaning.specs.Limits.{LAST}
-use Rattle.meaning.specs.Store.{Val, Store, handle, slotOf, nextGeneration, editAt, recAt, newestAt}
-use Rattle.meaning.specs.Replies.{ok, edit, at, refusing}
+use Rattle.types.specs.Limits.{LAST}
+use Rattle.meaning.specs.Store.{Store, editAt, recAt, newestAt}
+use Rattle.types.specs.Numbers.{handle, slotOf, nextGeneration}
+use Rattle.types.specs.Values.{Val}
+use Rattle.types.specs.Replies.{ok, edit, at, refusing}
 use Rattle.meaning.specs.Outcomes.{Outcome, replies, Verdict, pass, needs, unless, knows, isOpen, hasRecord, accessRoom}
 use Rattle.meaning.specs.Edits.{freeSlot, begun, beginChecks, beginning, written, writeChecks, writing}
 use Rattle.meaning.specs.Records.{viewChecks, viewing}

@@ -8,13 +8,13 @@ use mathlib.Core.List.{List}
 use native.Mathlib.Omega.{arith}
 use lib.Dec.{ltb}
 use borrow.Author.Tests.{ltb-true, ltb-false, leb-false, lt-ltb, le-ltb, le-leb, lt-leb}
-use Rattle.meaning.specs.Limits.{READ, WRITE}
+use Rattle.types.specs.Limits.{READ, WRITE}
 use Rattle.meaning.specs.Store.{Rec, Store, recAt}
 use Rattle.meaning.specs.Points.{blockers, firstBlocked, firstFree, firstOpen}
 use Rattle.meaning.specs.Locking.{lockGranted, readGranted}
-use Rattle.meaning.specs.declared.Counts.{Counts}
-use Rattle.meaning.specs.declared.Extent.{Extent}
-use Rattle.meaning.specs.declared.Extent.the-variants.{All, Part}
+use Rattle.types.specs.declared.Counts.{Counts}
+use Rattle.types.specs.declared.Extent.{Extent}
+use Rattle.types.specs.declared.Extent.the-variants.{All, Part}
 use Rattle.meaning.proofs.Lists.{test}
 use Rattle.meaning.proofs.Spans.{firstCovered-low, firstCovered-least, firstFree-low, firstFree-run}
 use Rattle.tables.specs.Decode.{recordAt, decodeAt}

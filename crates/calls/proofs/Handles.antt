@@ -1,17 +1,16 @@
 -- The handle of a slot, and the record and slot that a call names, by the counts. Rests on Acting.
 use Prim.Native.Nat.{ℕ, zero, suc, _≤_, _<_}
 use mathlib.Core.Path.{_≡_, refl, sym, ap, _∙_}
-use mathlib.Core.Bool.{Bool, true}
+use mathlib.Core.Bool.{true}
 use mathlib.Core.List.{List}
 use native.Mathlib.Omega.{arith}
 use lib.Dec.{ltb}
-use lib.ListN.{length}
 use borrow.Author.Tests.{ltb-true}
-use Rattle.chains.specs.Walk.{IsRow}
-use Rattle.meaning.specs.Limits.{GENERATIONS}
-use Rattle.meaning.specs.Store.{Edit, Store, freshEdit, handle, editOf, editAt}
+use Rattle.types.specs.Limits.{GENERATIONS}
+use Rattle.meaning.specs.Store.{Edit, editOf, editAt}
+use Rattle.types.specs.Numbers.{handle}
 use Rattle.meaning.specs.Outcomes.{handleAt, hasRecord}
-use Rattle.meaning.specs.declared.Counts.{Counts}
+use Rattle.types.specs.declared.Counts.{Counts}
 use Rattle.meaning.proofs.Stores.{edit-past}
 use Rattle.tables.specs.Decode.{slotAt, decodeAt}
 use Rattle.tables.proofs.Decoded.{edit-at}

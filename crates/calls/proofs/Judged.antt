@@ -9,11 +9,11 @@ use native.Mathlib.Nat.{le-refl}
 use lib.Dec.{leb}
 use borrow.Author.Tests.{le-leb, eq-eqb, ne-eqb}
 use Rattle.meaning.specs.Lists.{keep}
-use Rattle.meaning.specs.Limits.{SLOTS, SETTLED}
+use Rattle.types.specs.Limits.{SLOTS, SETTLED}
 use Rattle.meaning.specs.Store.{Store, recAt}
 use Rattle.meaning.specs.Points.{covers, blockers, firstBlocked, frozen, holder}
 use Rattle.meaning.specs.Outcomes.{refuse, handleAt, judge}
-use Rattle.meaning.specs.declared.Lock.{Lock}
+use Rattle.types.specs.declared.Lock.{Lock}
 use Rattle.meaning.proofs.Lists.{test, least-default}
 use Rattle.blocking.specs.declared.Blocked.{Blocked}
 use Rattle.blocking.specs.Search.{blockedBy, firstJudged}

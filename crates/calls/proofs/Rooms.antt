@@ -1,21 +1,20 @@
 -- Rooms, and parts of the store before and after an edit is changed: a changed edit leaves the locks as they are. Rests
 -- on Acting.
 use Prim.Native.Nat.{ℕ, _≤_, _<_}
-use mathlib.Core.Path.{_≡_, refl, sym, ap, _∙_}
+use mathlib.Core.Path.{_≡_, refl}
 use mathlib.Core.Bool.{true}
 use mathlib.Core.List.{List}
 use native.Mathlib.Omega.{arith}
 use Rattle.chains.specs.Walk.{IsRow}
-use Rattle.meaning.specs.Limits.{MAX-EDITS, LAST}
+use Rattle.types.specs.Limits.{MAX-EDITS}
 use Rattle.meaning.specs.Store.{Edit, Store, editAt, withEdit, withRecords, locksUsed}
 use Rattle.meaning.specs.Outcomes.{lockRoom}
 use Rattle.meaning.specs.Locking.{withLock}
 use Rattle.meaning.specs.Sound.{namesOnce}
-use Rattle.meaning.specs.declared.Counts.{Counts}
+use Rattle.types.specs.declared.Counts.{Counts}
 use Rattle.meaning.proofs.Verdicts.{lockRoom-out}
 use Rattle.tables.specs.Layout.{Fits}
 use Rattle.tables.specs.Decode.{decodeAt}
-use Rattle.tables.specs.Words.{Well}
 use Rattle.calls.specs.Contract.{Ready}
 use Rattle.calls.proofs.Acting.{facts}
 

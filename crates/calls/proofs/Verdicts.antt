@@ -1,12 +1,12 @@
 -- How the tests of a call come out: an outcome under a verdict is the refusal of the first test that fails, or what the
 -- rest says. The laws of each call are chains of these. Rests on Outcomes of `meaning`.
 use Prim.Native.Nat.{ℕ}
-use mathlib.Core.Path.{_≡_, refl, _∙_}
-use mathlib.Core.Bool.{Bool, true, false, cond}
+use mathlib.Core.Path.{_≡_, _∙_}
+use mathlib.Core.Bool.{Bool, true, false}
 use mathlib.Core.List.{List, []}
 use Rattle.meaning.specs.Store.{Store}
-use Rattle.meaning.specs.Replies.{refusing}
-use Rattle.meaning.specs.Outcomes.{Outcome, replies, Verdict, pass, refuse, orElse, needs, unless, knows, isOpen}
+use Rattle.types.specs.Replies.{refusing}
+use Rattle.meaning.specs.Outcomes.{Outcome, replies, Verdict, refuse, orElse, needs, unless, knows, isOpen}
 use Rattle.meaning.specs.Outcomes.{forOpen}
 
 module _ (s : Store) (o : Outcome) where

@@ -7,14 +7,14 @@ use native.Mathlib.Omega.{arith}
 use lib.Dec.{ltb, leb}
 use lib.ListN.{length}
 use borrow.Author.Tests.{ltb-true, le-leb, lt-leb}
-use Rattle.meaning.specs.Limits.{LAST}
+use Rattle.types.specs.Limits.{LAST}
 use Rattle.meaning.specs.Store.{Rec, Store, recAt, newestAt}
-use Rattle.meaning.specs.Replies.{at, refusing}
+use Rattle.types.specs.Replies.{at, refusing}
 use Rattle.meaning.specs.Outcomes.{Outcome, hasRecord}
 use Rattle.meaning.specs.Records.{viewing}
 use Rattle.meaning.specs.Sound.{soundStore}
-use Rattle.meaning.specs.declared.Counts.{Counts}
-use Rattle.meaning.specs.declared.Version.{Version}
+use Rattle.types.specs.declared.Counts.{Counts}
+use Rattle.types.specs.declared.Version.{Version}
 use Rattle.tables.specs.Layout.{HEADER, countsOf, sizeOf, headerOk, Fits}
 use Rattle.tables.specs.Decode.{recordAt, decodeAt}
 use Rattle.tables.specs.Words.{lent, decode, formed, formedAt, soundWords}

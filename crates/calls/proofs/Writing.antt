@@ -1,16 +1,18 @@
 -- What Write has done at each of its returns. Rests on Acting, Exits, Handles and CallsKeep of `meaning`.
-use Prim.Native.Nat.{ℕ, _≤_, _<_}
+use Prim.Native.Nat.{ℕ}
 use mathlib.Core.Path.{_≡_, refl, sym, ap, _∙_}
-use mathlib.Core.Bool.{Bool, true, false}
+use mathlib.Core.Bool.{true, false}
 use mathlib.Core.List.{List, []}
 use lib.Dec.{ltb}
 use Rattle.chains.specs.Walk.{IsRow}
-use Rattle.meaning.specs.Store.{Val, Edit, Store, slotOf, editAt, accessOf}
-use Rattle.meaning.specs.Replies.{Reply, ok, refusing}
-use Rattle.meaning.specs.Outcomes.{knows, isOpen, hasRecord, accessRoom}
+use Rattle.meaning.specs.Store.{Edit, editAt, accessOf}
+use Rattle.types.specs.Numbers.{slotOf}
+use Rattle.types.specs.Values.{Val}
+use Rattle.types.specs.Replies.{Reply, ok, refusing}
+use Rattle.meaning.specs.Outcomes.{knows, isOpen, accessRoom}
 use Rattle.meaning.specs.Edits.{withAccess, written, writing}
-use Rattle.meaning.specs.declared.Access.{Access}
-use Rattle.meaning.specs.declared.Counts.{Counts}
+use Rattle.types.specs.declared.Access.{Access}
+use Rattle.types.specs.declared.Counts.{Counts}
 use Rattle.meaning.proofs.CallsKeep.{write-keeps}
 use Rattle.tables.specs.Layout.{countsOf}
 use Rattle.tables.specs.Decode.{slotAt, decodeAt}
@@ -19,7 +21,7 @@ use Rattle.tables.proofs.Decoded.{edit-at}
 use Rattle.changes.specs.Becomes.{Becomes, onEdit}
 use Rattle.calls.specs.Contract.{Acts, Ready, Makes}
 use Rattle.calls.specs.Parts.{writeOpen}
-use Rattle.calls.proofs.Acting.{ready, slot-row, makes-refused, makes-done, makes-as, acts}
+use Rattle.calls.proofs.Acting.{ready, makes-refused, makes-done, makes-as, acts}
 use Rattle.calls.proofs.Handles.{has-record-is}
 use Rattle.calls.proofs.Exits.{write-no-edit, write-ended, write-no-record, write-passes, write-no-room}
 use Rattle.calls.proofs.Exits.{write-done}

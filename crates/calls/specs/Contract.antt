@@ -6,10 +6,10 @@ use mathlib.Core.Path.{_≡_}
 use mathlib.Core.Bool.{true}
 use mathlib.Core.List.{List}
 use Rattle.meaning.specs.Store.{Store}
-use Rattle.meaning.specs.Replies.{Reply, refused}
+use Rattle.types.specs.Replies.{Reply, refused}
 use Rattle.meaning.specs.Outcomes.{Outcome}
 use Rattle.meaning.specs.Sound.{soundStore}
-use Rattle.meaning.specs.declared.Counts.{Counts}
+use Rattle.types.specs.declared.Counts.{Counts}
 use Rattle.tables.specs.Decode.{decodeAt}
 use Rattle.tables.specs.Words.{Lent, decode, soundWords, Well}
 

@@ -4,11 +4,11 @@ use Prim.Native.Nat.{ℕ}
 use mathlib.Core.Bool.{cond}
 use mathlib.Core.List.{[], _∷_}
 use lib.Dec.{eqb}
-use Rattle.meaning.specs.Limits.{READ, WRITE, SETTLED}
+use Rattle.types.specs.Limits.{READ, WRITE, SETTLED}
 use Rattle.meaning.specs.Store.{Rec, Store, recAt}
 use Rattle.meaning.specs.Outcomes.{Verdict, refuse, handleAt}
 use Rattle.meaning.specs.Locking.{grantEnd, lockFrom, lockEnd, lockGranted, readGranted}
-use Rattle.meaning.specs.declared.Extent.{Extent}
+use Rattle.types.specs.declared.Extent.{Extent}
 use Rattle.blocking.specs.Search.{firstJudged}
 use Rattle.calls.specs.declared.Grant.{Grant}
 use Rattle.calls.specs.declared.Grant.the-variants.{Taken, Judged}

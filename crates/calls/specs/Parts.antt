@@ -1,11 +1,12 @@
 -- What is left of a call once its first tests have passed. Rests on the definitions of `meaning`.
 use Prim.Native.Nat.{ℕ}
-use Rattle.meaning.specs.Store.{Val, Store}
-use Rattle.meaning.specs.Replies.{ok, read}
+use Rattle.meaning.specs.Store.{Store}
+use Rattle.types.specs.Values.{Val}
+use Rattle.types.specs.Replies.{ok, read}
 use Rattle.meaning.specs.Outcomes.{Outcome, replies, pass, needs, unless, accessRoom, lockRoom}
 use Rattle.meaning.specs.Edits.{written}
 use Rattle.meaning.specs.Locking.{readStore}
-use Rattle.meaning.specs.declared.Version.{Version}
+use Rattle.types.specs.declared.Version.{Version}
 
 -- Write, by the open edit of slot k on a record that is there: 10
 unfoldable pub writeOpen : Store → ℕ → ℕ → Val → Outcome

@@ -1,6 +1,5 @@
 // The calls of document 01 on sound words: each equal to its definition in the crate `meaning`, and each leaving sound
-// words. Rests on the crates `meaning`, `chains`, `tables`, `changes`, `slots`, `lookups` and `blocking`.
-//
+// words. Rests on the crates `types`, `meaning`, `chains`, `tables`, `changes`, `slots`, `lookups` and `blocking`.
 // They are for callers who prove the words sound (`requires soundWords`), once for many calls: no call here looks at
 // more than the chains it touches. The crate `store` has the same calls for everybody, with the check first.
 ghost use mathlib.Core.Path.{_≡_};
@@ -9,11 +8,12 @@ ghost use Prim.Native.Nat.{_≤_, _<_};
 ghost use lib.Dec.{ltb};
 ghost use Rattle.chains.specs.Walk.{IsRow};
 ghost use Rattle.meaning.specs.Edits.{beginning, writing};
-ghost use Rattle.meaning.specs.Limits.{LAST, SLOTS, GENERATIONS};
+ghost use Rattle.types.specs.Limits.{LAST, SLOTS, GENERATIONS};
 ghost use Rattle.meaning.specs.Outcomes.{refuse, handleAt};
 ghost use Rattle.meaning.specs.Records.{viewing};
-ghost use Rattle.meaning.specs.Replies.{number, details, ofBegin, ofWrite, ofView};
-ghost use Rattle.meaning.specs.Store.{slotOf, editAt};
+ghost use Rattle.types.specs.Replies.{number, details, ofBegin, ofWrite, ofView};
+ghost use Rattle.meaning.specs.Store.{editAt};
+ghost use Rattle.types.specs.Numbers.{slotOf};
 ghost use Rattle.tables.specs.Decode.{decodeAt};
 ghost use Rattle.tables.specs.Layout.{headerOk, Fits};
 ghost use Rattle.tables.specs.Words.{lent, decode, soundWords};
@@ -21,17 +21,16 @@ ghost use Rattle.calls.specs.Contract.{Acts, Ready, Makes};
 ghost use Rattle.calls.specs.Grants.{refusalBy};
 ghost use Rattle.calls.specs.Parts.{writeOpen};
 use blocking::Blocked;
-use meaning::Access;
-use meaning::BeginReply;
-use meaning::Counts;
-use meaning::Handle;
-use meaning::LAST;
-use meaning::Lock;
-use meaning::Point;
-use meaning::Refusal;
-use meaning::SETTLED;
-use meaning::ViewReply;
-use meaning::WriteReply;
+use types::Access;
+use types::BeginReply;
+use types::Counts;
+use types::Handle;
+use types::LAST;
+use types::Point;
+use types::Refusal;
+use types::SETTLED;
+use types::ViewReply;
+use types::WriteReply;
 
 // What Lock and Read get of the points that they want: a run of points, or the first blocked point with its judgement.
 pub enum Grant {
@@ -51,7 +50,7 @@ pub fn has_record(c: Counts, r: u64) -> bool
 pub fn slot(h: Handle) -> usize
     ensures { λ k. ⌜ k ≡ slotOf (h .0) ⌝ }
 {
-    meaning::slot_of(h) as usize
+    types::slot_of(h) as usize
 }
 
 // The handle of slot k's edit. Slot 0 and slots past the end read as never begun.
@@ -60,13 +59,13 @@ pub fn handle_at(w: &[u64], c: Counts, k: usize) -> Handle
     ensures { λ h. ⌜ h .0 ≡ handleAt (decodeAt c (now (w .entry))) k ⌝ }
 {
     if k < 1 {
-        return meaning::make_handle(0, 0);
+        return types::make_handle(0, 0);
     }
     if c.edits < k {
-        return meaning::make_handle(0, k as u8);
+        return types::make_handle(0, k as u8);
     }
     let g = tables::generation_of(w, c, k);
-    meaning::make_handle(g as u16, k as u8)
+    types::make_handle(g as u16, k as u8)
 }
 
 // Why a blocked point cannot be had: it is frozen, or held by a slot.
@@ -149,7 +148,7 @@ pub fn view(w: &[u64], rec: u64, p: Point) -> ViewReply
     if !has_record(c, rec) {
         return ViewReply::Refused(Refusal::NoRecord);
     }
-    let q = meaning::word_of_point(p);
+    let q = types::word_of_point(p);
     if LAST < q {
         return ViewReply::Refused(Refusal::BadPoint);
     }
@@ -160,5 +159,5 @@ pub fn view(w: &[u64], rec: u64, p: Point) -> ViewReply
     }
     let v = lookups::newest_at(w, c, r, q);
     let value = v.value;
-    ViewReply::At(meaning::point_of_word(v.point), value)
+    ViewReply::At(types::point_of_word(v.point), value)
 }

@@ -4,14 +4,14 @@ use Prim.Native.Nat.{ℕ, zero, suc, _+_, _*_, _-_, _≤_, _<_}
 use mathlib.Core.Path.{_≡_, sym}
 use mathlib.Core.List.{List}
 use native.Mathlib.Omega.{arith}
-use lib.ListN.{length, getD, set}
+use lib.ListN.{getD, set}
 use lib.Seq.{getD-set-other}
 use Rattle.chains.specs.declared.Table.{Table}
 use Rattle.chains.specs.declared.Heads.{Heads}
 use Rattle.chains.specs.Walk.{IsRow}
 use Rattle.chains.specs.Table.{place, field, headCell, headOf}
 use Rattle.chains.proofs.Frames.{Kept, Apart, OnlyTable}
-use Rattle.meaning.specs.declared.Counts.{Counts}
+use Rattle.types.specs.declared.Counts.{Counts}
 use Rattle.tables.specs.Layout.{slotBase, versionBase, lockBase, accessBase, recordTable, slotTable, versionTable}
 use Rattle.tables.specs.Layout.{lockTable, accessTable, versionHeads, lockHeads, accessHeads, H-ACCESSES, SLOT, R-FLOOR}
 use Rattle.tables.specs.Layout.{S-ACCESS}

@@ -15,7 +15,7 @@ use Rattle.chains.proofs.Entries.{entries-all}
 use Rattle.meaning.specs.Lists.{all, any, keep, pairwise}
 use Rattle.meaning.proofs.Lists.{and-left, and-right, or-left, or-right}
 use Rattle.meaning.specs.Ending.{insert}
-use Rattle.meaning.specs.declared.Version.{Version}
+use Rattle.types.specs.declared.Version.{Version}
 
 -- tests of all rows
 pub all-pushed : (f g : ℕ → Bool) (rs rs′ : List ℕ) (b : Bool) → map f rs′ ≡ b ∷ map g rs → b ≡ true → allOf g rs ≡ true

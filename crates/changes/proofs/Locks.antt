@@ -1,9 +1,9 @@
 -- Changes of one record's locks: a row taken, filled and put first; rows dropped by a test. Rests on OneTable, Stored,
 -- Rooms and Lists.
-use Prim.Native.Nat.{ℕ, zero, suc, _≤_, _<_}
+use Prim.Native.Nat.{ℕ, suc, _≤_, _<_}
 use mathlib.Core.Path.{_≡_, refl, sym, ap, _∙_}
-use mathlib.Core.Bool.{Bool, true, false}
-use mathlib.Core.List.{List, [], _∷_, map, tail}
+use mathlib.Core.Bool.{Bool, true}
+use mathlib.Core.List.{List, _∷_, map, tail}
 use native.Mathlib.Omega.{arith}
 use native.Mathlib.Decide.{ℕ-discrete}
 use lib.Dec.{eqb}
@@ -18,8 +18,8 @@ use Rattle.chains.proofs.Frames.{only-elsewhere, field-kept, apart-kept}
 use Rattle.chains.proofs.Entries.{Filled, filled-start, pushed-entries, other-entries, entries-kept, entries-drop}
 use Rattle.meaning.specs.Store.{withRec, withLocks, recAt, locksUsed}
 use Rattle.meaning.specs.Points.{addLock}
-use Rattle.meaning.specs.declared.Lock.{Lock}
-use Rattle.meaning.specs.declared.Counts.{Counts}
+use Rattle.types.specs.declared.Lock.{Lock}
+use Rattle.types.specs.declared.Counts.{Counts}
 use Rattle.tables.specs.Layout.{lockTable, lockHeads, Fits, MODES, L-LOW, L-HIGH, L-MODE, L-RECORD}
 use Rattle.tables.specs.Decode.{lockAt, lockRows, locksOf, recordAt, decodeAt}
 use Rattle.writes.specs.Rows.{lockStored}

@@ -1,23 +1,23 @@
 -- What a change of one table leaves alone, and what it makes of the store: `but-versions`, `but-locks`, `but-accesses`
 -- are the frames of every mutator; `versions-become` and its like are what a mutator shows to be done. Rests on Apart
 -- and Parts.
-use Prim.Native.Nat.{ℕ, suc, _≤_, _<_}
+use Prim.Native.Nat.{ℕ, _≤_, _<_}
 use mathlib.Core.Path.{_≡_, refl, sym, ap, _∙_}
 use mathlib.Core.Bool.{true}
 use mathlib.Core.List.{List}
 use native.Mathlib.Omega.{arith}
 use Rattle.chains.specs.Lists.{allOf}
 use Rattle.chains.specs.Walk.{IsRow}
-use Rattle.chains.specs.Table.{field, place}
+use Rattle.chains.specs.Table.{field}
 use Rattle.chains.specs.Partition.{partition}
 use Rattle.chains.proofs.Frames.{OnlyTable, apart-kept}
-use Rattle.meaning.specs.Store.{Rec, Edit, withRec, withEdit, withLocks, recAt, editAt}
-use Rattle.meaning.specs.declared.Version.{Version}
-use Rattle.meaning.specs.declared.Lock.{Lock}
-use Rattle.meaning.specs.declared.Access.{Access}
-use Rattle.meaning.specs.declared.Counts.{Counts}
-use Rattle.tables.specs.Layout.{recordTable, slotTable, lockTable, lockHeads, versionTable, versionHeads, accessTable}
-use Rattle.tables.specs.Layout.{accessHeads, Fits, R-FLOOR, S-STATE, S-GENERATION, S-POINT}
+use Rattle.meaning.specs.Store.{withRec, withEdit, withLocks, recAt, editAt}
+use Rattle.types.specs.declared.Version.{Version}
+use Rattle.types.specs.declared.Lock.{Lock}
+use Rattle.types.specs.declared.Access.{Access}
+use Rattle.types.specs.declared.Counts.{Counts}
+use Rattle.tables.specs.Layout.{lockTable, lockHeads, versionTable, versionHeads, accessTable}
+use Rattle.tables.specs.Layout.{accessHeads, Fits, S-STATE, S-GENERATION, S-POINT}
 use Rattle.tables.specs.Decode.{lockRows, accessRows, versionsOf, locksOf, accessesOf, floorOf, recordAt, slotAt}
 use Rattle.tables.specs.Decode.{decodeAt}
 use Rattle.tables.specs.Words.{Well, namesRecord, marked}

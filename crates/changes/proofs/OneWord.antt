@@ -1,28 +1,28 @@
 -- What a store to one word of a slot, or to a record's floor, makes of the store, and how two changes of one slot or
 -- record make one. Rests on Apart and Parts.
-use Prim.Native.Nat.{ℕ, zero, suc, _+_, _*_, _-_, _≤_, _<_}
+use Prim.Native.Nat.{ℕ, zero, suc, _-_, _<_}
 use mathlib.Core.Path.{_≡_, refl, sym, ap, _∙_}
 use mathlib.Core.List.{List, []}
 use native.Mathlib.Omega.{arith}
-use native.Mathlib.Decide.{ℕ-discrete}
 use lib.ListN.{length, getD, set}
 use lib.Seq.{getD-set-other, set-set}
 use Rattle.chains.specs.Walk.{IsRow}
 use Rattle.chains.specs.Table.{field, place}
 use Rattle.chains.proofs.Cells.{field-same, field-other}
-use Rattle.meaning.specs.Store.{nextGeneration, Rec, Edit, Store, withRec, withRecords, withEdit, setEdit, recAt}
-use Rattle.meaning.specs.Store.{editAt, recOf, editOf}
+use Rattle.meaning.specs.Store.{Rec, Edit, Store, withRec, withRecords, withEdit, setEdit, recAt}
+use Rattle.types.specs.Numbers.{nextGeneration}
+use Rattle.meaning.specs.Store.{editAt}
 use Rattle.meaning.proofs.Stores.{edit-same, rec-same}
-use Rattle.meaning.specs.declared.Counts.{Counts}
+use Rattle.types.specs.declared.Counts.{Counts}
 use Rattle.tables.specs.Layout.{slotBase, recordTable, slotTable, R-FLOOR, SLOT, S-STATE, S-GENERATION, S-ACCESS}
 use Rattle.tables.specs.Layout.{S-POINT}
 use Rattle.tables.specs.Decode.{floorOf, recordAt, slotAt, recordsOf, editsOf, decodeAt}
 use Rattle.tables.specs.Words.{Well}
 use Rattle.tables.proofs.Places.{slots-lie, records-lie, slot-fits, record-fits}
-use Rattle.tables.proofs.Decoded.{rec-at, edit-at, decoded-records, decoded-edits, records-length, edits-length}
+use Rattle.tables.proofs.Decoded.{rec-at, edit-at, records-length, edits-length}
 use Rattle.meaning.specs.Edits.{begun}
 use Rattle.meaning.specs.Ending.{ended}
-use Rattle.meaning.specs.Limits.{OPEN}
+use Rattle.types.specs.Limits.{OPEN}
 use Rattle.changes.specs.Becomes.{Becomes, withFloor, withState, withPoint, withGeneration}
 use Rattle.changes.proofs.Apart
 use Rattle.changes.proofs.Parts

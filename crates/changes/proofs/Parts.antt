@@ -7,17 +7,17 @@ use mathlib.Core.Bool.{Bool, true}
 use mathlib.Core.List.{List, map}
 use native.Mathlib.Omega.{arith}
 use lib.Dec.{eqb, leb}
-use lib.ListN.{length, set}
+use lib.ListN.{set}
 use Rattle.chains.specs.Lists.{allOf}
 use Rattle.chains.specs.Walk.{IsRow}
-use Rattle.chains.specs.Table.{field, rowsOf}
+use Rattle.chains.specs.Table.{field}
 use Rattle.chains.specs.Partition.{partition}
 use Rattle.chains.proofs.Entries.{same-entries, entries-all}
 use Rattle.chains.proofs.Frames.{Kept, kept-same}
-use Rattle.meaning.specs.Store.{Rec, Edit, Store, withEdit, setEdit, withRec, withRecords}
-use Rattle.meaning.specs.declared.Counts.{Counts}
-use Rattle.tables.specs.Layout.{recordTable, slotTable, lockTable, lockHeads, versionTable, versionHeads, accessTable}
-use Rattle.tables.specs.Layout.{accessHeads, R-FLOOR, SLOT, S-STATE, S-GENERATION, S-ACCESS, S-POINT, L-LOW, L-HIGH}
+use Rattle.meaning.specs.Store.{withEdit, setEdit, withRec, withRecords}
+use Rattle.types.specs.declared.Counts.{Counts}
+use Rattle.tables.specs.Layout.{slotTable, lockTable, lockHeads, versionTable, versionHeads, accessTable}
+use Rattle.tables.specs.Layout.{accessHeads, SLOT, S-STATE, S-GENERATION, S-ACCESS, S-POINT, L-LOW, L-HIGH}
 use Rattle.tables.specs.Layout.{L-MODE, L-RECORD, V-POINT, V-VALUE, V-SPARE, A-RECORD, A-FROM, A-WRITTEN, A-VALUE}
 use Rattle.tables.specs.Layout.{A-NEXT}
 use Rattle.tables.specs.Decode.{build, versionAt, lockAt, accessAt, versionRows, lockRows, accessRows, versionsOf}

@@ -1,23 +1,22 @@
 -- A row that has been filled has the entry it was filled with, and its words are those of no other row. Rests on
 -- Entries of `chains`.
-use Prim.Native.Nat.{ℕ, _+_, _*_, _/_, _%_, _≤_, _<_}
-use mathlib.Core.Path.{_≡_, refl, sym, ap, _∙_}
-use mathlib.Core.Bool.{Bool, true, false, cond}
+use Prim.Native.Nat.{ℕ, _+_, _*_, _/_, _%_, _<_}
+use mathlib.Core.Path.{_≡_, refl, ap, _∙_}
+use mathlib.Core.Bool.{Bool, true, false}
 use mathlib.Core.List.{List}
 use native.Mathlib.Omega.{arith}
 use lib.Dec.{eqb, leb}
-use lib.ListN.{length, set}
+use lib.ListN.{set}
 use Rattle.chains.specs.declared.Table.{Table}
 use Rattle.chains.specs.Walk.{IsRow}
-use Rattle.chains.specs.Table.{field, place, Lies}
+use Rattle.chains.specs.Table.{field, place}
 use Rattle.chains.specs.Change.{Ready}
 use Rattle.chains.proofs.Cells.{field-same, field-other, lies}
 use Rattle.chains.proofs.Entries.{Filled, filled-put}
-use Rattle.meaning.specs.declared.Value.the-variants.{Written}
-use Rattle.meaning.specs.declared.Version.{Version}
-use Rattle.meaning.specs.declared.Lock.{Lock}
-use Rattle.meaning.specs.declared.Access.{Access}
-use Rattle.meaning.specs.declared.Counts.{Counts}
+use Rattle.types.specs.declared.Value.the-variants.{Written}
+use Rattle.types.specs.declared.Lock.{Lock}
+use Rattle.types.specs.declared.Access.{Access}
+use Rattle.types.specs.declared.Counts.{Counts}
 use Rattle.tables.specs.Layout.{lockTable, lockHeads, versionTable, versionHeads, accessTable, accessHeads, Fits, MODES}
 use Rattle.tables.specs.Layout.{L-LOW, L-HIGH, L-MODE, L-RECORD, V-POINT, V-VALUE, V-SPARE, A-RECORD, A-FROM, A-WRITTEN}
 use Rattle.tables.specs.Layout.{A-VALUE}

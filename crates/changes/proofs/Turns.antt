@@ -12,8 +12,8 @@ use Rattle.chains.specs.Change.{Ready, Changed, Follows, Turned}
 use Rattle.chains.proofs.Frames.{only-elsewhere}
 use Rattle.chains.proofs.Walks.{more-out}
 use Rattle.chains.proofs.Turns.{TurnInv, turn-start, turn-ready, turn-again, turn-end}
-use Rattle.meaning.specs.declared.Lock.{Lock}
-use Rattle.meaning.specs.declared.Counts.{Counts}
+use Rattle.types.specs.declared.Lock.{Lock}
+use Rattle.types.specs.declared.Counts.{Counts}
 use Rattle.tables.specs.Layout.{lockTable, lockHeads, Fits}
 use Rattle.tables.specs.Decode.{lockAt}
 use Rattle.tables.specs.Words.{Well}

@@ -1,9 +1,9 @@
 -- Changes of one record's versions: a row taken, put at its place and filled; rows dropped by a test. Rests on
 -- OneTable, Stored, Rooms and Lists.
-use Prim.Native.Nat.{ℕ, zero, suc, _≤_, _<_}
+use Prim.Native.Nat.{ℕ, suc, _≤_, _<_}
 use mathlib.Core.Path.{_≡_, refl, sym, ap, _∙_}
-use mathlib.Core.Bool.{Bool, true, false}
-use mathlib.Core.List.{List, [], _∷_, _++_, map, tail}
+use mathlib.Core.Bool.{Bool}
+use mathlib.Core.List.{List, _∷_, _++_, map, tail}
 use native.Mathlib.Omega.{arith}
 use lib.Dec.{ltb}
 use Rattle.chains.specs.Lists.{occ, dropIf, pushIf, takeWhile, dropWhile}
@@ -18,8 +18,8 @@ use Rattle.chains.proofs.Entries.{Filled, filled-start, inserted-entries, other
 use Rattle.chains.proofs.Entries.{entries-take, entries-beyond}
 use Rattle.meaning.specs.Store.{withRec, recAt, versionsUsed}
 use Rattle.meaning.specs.Ending.{insert}
-use Rattle.meaning.specs.declared.Version.{Version}
-use Rattle.meaning.specs.declared.Counts.{Counts}
+use Rattle.types.specs.declared.Version.{Version}
+use Rattle.types.specs.declared.Counts.{Counts}
 use Rattle.tables.specs.Layout.{versionTable, versionHeads, Fits, V-POINT, V-VALUE, V-SPARE}
 use Rattle.tables.specs.Decode.{versionAt, versionRows, versionsOf, recordAt, decodeAt}
 use Rattle.writes.specs.Rows.{versionStored}

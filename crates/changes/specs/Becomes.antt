@@ -3,11 +3,11 @@ use Prim.Native.Nat.{ℕ}
 use mathlib.Core.Path.{_≡_}
 use mathlib.Core.List.{List}
 use Rattle.meaning.specs.Store.{Rec, Edit, Store, withRec, withEdit, withLocks, recAt, editAt}
-use Rattle.meaning.specs.declared.Lock.{Lock}
-use Rattle.meaning.specs.declared.Value.the-variants.{Written}
-use Rattle.meaning.specs.declared.Version.{Version}
-use Rattle.meaning.specs.declared.Access.{Access}
-use Rattle.meaning.specs.declared.Counts.{Counts}
+use Rattle.types.specs.declared.Lock.{Lock}
+use Rattle.types.specs.declared.Value.the-variants.{Written}
+use Rattle.types.specs.declared.Version.{Version}
+use Rattle.types.specs.declared.Access.{Access}
+use Rattle.types.specs.declared.Counts.{Counts}
 use Rattle.chains.specs.Walk.{IsRow}
 use Rattle.chains.specs.Table.{link}
 use Rattle.tables.specs.Layout.{accessTable}

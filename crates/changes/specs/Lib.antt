@@ -1,2 +1,2 @@
--- What a change makes of well-formed words. Rests on the crates `meaning` and `tables`.
+-- What a change makes of well-formed words. Rests on the crates `types`, `meaning` and `tables`.
 pub mod Becomes

@@ -1,13 +1,13 @@
 // The changes of a record that the calls are made of: its locks and its versions; those of Purge are the crate `trims`.
 // Each leaves the words well formed and equals a function of the decoded store; the callers prove that the words are
 // well formed (`Well`), that slots and records are in range, and that there is room, in the words of the meaning. Rests
-// on the crates `meaning`, `chains`, `updates`, `tables` and `writes`.
+// on the crates `types`, `meaning`, `chains`, `updates`, `tables` and `writes`.
 ghost use mathlib.Core.Path.{_≡_};
 ghost use mathlib.Core.Bool.{true};
 ghost use Prim.Native.Nat.{suc, _+_, _≤_, _<_};
 ghost use Rattle.chains.specs.Walk.{IsRow};
 ghost use Rattle.chains.specs.Change.{Ready, Follows, Taken, Moved, Turned};
-ghost use Rattle.meaning.specs.Limits.{MAX-EDITS};
+ghost use Rattle.types.specs.Limits.{MAX-EDITS};
 ghost use Rattle.meaning.specs.Store.{versionsUsed, locksUsed};
 ghost use Rattle.meaning.specs.Points.{isOwned, addLock, leaveSettled, dropOwner};
 ghost use Rattle.meaning.specs.Ending.{insert};
@@ -15,9 +15,9 @@ ghost use Rattle.tables.specs.Layout.{MODES, Fits, lockTable, lockHeads};
 ghost use Rattle.tables.specs.Decode.{lockAt, decodeAt};
 ghost use Rattle.tables.specs.Words.{Well};
 ghost use Rattle.changes.specs.Becomes.{Becomes, Beside, versionOf, onVersions, onLocks};
-use meaning::Counts;
-use meaning::Lock;
-use meaning::SETTLED;
+use types::Counts;
+use types::Lock;
+use types::SETTLED;
 
 // Locks.
 

@@ -1,22 +1,22 @@
 // Fills and frees every table of a small store three thousand times through the public calls, and prints how many calls
 // were granted and how many were refused, by the number of the refusal. Every round asks for the same, so each count is
 // a multiple of the rounds: a row or a slot that is lost, or refused while one is free, changes the output. Rests on
-// the crates `io`, `meaning`, `soundness`, `format` and `store`.
-use meaning::AbortReply;
-use meaning::BeginReply;
-use meaning::CommitReply;
-use meaning::Counts;
-use meaning::Extent;
-use meaning::Finish;
-use meaning::FormatReply;
-use meaning::Handle;
-use meaning::LockReply;
-use meaning::Pick;
-use meaning::PurgeReply;
-use meaning::ReadReply;
-use meaning::Refusal;
-use meaning::SettleReply;
-use meaning::WriteReply;
+// the crates `io`, `types`, `soundness`, `format` and `store`.
+use types::AbortReply;
+use types::BeginReply;
+use types::CommitReply;
+use types::Counts;
+use types::Extent;
+use types::Finish;
+use types::FormatReply;
+use types::Handle;
+use types::LockReply;
+use types::Pick;
+use types::PurgeReply;
+use types::ReadReply;
+use types::Refusal;
+use types::SettleReply;
+use types::WriteReply;
 
 const ROUNDS: u64 = 3000;
 
@@ -59,7 +59,7 @@ fn add(tally: &mut [u64; 32], i: usize, n: u64) {
 }
 
 fn refuse(tally: &mut [u64; 32], r: Refusal) {
-    let n = meaning::refusal_number(r);
+    let n = types::refusal_number(r);
     add(tally, n as usize, 1);
 }
 
@@ -74,7 +74,7 @@ fn begin(words: &mut [u64; 128], tally: &mut [u64; 32]) -> Handle {
         }
         BeginReply::Refused(r) => {
             refuse(tally, r);
-            meaning::handle_of_word(0)
+            types::handle_of_word(0)
         }
     }
 }
@@ -88,7 +88,7 @@ fn write(words: &mut [u64; 128], tally: &mut [u64; 32], h: Handle, rec: u64) {
 }
 
 fn lock(words: &mut [u64; 128], tally: &mut [u64; 32], h: Handle, rec: u64, p: u64) {
-    let point = meaning::point_of_word(p);
+    let point = types::point_of_word(p);
     let reply = store::lock(words, h, rec, point, point, Extent::All);
     match reply {
         LockReply::Locked(_, _) => add(tally, LOCKED, 1),
@@ -97,7 +97,7 @@ fn lock(words: &mut [u64; 128], tally: &mut [u64; 32], h: Handle, rec: u64, p: u
 }
 
 fn read(words: &mut [u64; 128], tally: &mut [u64; 32], h: Handle, rec: u64, m: u64) {
-    let reply = store::read(words, h, rec, meaning::point_of_word(m), Extent::All);
+    let reply = store::read(words, h, rec, types::point_of_word(m), Extent::All);
     match reply {
         ReadReply::Read(_, _, _) => add(tally, READS, 1),
         ReadReply::Own(_) => add(tally, READS, 1),
@@ -132,7 +132,7 @@ fn settle(words: &mut [u64; 128], tally: &mut [u64; 32], h: Handle) {
 }
 
 fn purge(words: &mut [u64; 128], tally: &mut [u64; 32], rec: u64, b: u64) {
-    let reply = store::purge(words, rec, meaning::point_of_word(b));
+    let reply = store::purge(words, rec, types::point_of_word(b));
     match reply {
         PurgeReply::Purged(versions, locks) => {
             add(tally, PURGED_VERSIONS, versions);
@@ -237,7 +237,7 @@ fn write_at(words: &mut [u64; 128], tally: &mut [u64; 32], t: u64) -> Handle {
         words,
         tally,
         h,
-        Pick::Named(meaning::point_of_word(t)),
+        Pick::Named(types::point_of_word(t)),
         Finish::Settle,
     );
     h

@@ -8,14 +8,14 @@ use native.Mathlib.Omega.{arith}
 use lib.Dec.{eqb}
 use borrow.Author.Tests.{eq-eqb, ne-eqb, le-leb, lt-leb}
 use Rattle.chains.specs.Walk.{IsRow}
-use Rattle.meaning.specs.Limits.{WRITE, SETTLED, COMMITTED}
+use Rattle.types.specs.Limits.{WRITE, SETTLED, COMMITTED}
 use Rattle.meaning.specs.Lists.{any}
 use Rattle.meaning.specs.Store.{Rec, Edit, freshEdit, editOf, accessOf}
 use Rattle.meaning.specs.Points.{covers}
 use Rattle.meaning.specs.Sound.{wroteAt, backs}
-use Rattle.meaning.specs.declared.Version.{Version}
-use Rattle.meaning.specs.declared.Lock.{Lock}
-use Rattle.meaning.specs.declared.Counts.{Counts}
+use Rattle.types.specs.declared.Version.{Version}
+use Rattle.types.specs.declared.Lock.{Lock}
+use Rattle.types.specs.declared.Counts.{Counts}
 use Rattle.meaning.proofs.Lists.{getD-past}
 use Rattle.tables.specs.Decode.{slotAt, editsOf}
 use Rattle.tables.proofs.Decoded.{edit-of, edits-length}

@@ -11,12 +11,12 @@ use lib.ListN.{length, getD, set, length-set}
 use lib.Seq.{getD-set-same, getD-set-other}
 use lib.Dec.{ltb, eqb}
 use borrow.Author.Tests.{ltb-true, lt-ltb, eqb-false, ne-eqb, not-true}
-use Rattle.meaning.specs.Limits.{MAX-RECORDS}
+use Rattle.types.specs.Limits.{MAX-RECORDS}
 use Rattle.meaning.specs.Lists.{_∈_, all, any, pairwise}
 use Rattle.meaning.specs.Store.{Rec, Edit, recOf, hasRead}
 use Rattle.meaning.specs.Sound.{stateListed, generationListed, pointListed, namesExisting, namesOnce, isPresent}
 use Rattle.meaning.specs.Sound.{readsPresent, startsRead, readsLocked, pointCommon, freeIdle, soundEdit}
-use Rattle.meaning.specs.declared.Access.{Access}
+use Rattle.types.specs.declared.Access.{Access}
 use Rattle.meaning.proofs.Lists.{and-in, and-left, and-right, implies-out, implies-in, all-in, all-out, every-at}
 use Rattle.clauses.specs.Clauses.{readSound, accessesSound, slotListed, Stamps}
 use Rattle.clauses.proofs.Steps.{both}

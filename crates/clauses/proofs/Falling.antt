@@ -5,7 +5,7 @@ use mathlib.Core.Bool.{Bool, true, false}
 use mathlib.Core.List.{List, [], _∷_, map}
 use Rattle.chains.specs.Walk.{more, rows}
 use Rattle.chains.proofs.Loops.{Walk, walk-again, walk-out, walk-end}
-use Rattle.meaning.specs.declared.Version.{Version}
+use Rattle.types.specs.declared.Version.{Version}
 use Rattle.clauses.specs.Clauses.{fallsBelow, endsOn, fallsTo}
 use Rattle.clauses.proofs.Steps.{and-no, and-on}
 

@@ -12,18 +12,17 @@ use lib.Seq.{getD-set-same, getD-set-other}
 use lib.Dec.{ltb, eqb}
 use borrow.Author.Tests.{eq-eqb, ne-eqb, eqb-true, eqb-false, ltb-true, lt-ltb, not-true}
 use Rattle.chains.specs.Lists.{occ}
-use Rattle.chains.specs.Walk.{IsRow, rows}
+use Rattle.chains.specs.Walk.{IsRow}
 use Rattle.chains.specs.Partition.{partition}
-use Rattle.chains.proofs.Loops.{Walk}
 use Rattle.chains.proofs.Occurs.{occ-nil, occ-other, occ-here}
 use Rattle.chains.proofs.Words.{on-chain, on-one}
-use Rattle.meaning.specs.Limits.{MAX-ROWS}
+use Rattle.types.specs.Limits.{MAX-ROWS}
 use Rattle.meaning.specs.Lists.{any, all, find, pairwise}
 use Rattle.meaning.specs.Store.{isOf, noAccess, accessOf}
 use Rattle.meaning.specs.Points.{isOwned}
 use Rattle.meaning.specs.Sound.{namesOnce}
-use Rattle.meaning.specs.declared.Access.{Access}
-use Rattle.meaning.specs.declared.Counts.{Counts}
+use Rattle.types.specs.declared.Access.{Access}
+use Rattle.types.specs.declared.Counts.{Counts}
 use Rattle.meaning.proofs.Lists.{test, and-left, and-right}
 use Rattle.tables.specs.Layout.{lockTable, lockHeads}
 use Rattle.tables.specs.Decode.{lockAt, slotAt, lockRows}

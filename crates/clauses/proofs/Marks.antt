@@ -18,9 +18,9 @@ use Rattle.chains.proofs.Walks.{step}
 use Rattle.meaning.specs.Sound.{stateListed, generationListed, pointListed, namesExisting, namesOnce, readsPresent}
 use Rattle.meaning.specs.Sound.{readsLocked, pointCommon, freeIdle, soundEdit}
 use Rattle.meaning.specs.Store.{accessOf}
-use Rattle.meaning.specs.declared.Lock.{Lock}
-use Rattle.meaning.specs.declared.Access.{Access}
-use Rattle.meaning.specs.declared.Counts.{Counts}
+use Rattle.types.specs.declared.Lock.{Lock}
+use Rattle.types.specs.declared.Access.{Access}
+use Rattle.types.specs.declared.Counts.{Counts}
 use Rattle.meaning.proofs.Lists.{every-at}
 use Rattle.tables.specs.Layout.{Fits}
 use Rattle.tables.specs.Decode.{lockAt, slotAt, recordsOf, lockRows}

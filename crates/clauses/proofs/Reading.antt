@@ -10,8 +10,8 @@ use borrow.Author.Tests.{eq-eqb, ne-eqb, lt-ltb, le-ltb}
 use Rattle.meaning.specs.Lists.{any}
 use Rattle.meaning.specs.Store.{Rec, recOf}
 use Rattle.meaning.specs.Sound.{isPresent, startsRead}
-use Rattle.meaning.specs.declared.Access.{Access}
-use Rattle.meaning.specs.declared.Counts.{Counts}
+use Rattle.types.specs.declared.Access.{Access}
+use Rattle.types.specs.declared.Counts.{Counts}
 use Rattle.tables.specs.Decode.{recordAt, recordsOf}
 use Rattle.tables.proofs.Decoded.{rec-of}
 use Rattle.clauses.specs.Clauses.{standsBefore, readSound}

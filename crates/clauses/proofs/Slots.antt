@@ -14,9 +14,9 @@ use Rattle.chains.specs.Table.{link, headOf}
 use Rattle.chains.proofs.Bounded.{all-ext}
 use Rattle.chains.proofs.Parts.{zeros}
 use Rattle.chains.proofs.Walks.{step, stop}
-use Rattle.meaning.specs.Limits.{MAX-RECORDS, FREE}
+use Rattle.types.specs.Limits.{MAX-RECORDS, FREE}
 use Rattle.meaning.specs.Sound.{freeIdle, soundRec, soundEdit}
-use Rattle.meaning.specs.declared.Counts.{Counts}
+use Rattle.types.specs.declared.Counts.{Counts}
 use Rattle.meaning.proofs.Lists.{test}
 use mathlib.Core.Logic.{_⊎_, inl, inr}
 use Rattle.tables.specs.Layout.{accessTable, accessHeads}

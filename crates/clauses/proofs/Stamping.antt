@@ -12,7 +12,7 @@ use borrow.Author.Tests.{eq-eqb, ne-eqb, lt-ltb, le-ltb}
 use Rattle.chains.specs.Walk.{more, rows}
 use Rattle.chains.proofs.Loops.{Walk, walk-again, walk-out, walk-end}
 use Rattle.meaning.specs.Store.{Rec}
-use Rattle.meaning.specs.declared.Access.{Access}
+use Rattle.types.specs.declared.Access.{Access}
 use Rattle.clauses.specs.Clauses.{readSound, accessesSound, Stamps}
 use Rattle.clauses.proofs.Steps.{and-no, and-on}
 

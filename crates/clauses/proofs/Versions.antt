@@ -9,10 +9,10 @@ use native.Mathlib.Omega.{arith}
 use lib.Dec.{leb, ltb, eqb}
 use borrow.Author.Tests.{leb-true, le-leb, ltb-true, lt-ltb, eqb-true, eq-eqb}
 use Rattle.meaning.specs.Lists.{_∈_, all, pairwise}
-use Rattle.meaning.specs.Limits.{LAST}
+use Rattle.types.specs.Limits.{LAST}
 use Rattle.meaning.specs.Store.{Rec}
 use Rattle.meaning.specs.Sound.{versionsFall, versionsLie, endsAt, versionsEnd, noneAtZero}
-use Rattle.meaning.specs.declared.Version.{Version}
+use Rattle.types.specs.declared.Version.{Version}
 use Rattle.meaning.proofs.Lists.{and-in, and-left, and-right, or-out, or-left, or-right, all-in, all-out}
 use Rattle.clauses.specs.Clauses.{fallsBelow, endsOn, fallsTo, versionsSound}
 

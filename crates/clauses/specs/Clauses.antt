@@ -8,15 +8,15 @@ use mathlib.Core.List.{List, [], _∷_}
 use lib.ListN.{length, getD, set}
 use lib.Dec.{leb, ltb, eqb}
 use Rattle.meaning.specs.Lists.{any, allFrom}
-use Rattle.meaning.specs.Limits.{LAST, MAX-RECORDS, READ, WRITE, SETTLED}
+use Rattle.types.specs.Limits.{LAST, MAX-RECORDS, READ, WRITE, SETTLED}
 use Rattle.meaning.specs.Store.{Rec, Edit, recOf, inUse, hasRead}
-use Rattle.meaning.specs.declared.Version.{Version}
-use Rattle.meaning.specs.declared.Lock.{Lock}
-use Rattle.meaning.specs.declared.Access.{Access}
+use Rattle.types.specs.declared.Version.{Version}
+use Rattle.types.specs.declared.Lock.{Lock}
+use Rattle.types.specs.declared.Access.{Access}
 use Rattle.meaning.specs.Points.{isOwned}
 use Rattle.meaning.specs.Sound.{backs, isPresent, startsRead, stateListed, generationListed, pointListed, freeIdle}
 use Rattle.meaning.specs.Sound.{soundRec, soundEdit}
-use Rattle.meaning.specs.declared.Counts.{Counts}
+use Rattle.types.specs.declared.Counts.{Counts}
 use Rattle.tables.specs.Decode.{recordsOf, editsOf}
 
 -- one lock of a record with this floor: its mode, its span and its owner

@@ -8,11 +8,11 @@ use lib.ListN.{length, getD, set}
 use lib.Dec.{ltb, eqb}
 use Rattle.chains.specs.Lists.{occ}
 use Rattle.chains.specs.Walk.{IsRow}
-use Rattle.meaning.specs.Limits.{MAX-ROWS}
+use Rattle.types.specs.Limits.{MAX-ROWS}
 use Rattle.meaning.specs.Store.{accessOf}
 use Rattle.meaning.specs.Points.{isOwned}
-use Rattle.meaning.specs.declared.Access.{Access}
-use Rattle.meaning.specs.declared.Counts.{Counts}
+use Rattle.types.specs.declared.Access.{Access}
+use Rattle.types.specs.declared.Counts.{Counts}
 use Rattle.tables.specs.Decode.{lockAt, slotAt, lockRows}
 
 -- how many marks there are: one for each row number from 0 to the last, so that a row is its own index

@@ -4,14 +4,14 @@ use mathlib.Core.Path.{_≡_, refl}
 use mathlib.Core.List.{List, [], _∷_}
 use types.Run.{OneOf, miss}
 use denote.Enum.Declared.{tagOf}
-use Rattle.meaning.specs.Replies.{number, ofRefusal}
-use Rattle.meaning.specs.declared.Refusal.{Refusal}
-use Rattle.meaning.proofs.Refusal.{the-type}
-use Rattle.meaning.specs.declared.Refusal.the-variants.{Unsound, NoEdit, EditEnded, EditOpen, NoRecord, BadPoint}
-use Rattle.meaning.specs.declared.Refusal.the-variants.{BelowFloor, Held, Frozen, NoAccessRow, NoLockRow, NoVersionRow}
-use Rattle.meaning.specs.declared.Refusal.the-variants.{NoSlot, NotCommon, LockedBelow, BadFormat}
-use Rattle.meaning.specs.declared.Extent.the-variants.{All, Part}
-use Rattle.meaning.specs.declared.Finish.the-variants.{Settle, Keep}
+use Rattle.types.specs.Replies.{number, ofRefusal}
+use Rattle.types.specs.declared.Refusal.{Refusal}
+use Rattle.types.proofs.Refusal.{the-type}
+use Rattle.types.specs.declared.Refusal.the-variants.{Unsound, NoEdit, EditEnded, EditOpen, NoRecord, BadPoint}
+use Rattle.types.specs.declared.Refusal.the-variants.{BelowFloor, Held, Frozen, NoAccessRow, NoLockRow, NoVersionRow}
+use Rattle.types.specs.declared.Refusal.the-variants.{NoSlot, NotCommon, LockedBelow, BadFormat}
+use Rattle.types.specs.declared.Extent.the-variants.{All, Part}
+use Rattle.types.specs.declared.Finish.the-variants.{Settle, Keep}
 use Rattle.codes.specs.Codes.{codeOf, extentOf, finishOf}
 
 -- the variants of Refusal but Held, by their place

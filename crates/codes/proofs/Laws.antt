@@ -2,31 +2,25 @@
 -- its slot is in use and its generation listed. Rests on the laws of `meaning`.
 use Prim.Native.Nat.{ℕ, _/_, _%_, _≤_, _<_}
 use native.Mathlib.Omega.{arith}
-use native.Mathlib.Decide.{decLt}
 use mathlib.Core.Path.{_≡_, refl, ap}
-use mathlib.Core.Logic.{_⊎_, inl, inr}
 use mathlib.Core.Bool.{true, false}
 use mathlib.Core.List.{List, [], _∷_}
 use lib.Dec.{leb}
 use borrow.Author.Tests.{leb-true}
-use Rattle.meaning.specs.Limits.{SLOTS, FREE, SETTLED}
 use Rattle.meaning.specs.Lists.{all}
-use Rattle.meaning.specs.declared.Counts.{Counts}
-use Rattle.meaning.specs.Store.{Store, countsOf, editOf, recAt}
-use Rattle.meaning.specs.Replies.{Reply, ok, edit, locked, read, own, again, commit, nopoint, purged, at, point}
-use Rattle.meaning.specs.Replies.{refusing, refused}
+use Rattle.meaning.specs.Store.{Store, recAt}
+use Rattle.types.specs.Replies.{Reply, ok, edit, locked, read, own, again, commit, nopoint, purged, at, point}
+use Rattle.types.specs.Replies.{refusing, refused}
 use Rattle.meaning.specs.Outcomes.{handleAt}
-use Rattle.meaning.specs.Records.{goodCounts}
 use Rattle.meaning.specs.Causes.{edits}
 use Rattle.meaning.specs.Calls.{act}
-use Rattle.meaning.specs.Pointwise.{BlockedBy, LowestHolder}
+use Rattle.meaning.specs.Pointwise.{LowestHolder}
 use Rattle.meaning.specs.Order.{Refuses, concerns, HeldByLowest}
 use Rattle.meaning.specs.Sound.{soundStore}
-use Rattle.meaning.specs.declared.Call.{Call}
-use Rattle.meaning.specs.declared.Call.the-variants as C
+use Rattle.types.specs.declared.Call.{Call}
+use Rattle.types.specs.declared.Call.the-variants as C
 use Rattle.meaning.proofs.Lists.{all-out}
 use Rattle.meaning.proofs.SoundParts.{sound-out}
-use Rattle.meaning.proofs.Stores.{used-range}
 use Rattle.meaning.proofs.ForCause.{owner-slot}
 use Rattle.meaning.proofs.Laws.{only-own-numbers, holder-is-lowest}
 use Rattle.codes.specs.Codes.{HANDLES, CODES, codeOf, codeWith}

@@ -2,10 +2,10 @@
 use Prim.Native.Nat.{ℕ}
 use mathlib.Core.Path.{_≡_, sym, ap}
 use mathlib.Core.List.{List}
-use Rattle.meaning.specs.Replies.{Reply}
-use Rattle.meaning.specs.Records.{pointing}
-use Rattle.meaning.specs.declared.Point.{Point}
-use Rattle.meaning.specs.declared.Pick.the-variants.{Named}
+use Rattle.types.specs.Replies.{Reply}
+use Rattle.types.specs.Numbers.{pointing}
+use Rattle.types.specs.declared.Point.{Point}
+use Rattle.types.specs.declared.Pick.the-variants.{Named}
 use Rattle.codes.specs.Codes.{codeOf, numbersOf, Tells, Answers, named}
 
 -- the answer x is the case y, and the numbers tell that case

@@ -1,19 +1,19 @@
--- What a C caller hears of a reply: one number, and the numbers that it lends. Rests on the replies of `meaning`.
+-- What a C caller hears of a reply: one number, and the numbers that it lends. Rests on the replies of `types`.
 use Prim.Native.Nat.{ℕ, zero, suc, _+_, _*_, _%_}
 use mathlib.Core.Path.{_≡_}
 use mathlib.Core.List.{List, [], _∷_}
-use Rattle.meaning.specs.Limits.{GENERATIONS, SLOTS}
-use Rattle.meaning.specs.Replies.{Reply, ok, edit, locked, read, own, again, commit, nopoint, purged, at, point}
-use Rattle.meaning.specs.Replies.{refusing}
-use Rattle.meaning.specs.declared.Extent.{Extent}
-use Rattle.meaning.specs.declared.Extent.the-variants.{All, Part}
-use Rattle.meaning.specs.declared.Finish.{Finish}
-use Rattle.meaning.specs.declared.Finish.the-variants.{Settle, Keep}
-use Rattle.meaning.specs.declared.Pick.{Pick}
-use Rattle.meaning.specs.declared.Pick.the-variants.{Named}
-use Rattle.meaning.specs.declared.Counts.{Counts}
-use Rattle.meaning.specs.declared.Value.{Value}
-use Rattle.meaning.specs.declared.Value.the-variants.{Never, Written}
+use Rattle.types.specs.Limits.{GENERATIONS, SLOTS}
+use Rattle.types.specs.Replies.{Reply, ok, edit, locked, read, own, again, commit, nopoint, purged, at, point}
+use Rattle.types.specs.Replies.{refusing}
+use Rattle.types.specs.declared.Extent.{Extent}
+use Rattle.types.specs.declared.Extent.the-variants.{All, Part}
+use Rattle.types.specs.declared.Finish.{Finish}
+use Rattle.types.specs.declared.Finish.the-variants.{Settle, Keep}
+use Rattle.types.specs.declared.Pick.{Pick}
+use Rattle.types.specs.declared.Pick.the-variants.{Named}
+use Rattle.types.specs.declared.Counts.{Counts}
+use Rattle.types.specs.declared.Value.{Value}
+use Rattle.types.specs.declared.Value.the-variants.{Never, Written}
 
 -- a handle is below 65,536 × 64; a refusal's number is below 32
 abbrev pub HANDLES : ℕ

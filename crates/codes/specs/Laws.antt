@@ -4,10 +4,10 @@ use mathlib.Core.Path.{_≡_}
 use mathlib.Core.Bool.{true, false}
 use mathlib.Core.List.{[], _∷_}
 use Rattle.meaning.specs.Store.{Store}
-use Rattle.meaning.specs.Replies.{refused, nopoint, refusing}
+use Rattle.types.specs.Replies.{refused, nopoint, refusing}
 use Rattle.meaning.specs.Sound.{soundStore}
 use Rattle.meaning.specs.Calls.{act}
-use Rattle.meaning.specs.declared.Call.{Call}
+use Rattle.types.specs.declared.Call.{Call}
 use Rattle.codes.specs.Codes.{CODES, codeOf}
 
 -- 0 is for granted calls alone

@@ -1,15 +1,15 @@
 // What a caller from another language says and hears as numbers: the flags of a call, the number of a refusal, and a
 // value. The crates `verdicts` and `telling` tell whole replies by them. Rests on `meaning`.
 ghost use mathlib.Core.Path.{_≡_};
-ghost use Rattle.meaning.specs.Replies.{ofRefusal};
+ghost use Rattle.types.specs.Replies.{ofRefusal};
 ghost use Rattle.codes.specs.Codes.{codeOf, markOf, bitsOf, extentOf, finishOf};
-use meaning::Extent;
-use meaning::Finish;
-use meaning::Refusal;
-use meaning::Value;
+use types::Extent;
+use types::Finish;
+use types::Refusal;
+use types::Value;
 
 // A handle is below HANDLES, and the number of a refusal below CODES, so that both fit in one word.
-const HANDLES: u64 = meaning::GENERATIONS * meaning::SLOTS;
+const HANDLES: u64 = types::GENERATIONS * types::SLOTS;
 
 const CODES: u64 = 32;
 
@@ -36,9 +36,9 @@ pub fn refusal(r: Refusal) -> u64
     ensures { λ n. ⌜ n ≡ codeOf (ofRefusal r) ⌝ }
 {
     if let Refusal::Held(h) = r {
-        return meaning::word_of_handle(h) % HANDLES * CODES + meaning::refusal_number(r);
+        return types::word_of_handle(h) % HANDLES * CODES + types::refusal_number(r);
     }
-    meaning::refusal_number(r)
+    types::refusal_number(r)
 }
 
 // A value as two numbers: whether it was ever written, and its bits.

@@ -1,23 +1,23 @@
 -- Commit meets its contract: what the searches ask for, and one law for each return. Rests on Ended, CommitExits and
 -- Acting of `calls`.
 use Prim.Native.Nat.{ℕ, _≤_, _<_}
-use native.Mathlib.Omega.{arith}
-use mathlib.Core.Path.{_≡_, refl, sym, ap, _∙_}
+use mathlib.Core.Path.{_≡_, refl, sym, _∙_}
 use mathlib.Core.Bool.{Bool, true, false}
 use mathlib.Core.List.{List, []}
 use lib.Dec.{ltb}
 use lib.ListN.{length}
 use borrow.Author.Tests.{lt-ltb}
 use Rattle.chains.specs.Walk.{IsRow}
-use Rattle.meaning.specs.Limits.{LAST, OPEN}
-use Rattle.meaning.specs.declared.Counts.{Counts}
-use Rattle.meaning.specs.declared.Point.{Point}
-use Rattle.meaning.specs.declared.Pick.{Pick}
-use Rattle.meaning.specs.declared.Pick.the-variants.{Earliest, Latest, Named}
-use Rattle.meaning.specs.declared.Finish.{Finish}
-use Rattle.meaning.specs.Store.{Edit, Store, slotOf, editAt}
+use Rattle.types.specs.Limits.{LAST, OPEN}
+use Rattle.types.specs.declared.Counts.{Counts}
+use Rattle.types.specs.declared.Point.{Point}
+use Rattle.types.specs.declared.Pick.{Pick}
+use Rattle.types.specs.declared.Pick.the-variants.{Earliest, Latest, Named}
+use Rattle.types.specs.declared.Finish.{Finish}
+use Rattle.meaning.specs.Store.{Store, editAt}
+use Rattle.types.specs.Numbers.{slotOf}
 use Rattle.meaning.specs.Points.{inCommon, earliest, latest}
-use Rattle.meaning.specs.Replies.{Reply, commit, nopoint, refusing}
+use Rattle.types.specs.Replies.{Reply, commit, nopoint, refusing}
 use Rattle.meaning.specs.Outcomes.{Outcome, replies, knows, isOpen, versionRoom}
 use Rattle.meaning.specs.Ending.{finished, committed, aborted, goodPick, commitOpen, committing}
 use Rattle.meaning.specs.Sound.{namesExisting}

@@ -3,24 +3,25 @@
 -- Rests on Verdicts of `calls` and the laws of `meaning`.
 use Prim.Native.Nat.{ℕ, suc, _≤_, _<_}
 use native.Mathlib.Omega.{arith}
-use mathlib.Core.Path.{_≡_, refl, sym, _∙_}
+use mathlib.Core.Path.{_≡_, refl, _∙_}
 use mathlib.Core.Logic.{_⊎_, inl, inr}
-use mathlib.Core.Bool.{Bool, true, false, cond}
+use mathlib.Core.Bool.{Bool, true, false}
 use mathlib.Core.List.{[]}
 use lib.Dec.{ltb}
 use borrow.Author.Tests.{lt-ltb, le-ltb}
-use Rattle.meaning.specs.Limits.{LAST}
-use Rattle.meaning.specs.Store.{Store, slotOf, editAt}
+use Rattle.types.specs.Limits.{LAST}
+use Rattle.meaning.specs.Store.{Store, editAt}
+use Rattle.types.specs.Numbers.{slotOf}
 use Rattle.meaning.specs.Points.{inCommon, earliest, latest}
-use Rattle.meaning.specs.Replies.{commit, nopoint, refusing}
-use Rattle.meaning.specs.Outcomes.{Outcome, replies, Verdict, pass, needs, unless, knows, isOpen, versionRoom}
+use Rattle.types.specs.Replies.{commit, nopoint, refusing}
+use Rattle.meaning.specs.Outcomes.{Outcome, replies, Verdict, pass, needs, knows, isOpen, versionRoom}
 use Rattle.meaning.specs.Ending.{finished, committed, aborted, goodPick, noCommon, commitVerdict, commitOpen}
 use Rattle.meaning.specs.Ending.{commitChecks, committing}
-use Rattle.meaning.specs.Pointwise.{InCommonSet, EmptyCommonSet, LeastCommon, GreatestCommon}
-use Rattle.meaning.specs.declared.Point.{Point}
-use Rattle.meaning.specs.declared.Pick.{Pick}
-use Rattle.meaning.specs.declared.Pick.the-variants.{Earliest, Latest, Named}
-use Rattle.meaning.specs.declared.Finish.{Finish}
+use Rattle.meaning.specs.Pointwise.{EmptyCommonSet, LeastCommon, GreatestCommon}
+use Rattle.types.specs.declared.Point.{Point}
+use Rattle.types.specs.declared.Pick.{Pick}
+use Rattle.types.specs.declared.Pick.the-variants.{Earliest, Latest, Named}
+use Rattle.types.specs.declared.Finish.{Finish}
 use Rattle.meaning.proofs.Laws.{common-set-is, earliest-is-least, latest-is-greatest}
 use Rattle.calls.proofs.Verdicts.{needs-fails, needs-holds, no-edit, edit-ended, edit-open}
 use Rattle.endings.specs.Parts.{commitAt}

@@ -1,15 +1,15 @@
 // Commit on sound words: equal to its definition in the crate `meaning`, and leaving sound words. For callers who prove
 // the words sound (`requires soundWords`), as the calls of `calls` and `endings`. It goes along the edit's accesses and
-// the locks of their records; if it settles the edit, along the locks of every record too. Rests on the crates
+// the locks of their records; if it settles the edit, along the locks of every record too. Rests on the crates `types`,
 // `meaning`, `chains`, `tables`, `changes`, `slots`, `lookups`, `common`, `calls` and `endings`.
 ghost use mathlib.Core.Path.{_≡_};
 ghost use mathlib.Core.Bool.{true};
 ghost use mathlib.Core.List.{_∷_, []};
 ghost use Prim.Native.Nat.{_≤_, _<_};
 ghost use Rattle.chains.specs.Walk.{IsRow};
-ghost use Rattle.meaning.specs.Limits.{LAST, OPEN, COMMITTED};
+ghost use Rattle.types.specs.Limits.{LAST, OPEN, COMMITTED};
 ghost use Rattle.meaning.specs.Store.{editAt};
-ghost use Rattle.meaning.specs.Replies.{nopoint, ofCommit};
+ghost use Rattle.types.specs.Replies.{nopoint, ofCommit};
 ghost use Rattle.meaning.specs.Ending.{finished, aborted, goodPick, commitOpen, committing};
 ghost use Rattle.meaning.specs.Points.{inCommon};
 ghost use Rattle.tables.specs.Decode.{accessAt, decodeAt};
@@ -17,18 +17,18 @@ ghost use Rattle.tables.specs.Words.{lent, soundWords, Well};
 ghost use Rattle.changes.specs.Becomes.{Becomes, Beside};
 ghost use Rattle.calls.specs.Contract.{Acts, Ready, Makes};
 ghost use Rattle.meaning.specs.Outcomes.{replies, isPoint};
-ghost use Rattle.meaning.specs.declared.Pick.the-variants.{Earliest, Latest, Named};
+ghost use Rattle.types.specs.declared.Pick.the-variants.{Earliest, Latest, Named};
 ghost use Rattle.endings.specs.Parts.{commitAt};
 ghost use Rattle.endings.specs.Steps.{changed, along, savedRec, SaveNeed};
-use meaning::COMMITTED;
-use meaning::CommitReply;
-use meaning::Counts;
-use meaning::Finish;
-use meaning::Handle;
-use meaning::LAST;
-use meaning::Pick;
-use meaning::Point;
-use meaning::Refusal;
+use types::COMMITTED;
+use types::CommitReply;
+use types::Counts;
+use types::Finish;
+use types::Handle;
+use types::LAST;
+use types::Pick;
+use types::Point;
+use types::Refusal;
 
 // The version that access row i makes at t.
 fn save_row(w: &mut [u64], c: Counts, i: usize, t: u64)
@@ -95,7 +95,7 @@ fn commit_at(w: &mut [u64], c: Counts, k: usize, t: u64, finish: Finish) -> Comm
     save_versions(w, c, k, t);
     slots::set_state(w, c, k, COMMITTED, t);
     endings::finish_slot(w, c, k, finish);
-    CommitReply::Commit(meaning::point_of_word(t))
+    CommitReply::Commit(types::point_of_word(t))
 }
 
 fn commit_earliest(w: &mut [u64], c: Counts, k: usize, finish: Finish) -> CommitReply
@@ -132,7 +132,7 @@ fn commit_named(w: &mut [u64], c: Counts, k: usize, p: Point, finish: Finish) ->
         (ofCommit q)
         ⌝ }
 {
-    let x = meaning::word_of_point(p);
+    let x = types::word_of_point(p);
     if common::in_common(w, c, k, x) {
         return commit_at(w, c, k, x, finish);
     }
@@ -159,7 +159,7 @@ fn commit_open(w: &mut [u64], c: Counts, k: usize, pick: Pick, finish: Finish) -
 fn is_point(p: Point) -> bool
     ensures { λ q. ⌜ q ≡ isPoint (p .0) ⌝ }
 {
-    let x = meaning::word_of_point(p);
+    let x = types::word_of_point(p);
     if x < 1 {
         return false;
     }

@@ -12,15 +12,15 @@ use borrow.Author.Tests.{ltb-true, le-leb, lt-leb}
 use Rattle.chains.specs.Walk.{more}
 use Rattle.chains.specs.Table.{link, headOf}
 use Rattle.chains.proofs.Loops.{Walk}
-use Rattle.meaning.specs.Limits.{LAST}
+use Rattle.types.specs.Limits.{LAST}
 use Rattle.meaning.specs.Lists.{all}
 use Rattle.meaning.specs.Points.{covered, own, writes, firstFree, ownOn, allowsWrite, allowsRead, allows, lowest}
 use Rattle.meaning.specs.Points.{inCommon}
 use Rattle.meaning.specs.Store.{Rec, Edit}
 use Rattle.meaning.specs.Sound.{namesExisting}
-use Rattle.meaning.specs.declared.Access.{Access}
-use Rattle.meaning.specs.declared.Lock.{Lock}
-use Rattle.meaning.specs.declared.Counts.{Counts}
+use Rattle.types.specs.declared.Access.{Access}
+use Rattle.types.specs.declared.Lock.{Lock}
+use Rattle.types.specs.declared.Counts.{Counts}
 use Rattle.meaning.proofs.Lists.{test}
 use Rattle.tables.specs.Layout.{accessTable, accessHeads}
 use Rattle.tables.specs.Decode.{recordAt, recordsOf, slotAt, accessAt}

@@ -9,8 +9,8 @@ use Rattle.chains.specs.Walk.{IsRow, among, more, rows}
 use Rattle.chains.specs.Table.{link, chain, front, headOf, rowsOf}
 use Rattle.chains.proofs.Walks.{among-in, rows-suc, stop}
 use Rattle.meaning.specs.Lists.{all}
-use Rattle.meaning.specs.declared.Access.{Access}
-use Rattle.meaning.specs.declared.Counts.{Counts}
+use Rattle.types.specs.declared.Access.{Access}
+use Rattle.types.specs.declared.Counts.{Counts}
 use Rattle.meaning.proofs.Lists.{and-in, and-left, and-right}
 use Rattle.tables.specs.Layout.{accessTable, accessHeads}
 use Rattle.tables.specs.Decode.{accessAt, accessesOf, accessRows, slotAt}

@@ -11,13 +11,13 @@ use borrow.Author.Tests.{leb-true, leb-false, ltb-true, ltb-false}
 use Rattle.chains.specs.Walk.{more, rows}
 use Rattle.chains.specs.Table.{link, front, headOf}
 use Rattle.chains.proofs.Walks.{row-of, step, stop}
-use Rattle.meaning.specs.Limits.{LAST}
+use Rattle.types.specs.Limits.{LAST}
 use Rattle.meaning.specs.Lists.{all}
 use Rattle.meaning.specs.Points.{allows, earliest}
 use Rattle.meaning.specs.Store.{Rec, Edit}
 use Rattle.meaning.specs.Pointwise.{LeastCommon, EmptyCommonSet}
-use Rattle.meaning.specs.declared.Access.{Access}
-use Rattle.meaning.specs.declared.Counts.{Counts}
+use Rattle.types.specs.declared.Access.{Access}
+use Rattle.types.specs.declared.Counts.{Counts}
 use Rattle.meaning.proofs.Lists.{and-in, and-left, and-right, test}
 use Rattle.meaning.proofs.CommonSet.{common-out, common-in, common-set-is}
 use Rattle.meaning.proofs.CommonEnds.{earliest-is-least}

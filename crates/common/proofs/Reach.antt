@@ -7,12 +7,12 @@ use mathlib.Core.Bool.{Bool, true, false, cond}
 use mathlib.Core.List.{List, map, Memᴰ·map, Memᴰ·of-map}
 use native.Mathlib.Omega.{arith}
 use borrow.Author.Tests.{leb-true, le-leb, ltb-true, lt-ltb}
-use Rattle.meaning.specs.Limits.{LAST}
+use Rattle.types.specs.Limits.{LAST}
 use Rattle.meaning.specs.Lists.{_∈_, keep, least, greatest}
 use Rattle.meaning.specs.Points.{own, writes, firstFree, ownOn, allows}
 use Rattle.meaning.specs.Store.{Rec, hasRead}
-use Rattle.meaning.specs.declared.Lock.{Lock}
-use Rattle.meaning.specs.declared.Access.{Access}
+use Rattle.types.specs.declared.Lock.{Lock}
+use Rattle.types.specs.declared.Access.{Access}
 use Rattle.meaning.proofs.Lists.{not-both, keep-in, keep-out, least-default, least-le, least-out, greatest-ge}
 use Rattle.meaning.proofs.Lists.{greatest-out}
 use Rattle.meaning.proofs.Tests.{Covered, unread-in}

@@ -1,2 +1,2 @@
--- What a commit asks of the accesses of an edit. Rests on the crate `meaning`.
+-- What a commit asks of the accesses of an edit. Rests on the crates `types` and `meaning`.
 pub mod Commit

@@ -1,11 +1,11 @@
-// The common set of an edit: the points that every access of it allows, asked of one point.
-// Also the end of what an access has read, on which both ends of the set rest (`lifting`, `sinking`). Rests on the
-// crates `meaning`, `locks`, `chains`, `tables` and `blocking`.
+// The common set of an edit: the points that every access of it allows, asked of one point. Also the end of what an
+// access has read, on which both ends of the set rest (`lifting`, `sinking`). Rests on the crates `types`, `meaning`,
+// `locks`, `chains`, `tables` and `blocking`.
 ghost use mathlib.Core.Path.{_≡_};
 ghost use mathlib.Core.Bool.{true, _&&_};
 ghost use Prim.Native.Nat.{_≤_, _<_};
 ghost use Rattle.chains.specs.Walk.{IsRow};
-ghost use Rattle.meaning.specs.Limits.{LAST};
+ghost use Rattle.types.specs.Limits.{LAST};
 ghost use Rattle.meaning.specs.Lists.{all};
 ghost use Rattle.meaning.specs.Points.{covered, own, writes, covers, ownOn, allowsWrite, allowsRead, allows, inCommon};
 ghost use Rattle.meaning.specs.Sound.{namesExisting};
@@ -15,12 +15,12 @@ ghost use Rattle.blocking.specs.Search.{ownsWrite};
 ghost use Rattle.common.specs.Commit.{readEnd};
 use crate::LOWEST;
 use blocking::first_free;
-use meaning::Access;
-use meaning::Counts;
-use meaning::LAST;
-use meaning::Lock;
-use meaning::READ;
-use meaning::WRITE;
+use types::Access;
+use types::Counts;
+use types::LAST;
+use types::Lock;
+use types::READ;
+use types::WRITE;
 
 pub fn owns_write(k: u64, l: Lock) -> bool
     ensures { λ q. ⌜ q ≡ ownsWrite k l ⌝ }

@@ -1,10 +1,10 @@
-// The latest point of the common set: access by access, the greatest point that the first ones allow.
-// 0 where there is none. Rests on the crates `meaning`, `chains`, `tables` and `blocking` and on the module `allowed`.
+// The latest point of the common set: access by access, the greatest point that the first ones allow. 0 where there is
+// none. Rests on the crates `types`, `meaning`, `chains`, `tables` and `blocking` and on the module `allowed`.
 ghost use mathlib.Core.Path.{_≡_};
 ghost use mathlib.Core.Bool.{true};
 ghost use Prim.Native.Nat.{_+_, _≤_, _<_};
 ghost use Rattle.chains.specs.Walk.{IsRow};
-ghost use Rattle.meaning.specs.Limits.{LAST};
+ghost use Rattle.types.specs.Limits.{LAST};
 ghost use Rattle.meaning.specs.Lists.{all};
 ghost use Rattle.meaning.specs.Points.{own, writes, ownOn, allows, latest};
 ghost use Rattle.meaning.specs.Sound.{namesExisting};
@@ -16,10 +16,10 @@ use crate::allowed::owns_write;
 use crate::allowed::read_end;
 use blocking::larger;
 use blocking::smaller;
-use meaning::Access;
-use meaning::Counts;
-use meaning::LAST;
-use meaning::Lock;
+use types::Access;
+use types::Counts;
+use types::LAST;
+use types::Lock;
 
 fn later(k: u64, high: u64, best: u64, l: Lock) -> u64
     ensures { λ q. ⌜ q ≡ later k high best l ⌝ }

@@ -1,18 +1,8 @@
 // Formats stores and damages one: each clause of "A store is sound when" is broken by a change of one word, and the
 // verdict of the check is printed, 1 for sound and 0 for not, with what was changed. A damage breaks the clause that
-// its group names and no other; where that cannot be, the comment says why. Rests on the crates `io`, `meaning`,
+// its group names and no other; where that cannot be, the comment says why. Rests on the crates `io`, `types`,
 // `tables`, `soundness` and `format`.
 ghost use Prim.Native.Nat.{_<_};
-use meaning::COMMITTED;
-use meaning::Counts;
-use meaning::FREE;
-use meaning::FormatReply;
-use meaning::GENERATIONS;
-use meaning::LAST;
-use meaning::MAX_EDITS;
-use meaning::MAX_RECORDS;
-use meaning::MAX_ROWS;
-use meaning::OPEN;
 use tables::A_FROM;
 use tables::A_NEXT;
 use tables::A_RECORD;
@@ -46,6 +36,16 @@ use tables::V_NEXT;
 use tables::V_POINT;
 use tables::V_SPARE;
 use tables::VERSION;
+use types::COMMITTED;
+use types::Counts;
+use types::FREE;
+use types::FormatReply;
+use types::GENERATIONS;
+use types::LAST;
+use types::MAX_EDITS;
+use types::MAX_RECORDS;
+use types::MAX_ROWS;
+use types::OPEN;
 
 // The store 4 4 7 12 8: where its parts begin.
 const WORDS: usize = 164;
@@ -128,7 +128,7 @@ fn print_reply(reply: FormatReply) {
         }
         FormatReply::Refused(r) => {
             print(b"no ");
-            io::print_decimal(1, meaning::refusal_number(r));
+            io::print_decimal(1, types::refusal_number(r));
             print(b" ");
         }
     }

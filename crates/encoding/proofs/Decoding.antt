@@ -3,8 +3,8 @@ use Prim.Native.Nat.{ℕ, zero, suc, _≤_}
 use native.Mathlib.Omega.{arith}
 use mathlib.Core.Path.{_≡_, sym, ap, _∙_}
 use lib.ListN.{List·getD-eq-default}
-use Rattle.meaning.specs.declared.Point.{Point}
-use Rattle.meaning.specs.declared.Call.the-variants.{View}
+use Rattle.types.specs.declared.Point.{Point}
+use Rattle.types.specs.declared.Call.the-variants.{View}
 use Rattle.encoding.specs.Encoding.{pointOf, kinds, callOf}
 
 -- none of the kinds below n

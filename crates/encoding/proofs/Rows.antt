@@ -8,11 +8,11 @@ use native.Mathlib.Numerals.{add-one}
 use native.Mathlib.Nat.{zero-mul, suc-mul}
 use lib.ListN.{length, set, take, drop, replicate, length-append}
 use lib.Seq.{sets, sets-eq, length-sets, take-at, drop-append-add, drop-drop}
-use Rattle.meaning.specs.Replies.{Reply, ok, edit, locked, read, own, again, commit, nopoint, purged, point, refusing}
-use Rattle.meaning.specs.Replies.{at as at·of}
+use Rattle.types.specs.Replies.{Reply, ok, edit, locked, read, own, again, commit, nopoint, purged, point, refusing}
+use Rattle.types.specs.Replies.{at as at·of}
 use Rattle.codes.specs.Codes.{codeOf, numbersOf, Tells}
-use Rattle.meaning.specs.declared.Answer.{Answer}
-use Rattle.meaning.specs.Replies.{ofAnswer}
+use Rattle.types.specs.declared.Answer.{Answer}
+use Rattle.types.specs.Replies.{ofAnswer}
 use Rattle.encoding.specs.Encoding.{NUMBERS, padded, rowOf, rowsOf}
 
 -- zeros are what is added

@@ -3,12 +3,12 @@
 use Prim.Native.Nat.{ℕ, zero, suc, _+_, _*_}
 use mathlib.Core.List.{List, [], _∷_, _++_}
 use lib.ListN.{getD}
-use Rattle.meaning.specs.Replies.{Reply}
-use Rattle.meaning.specs.declared.Handle.{Handle}
-use Rattle.meaning.specs.declared.Point.{Point}
-use Rattle.meaning.specs.declared.Pick.the-variants.{Earliest, Latest}
-use Rattle.meaning.specs.declared.Call.{Call}
-use Rattle.meaning.specs.declared.Call.the-variants as C
+use Rattle.types.specs.Replies.{Reply}
+use Rattle.types.specs.declared.Handle.{Handle}
+use Rattle.types.specs.declared.Point.{Point}
+use Rattle.types.specs.declared.Pick.the-variants.{Earliest, Latest}
+use Rattle.types.specs.declared.Call.{Call}
+use Rattle.types.specs.declared.Call.the-variants as C
 use Rattle.codes.specs.Codes.{codeOf, numbersOf, extentOf, finishOf, named}
 use Rattle.encoding.specs.declared.Row.{Row}
 

@@ -1,26 +1,26 @@
 // Calls and replies as words: a row of CALL_WORDS words is a call's kind and its numbers, a row of REPLY_WORDS words a
-// reply's code and its numbers, with 0 for those that it lacks. Every row is a call. Rests on the crates `meaning`,
+// reply's code and its numbers, with 0 for those that it lacks. Every row is a call. Rests on the crates `types`,
 // `codes`, `verdicts` and `telling`.
 ghost use Prim.Native.Nat.{_+_, _*_, _≤_, min};
 ghost use mathlib.Core.Path.{_≡_};
 ghost use mathlib.Core.List.{_∷_};
 ghost use lib.ListN.{length, replicate};
 ghost use lib.Seq.{sets};
-ghost use Rattle.meaning.specs.Replies.{ofBegin, ofLock, ofRead, ofCommit, ofPurge, ofView, ofAnswer};
+ghost use Rattle.types.specs.Replies.{ofBegin, ofLock, ofRead, ofCommit, ofPurge, ofView, ofAnswer};
 ghost use Rattle.encoding.specs.Encoding.{NUMBERS, CALL-WORDS, REPLY-WORDS, callOf, callAt, wordsOf, rowOf};
 use codes::extent;
 use codes::finish;
-use meaning::Answer;
-use meaning::BeginReply;
-use meaning::Call;
-use meaning::CommitReply;
-use meaning::LockReply;
-use meaning::Pick;
-use meaning::PurgeReply;
-use meaning::ReadReply;
-use meaning::ViewReply;
-use meaning::handle_of_word;
-use meaning::point_of_word;
+use types::Answer;
+use types::BeginReply;
+use types::Call;
+use types::CommitReply;
+use types::LockReply;
+use types::Pick;
+use types::PurgeReply;
+use types::ReadReply;
+use types::ViewReply;
+use types::handle_of_word;
+use types::point_of_word;
 
 // A call is its kind and five numbers, a reply its code and as many.
 const NUMBERS: usize = 5;

@@ -1,18 +1,17 @@
 -- A loop along an edit's accesses that changes the record of each: what is left to do makes the answer of the present
 -- store. Rests on Walks of `chains`, Decoded of `tables`, and what a change of versions or locks keeps.
-use Prim.Native.Nat.{ℕ, zero, suc, _-_, _≤_, _<_}
+use Prim.Native.Nat.{ℕ, zero, suc, _-_}
 use mathlib.Core.Path.{_≡_, refl, sym, ap, _∙_}
 use mathlib.Core.Bool.{Bool, true, false}
 use mathlib.Core.List.{List, [], _∷_, map}
-use native.Mathlib.Omega.{arith}
 use Rattle.chains.specs.Walk.{among, IsRow, more, rows}
-use Rattle.chains.specs.Table.{link, chain, headOf, rowsOf}
-use Rattle.chains.proofs.Walks.{among-out, rows-stop, rows-suc, step, stop, row-of}
-use Rattle.meaning.specs.declared.Access.{Access}
-use Rattle.meaning.specs.declared.Counts.{Counts}
+use Rattle.chains.specs.Table.{link, headOf}
+use Rattle.chains.proofs.Walks.{among-out, rows-stop, rows-suc, step, stop}
+use Rattle.types.specs.declared.Access.{Access}
+use Rattle.types.specs.declared.Counts.{Counts}
 use Rattle.meaning.specs.Store.{Rec, Edit, Store, editAt}
 use Rattle.tables.specs.Layout.{accessTable, accessHeads}
-use Rattle.tables.specs.Decode.{accessAt, accessRows, accessesOf, slotAt, decodeAt}
+use Rattle.tables.specs.Decode.{accessAt, decodeAt}
 use Rattle.tables.specs.Words.{Well}
 use Rattle.tables.proofs.Decoded.{edit-at}
 use Rattle.tables.proofs.Loops.{accesses-start}

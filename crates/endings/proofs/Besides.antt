@@ -1,17 +1,15 @@
 -- Changes of one record's locks or versions, one after the other, beside a walk along accesses. Rests on Folds and
 -- Leaving.
-use Prim.Native.Nat.{ℕ, suc, _+_, _≤_, _<_}
+use Prim.Native.Nat.{ℕ, _+_, _≤_, _<_}
 use native.Mathlib.Omega.{arith}
-use mathlib.Core.Path.{_≡_, refl, sym, ap, _∙_}
-use mathlib.Core.Bool.{Bool, true, false, cond}
-use mathlib.Core.List.{List, [], _∷_, List·Memᴰ·head, List·Memᴰ·eq-of-singleton}
+use mathlib.Core.Path.{_≡_, refl, ap, _∙_}
+use mathlib.Core.Bool.{Bool, true, false}
+use mathlib.Core.List.{List, [], _∷_, List·Memᴰ·head}
 use lib.ListN.{length, set}
 use lib.Seq.{set-set}
-use Rattle.meaning.specs.Lists.{_∈_}
-use Rattle.meaning.specs.Limits.{READ, WRITE}
-use Rattle.meaning.specs.declared.Access.{Access}
-use Rattle.meaning.specs.declared.Lock.{Lock}
-use Rattle.meaning.specs.declared.Counts.{Counts}
+use Rattle.types.specs.Limits.{READ, WRITE}
+use Rattle.types.specs.declared.Access.{Access}
+use Rattle.types.specs.declared.Counts.{Counts}
 use Rattle.meaning.specs.Store.{Rec, Store, recAt, withRec, withRecords, withLocks, hasRead, locksUsed}
 use Rattle.meaning.specs.Points.{leaveSettled}
 use Rattle.meaning.proofs.Stores.{rec-same}
@@ -20,7 +18,7 @@ use Rattle.tables.specs.Layout.{MODES}
 use Rattle.tables.specs.Decode.{accessAt, decodeAt}
 use Rattle.tables.specs.Words.{Well}
 use Rattle.tables.proofs.Decoded.{decoded-records, records-length}
-use Rattle.changes.specs.Becomes.{Becomes, AccessesKept, Beside, onLocks}
+use Rattle.changes.specs.Becomes.{AccessesKept, Beside, onLocks}
 use Rattle.endings.specs.Steps.{changed, leftRec, mark, LeaveNeed}
 use Rattle.endings.proofs.Folds.{rec-again}
 use Rattle.endings.proofs.Leaving.{leave-length}

@@ -1,14 +1,15 @@
 -- Abort and Settle meet their contracts: one law for each return, from what the code has asked and made on the way.
 -- Rests on EndExits and on Acting of `calls`.
 use Prim.Native.Nat.{ℕ}
-use mathlib.Core.Path.{_≡_, refl, sym, ap, _∙_}
-use mathlib.Core.Bool.{Bool, true, false}
+use mathlib.Core.Path.{_≡_, refl}
+use mathlib.Core.Bool.{true, false}
 use mathlib.Core.List.{List, []}
-use Rattle.meaning.specs.Limits.{OPEN}
-use Rattle.meaning.specs.declared.Counts.{Counts}
-use Rattle.meaning.specs.declared.Finish.{Finish}
-use Rattle.meaning.specs.Store.{Store, slotOf, editAt, inUse}
-use Rattle.meaning.specs.Replies.{Reply, ok, refused, refusing}
+use Rattle.types.specs.Limits.{OPEN}
+use Rattle.types.specs.declared.Counts.{Counts}
+use Rattle.types.specs.declared.Finish.{Finish}
+use Rattle.meaning.specs.Store.{Store, editAt, inUse}
+use Rattle.types.specs.Numbers.{slotOf}
+use Rattle.types.specs.Replies.{Reply, ok, refused, refusing}
 use Rattle.meaning.specs.Outcomes.{Outcome, replies, knows, isOpen}
 use Rattle.meaning.specs.Ending.{finished, aborted, settled, aborting, settling}
 use Rattle.meaning.specs.Sound.{soundStore}
@@ -16,7 +17,7 @@ use Rattle.meaning.proofs.Verdicts.{knows-out, isOpen-out}
 use Rattle.meaning.proofs.EndingSound.{abort-keeps, settle-keeps}
 use Rattle.tables.specs.Layout.{countsOf}
 use Rattle.tables.specs.Decode.{decodeAt}
-use Rattle.tables.specs.Words.{lent, soundWords, Well}
+use Rattle.tables.specs.Words.{lent, soundWords}
 use Rattle.changes.specs.Becomes.{Becomes}
 use Rattle.calls.specs.Contract.{Acts, Ready}
 use Rattle.calls.proofs.Acting.{ready, makes-refused, makes-done, acts}

@@ -1,13 +1,14 @@
 -- The ways that Abort and Settle end, one law for each return of the code. Rests on Verdicts of `calls`.
 use Prim.Native.Nat.{ℕ}
 use mathlib.Core.Path.{_≡_, _∙_}
-use mathlib.Core.Bool.{Bool, true, false, not}
+use mathlib.Core.Bool.{true, false, not}
 use mathlib.Core.List.{[]}
-use Rattle.meaning.specs.Store.{Store, slotOf}
-use Rattle.meaning.specs.Replies.{ok, refusing}
-use Rattle.meaning.specs.Outcomes.{Outcome, replies, Verdict, pass, needs, unless, knows, isOpen}
+use Rattle.meaning.specs.Store.{Store}
+use Rattle.types.specs.Numbers.{slotOf}
+use Rattle.types.specs.Replies.{ok, refusing}
+use Rattle.meaning.specs.Outcomes.{Outcome, replies, Verdict, pass, needs, knows, isOpen}
 use Rattle.meaning.specs.Ending.{finished, aborted, settled, abortChecks, aborting, settleChecks, settling}
-use Rattle.meaning.specs.declared.Finish.{Finish}
+use Rattle.types.specs.declared.Finish.{Finish}
 use Rattle.calls.proofs.Verdicts.{needs-fails, needs-holds, no-edit, edit-ended, edit-open}
 
 module _ (s : Store) (h : ℕ) (f : Finish) where

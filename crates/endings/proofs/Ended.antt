@@ -1,21 +1,20 @@
 -- An open edit ends: what is sound and what the words mean after its state is set, aborted or committed. Rests on
 -- Saving, Settling and the soundness laws of `meaning`.
-use Prim.Native.Nat.{ℕ, _+_, _≤_, _<_}
+use Prim.Native.Nat.{ℕ, _+_, _≤_}
 use native.Mathlib.Omega.{arith}
-use mathlib.Core.Path.{_≡_, refl, sym, ap, _∙_}
-use mathlib.Core.Bool.{Bool, true, false}
+use mathlib.Core.Path.{_≡_, ap, _∙_}
+use mathlib.Core.Bool.{true}
 use mathlib.Core.List.{List}
 use lib.ListN.{length}
 use borrow.Author.Tests.{leb-true}
 use Rattle.chains.specs.Walk.{IsRow}
-use Rattle.meaning.specs.Limits.{FREE, OPEN, COMMITTED, ABORTED}
-use Rattle.meaning.specs.declared.Counts.{Counts}
-use Rattle.meaning.specs.declared.Finish.{Finish}
-use Rattle.meaning.specs.Store.{Edit, Store, editOf, editAt, inUse, withEdit, withRecords, writtenOf, versionsUsed}
+use Rattle.types.specs.Limits.{FREE, OPEN, COMMITTED, ABORTED}
+use Rattle.types.specs.declared.Counts.{Counts}
+use Rattle.types.specs.declared.Finish.{Finish}
+use Rattle.meaning.specs.Store.{Edit, Store, editAt, inUse, withRecords, writtenOf, versionsUsed}
 use Rattle.meaning.specs.Points.{inCommon}
 use Rattle.meaning.specs.Outcomes.{versionRoom}
 use Rattle.meaning.specs.Ending.{ended, finished, committed, aborted}
-use Rattle.meaning.specs.Sound.{soundStore}
 use Rattle.meaning.specs.SoundFacts.{SoundStore}
 use Rattle.meaning.proofs.Stores.{InRange, used-in, used-range}
 use Rattle.meaning.proofs.SoundParts.{sound-out, sound-in}

@@ -1,20 +1,19 @@
 -- Changing the record of each access, one access after the other, changes every record by its own access, since an edit
 -- names a record at most once; and taking slot k's locks from record n - 1, .., 0 takes them from all. Rests on
 -- specs.Steps and Stores of `meaning`.
-use Prim.Native.Nat.{ℕ, zero, suc, _+_, _≤_, _<_}
+use Prim.Native.Nat.{ℕ, zero, suc, _≤_, _<_}
 use native.Mathlib.Omega.{arith}
 use native.Mathlib.Decide.{ℕ-discrete, decLt}
-use mathlib.Core.Path.{_≡_, refl, sym, ap, _∙_}
-use mathlib.Core.Bool.{Bool, true, false, not, cond, _&&_}
+use mathlib.Core.Path.{_≡_, refl, sym, _∙_}
+use mathlib.Core.Bool.{Bool, true, false, not, cond}
 use mathlib.Core.List.{List, [], _∷_, List·Memᴰ·head, List·Memᴰ·tail}
 use lib.Dec.{eqb, ltb}
 use lib.ListN.{length, getD, set, length-set}
 use lib.Seq.{ext-getD, set-getD}
-use borrow.Author.Tests.{eqb-true, eq-eqb, ne-eqb, eqb-false, not-true, lt-ltb, le-ltb}
-use Rattle.meaning.specs.Lists.{_∈_, all, any, find, pairwise, mapFrom}
-use Rattle.meaning.specs.declared.Access.{Access}
-use Rattle.meaning.specs.Store.{Rec, Edit, Store, freshRec, recOf, recAt, withRec, withRecords, isOf, noAccess}
-use Rattle.meaning.specs.Store.{accessOf}
+use borrow.Author.Tests.{eq-eqb, ne-eqb, eqb-false, not-true, lt-ltb, le-ltb}
+use Rattle.meaning.specs.Lists.{_∈_, all, find, pairwise, mapFrom}
+use Rattle.types.specs.declared.Access.{Access}
+use Rattle.meaning.specs.Store.{Rec, Store, freshRec, recOf, recAt, withRec, withRecords, isOf, noAccess}
 use Rattle.meaning.proofs.Lists.{and-left, and-right, all-out, length-mapFrom}
 use Rattle.meaning.proofs.Stores.{rec-same, rec-other, rec-map}
 use Rattle.endings.specs.Steps.{Existing, changed, along, freedRec, freedAt, freedBelow, freedAll}

@@ -2,12 +2,9 @@
 -- present store. Rests on Folds and Besides.
 use Prim.Native.Nat.{ℕ, zero, suc, _-_, _≤_, _<_}
 use native.Mathlib.Omega.{arith}
-use mathlib.Core.Path.{_≡_, refl, sym, ap, _∙_}
-use mathlib.Core.Bool.{Bool, true, false}
+use mathlib.Core.Path.{_≡_, sym, ap, _∙_}
 use mathlib.Core.List.{List}
-use lib.Dec.{ltb}
-use borrow.Author.Tests.{ltb-true, ltb-false}
-use Rattle.meaning.specs.declared.Counts.{Counts}
+use Rattle.types.specs.declared.Counts.{Counts}
 use Rattle.meaning.specs.Store.{Store}
 use Rattle.meaning.specs.Points.{dropOwner}
 use Rattle.tables.specs.Decode.{decodeAt}

@@ -1,21 +1,21 @@
 -- Settle's loop over the accesses of a committed edit: it ends with the settled locks of every record accessed, and
 -- there is a free row at each step, since the edit's own locks have gone before. Rests on Folds and on Laws of
 -- `meaning`.
-use Prim.Native.Nat.{ℕ, zero, suc, _+_, _≤_, _<_}
+use Prim.Native.Nat.{ℕ, suc, _+_, _<_}
 use native.Mathlib.Omega.{arith}
 use mathlib.Core.Path.{_≡_, refl, sym, ap, _∙_}
-use mathlib.Core.Bool.{Bool, true, false, cond}
+use mathlib.Core.Bool.{Bool, true, false}
 use mathlib.Core.List.{List, [], _∷_, List·Memᴰ·head, List·Memᴰ·eq-of-singleton}
 use lib.Dec.{eqb}
 use lib.ListN.{length}
 use borrow.Author.Tests.{eq-eqb, ne-eqb}
-use Rattle.meaning.specs.Lists.{_∈_, total, mapFrom}
-use Rattle.meaning.specs.Limits.{READ, WRITE, FREE, COMMITTED}
-use Rattle.meaning.specs.declared.Access.{Access}
-use Rattle.meaning.specs.declared.Lock.{Lock}
-use Rattle.meaning.specs.Store.{Rec, Edit, Store, editAt, recOf, recAt, withEdit, withRec, withRecords, withLocks}
+use Rattle.meaning.specs.Lists.{total, mapFrom}
+use Rattle.types.specs.Limits.{READ, WRITE, COMMITTED}
+use Rattle.types.specs.declared.Access.{Access}
+use Rattle.types.specs.declared.Lock.{Lock}
+use Rattle.meaning.specs.Store.{Rec, Edit, Store, editAt, recAt, withEdit, withRecords}
 use Rattle.meaning.specs.Store.{noAccess, accessOf, hasRead, locksUsed}
-use Rattle.meaning.specs.Points.{leaveSettled, dropOwner}
+use Rattle.meaning.specs.Points.{leaveSettled}
 use Rattle.meaning.specs.Ending.{freed, settledLocks, settledRec, settled}
 use Rattle.meaning.specs.Sound.{namesOnce, soundStore}
 use Rattle.meaning.specs.SoundFacts.{SoundStore}

@@ -1,16 +1,16 @@
 -- Commit's loop over the accesses of an edit: it ends with a version for every record written, and there is a free row
 -- at each step. Rests on Folds and Besides.
-use Prim.Native.Nat.{ℕ, zero, suc, _+_, _≤_, _<_}
+use Prim.Native.Nat.{ℕ, suc, _+_, _≤_, _<_}
 use native.Mathlib.Omega.{arith}
-use mathlib.Core.Path.{_≡_, refl, sym, ap, _∙_}
+use mathlib.Core.Path.{_≡_, refl}
 use mathlib.Core.Bool.{Bool, true, false, cond}
 use mathlib.Core.List.{List, [], _∷_, List·Memᴰ·head, List·Memᴰ·eq-of-singleton}
-use lib.ListN.{length, length-set}
+use lib.ListN.{length}
 use borrow.Author.Tests.{leb-true}
-use Rattle.meaning.specs.Lists.{_∈_, keep, mapFrom}
-use Rattle.meaning.specs.declared.Access.{Access}
-use Rattle.meaning.specs.declared.Version.{Version}
-use Rattle.meaning.specs.Store.{Rec, Edit, Store, editAt, recAt, withRec, withRecords, noAccess, accessOf, writtenOf}
+use Rattle.meaning.specs.Lists.{keep, mapFrom}
+use Rattle.types.specs.declared.Access.{Access}
+use Rattle.types.specs.declared.Version.{Version}
+use Rattle.meaning.specs.Store.{Rec, Store, editAt, recAt, withRecords, noAccess, accessOf, writtenOf}
 use Rattle.meaning.specs.Store.{versionsUsed}
 use Rattle.meaning.specs.Outcomes.{versionRoom}
 use Rattle.meaning.specs.Ending.{insert, newVersion, committedRec}
@@ -18,7 +18,7 @@ use Rattle.meaning.specs.Sound.{namesOnce}
 use Rattle.meaning.specs.SoundFacts.{SoundStore}
 use Rattle.meaning.proofs.Inserted.{length-insert}
 use Rattle.meaning.proofs.StoresMore.{versions-set}
-use Rattle.meaning.specs.declared.Counts.{Counts}
+use Rattle.types.specs.declared.Counts.{Counts}
 use Rattle.tables.specs.Decode.{accessAt, decodeAt}
 use Rattle.tables.specs.Words.{Well}
 use Rattle.changes.specs.Becomes.{Beside, onVersions, versionOf}

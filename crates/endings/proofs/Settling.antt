@@ -1,6 +1,6 @@
 -- Settling a slot: its locks go, a committed edit's accesses leave settled locks, and the slot is freed. Rests on
 -- Leaving.
-use Prim.Native.Nat.{ℕ, suc, _≤_, _<_}
+use Prim.Native.Nat.{ℕ}
 use native.Mathlib.Omega.{arith}
 use mathlib.Core.Path.{_≡_, refl, sym, ap, _∙_}
 use mathlib.Core.Bool.{Bool, true, false, cond}
@@ -9,15 +9,14 @@ use lib.Dec.{eqb}
 use lib.ListN.{length}
 use borrow.Author.Tests.{eqb-true, eqb-false}
 use Rattle.chains.specs.Walk.{IsRow}
-use Rattle.meaning.specs.Limits.{FREE, COMMITTED}
-use Rattle.meaning.specs.declared.Access.{Access}
-use Rattle.meaning.specs.declared.Counts.{Counts}
+use Rattle.types.specs.Limits.{COMMITTED}
+use Rattle.types.specs.declared.Access.{Access}
+use Rattle.types.specs.declared.Counts.{Counts}
 use Rattle.meaning.specs.Store.{Rec, Edit, Store, editOf, editAt, inUse, withEdit, withRecords}
 use Rattle.meaning.specs.Ending.{freed, settled}
 use Rattle.meaning.proofs.Stores.{used-out, used-range}
 use Rattle.meaning.proofs.SoundParts.{sound-out}
 use Rattle.tables.specs.Decode.{slotAt, decodeAt}
-use Rattle.tables.specs.Words.{Well}
 use Rattle.tables.proofs.Decoded.{edit-at, decoded-edits, edits-length}
 use Rattle.changes.specs.Becomes.{Becomes, onEdit}
 use Rattle.calls.specs.Contract.{Ready}

@@ -5,15 +5,15 @@ use mathlib.Core.List.{List}
 use lib.Dec.{leb}
 use lib.ListN.{length}
 use Rattle.meaning.specs.Lists.{any}
-use Rattle.meaning.specs.Limits.{SETTLED}
-use Rattle.meaning.specs.declared.Lock.{Lock}
+use Rattle.types.specs.Limits.{SETTLED}
+use Rattle.types.specs.declared.Lock.{Lock}
 use Rattle.meaning.specs.Store.{Rec, Store, recAt, withRec}
 use Rattle.meaning.specs.Points.{isOwned}
 use Rattle.meaning.specs.Records.{purgedRec}
-use Rattle.meaning.specs.Replies.{commit, purged}
+use Rattle.types.specs.Replies.{commit, purged}
 use Rattle.meaning.specs.Outcomes.{Outcome, replies, pass, needs, unless, versionRoom}
 use Rattle.meaning.specs.Ending.{finished, committed}
-use Rattle.meaning.specs.declared.Finish.{Finish}
+use Rattle.types.specs.declared.Finish.{Finish}
 
 -- Commit, by the open edit of slot k, at the point t of its common set: 12
 unfoldable pub commitAt : Store → ℕ → ℕ → Finish → Outcome

@@ -6,8 +6,8 @@ use mathlib.Core.List.{List, [], _∷_}
 use lib.Dec.{eqb}
 use lib.ListN.{length}
 use Rattle.meaning.specs.Lists.{_∈_, keep, total, mapFrom}
-use Rattle.meaning.specs.Limits.{READ, WRITE, COMMITTED}
-use Rattle.meaning.specs.declared.Access.{Access}
+use Rattle.types.specs.Limits.{READ, WRITE, COMMITTED}
+use Rattle.types.specs.declared.Access.{Access}
 use Rattle.meaning.specs.Store.{Rec, Store, editAt, recAt, withRec, withRecords, withLocks, hasRead, versionsUsed}
 use Rattle.meaning.specs.Store.{locksUsed}
 use Rattle.meaning.specs.Points.{leaveSettled, dropOwner}

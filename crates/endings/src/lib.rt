@@ -1,16 +1,15 @@
 // Settle and Abort on sound words: each equal to its definition in the crate `meaning`, and each leaving sound words.
-// Rests on the crates `meaning`, `chains`, `tables`, `changes`, `slots`, `lookups` and `calls`.
-//
-// They are for callers who prove the words sound (`requires soundWords`), as those of the crate `calls`. No call here
-// looks at more than the chains it touches; Settle looks at the locks of every record once.
+// Rests on the crates `types`, `meaning`, `chains`, `tables`, `changes`, `slots`, `lookups` and `calls`.  They are for
+// callers who prove the words sound (`requires soundWords`), as those of the crate `calls`. No call here looks at more
+// than the chains it touches; Settle looks at the locks of every record once.
 ghost use mathlib.Core.Path.{_≡_};
 ghost use mathlib.Core.Bool.{true};
 ghost use mathlib.Core.List.{_∷_, []};
 ghost use Prim.Native.Nat.{_+_, _≤_, _<_};
 ghost use Rattle.chains.specs.Walk.{IsRow};
-ghost use Rattle.meaning.specs.Limits.{OPEN, COMMITTED};
+ghost use Rattle.types.specs.Limits.{OPEN, COMMITTED};
 ghost use Rattle.meaning.specs.Store.{editAt, inUse, locksUsed};
-ghost use Rattle.meaning.specs.Replies.{ofAbort, ofSettle};
+ghost use Rattle.types.specs.Replies.{ofAbort, ofSettle};
 ghost use Rattle.meaning.specs.Ending.{finished, aborted, settled, aborting, settling};
 ghost use Rattle.meaning.specs.Points.{leaveSettled};
 ghost use Rattle.tables.specs.Layout.{MODES};
@@ -19,16 +18,16 @@ ghost use Rattle.tables.specs.Words.{lent, soundWords, Well};
 ghost use Rattle.changes.specs.Becomes.{Becomes, Beside, onLocks};
 ghost use Rattle.calls.specs.Contract.{Acts, Ready};
 ghost use Rattle.endings.specs.Steps.{changed, along, leftRec, leftBy, freedAll, mark, LeaveNeed};
-use meaning::ABORTED;
-use meaning::AbortReply;
-use meaning::COMMITTED;
-use meaning::Counts;
-use meaning::Finish;
-use meaning::Handle;
-use meaning::READ;
-use meaning::Refusal;
-use meaning::SettleReply;
-use meaning::WRITE;
+use types::ABORTED;
+use types::AbortReply;
+use types::COMMITTED;
+use types::Counts;
+use types::Finish;
+use types::Handle;
+use types::READ;
+use types::Refusal;
+use types::SettleReply;
+use types::WRITE;
 
 // Settle.
 

@@ -1,21 +1,22 @@
 // The library that a product links: each call as a C function over lent words and numbers, and many calls as one. A
 // call returns 0 for granted, else the number of the refusal. None has a `requires`; the contract of each is the
-// promise of its call. Rests on the crates `meaning`, `format`, `store`, `codes`, `verdicts`,
-// `telling`, `batch` and `asks`.
+// promise of its call. Rests on the crates `types`, `meaning`, `format`, `store`, `codes`, `verdicts`, `telling`,
+// `batch` and `asks`.
 ghost use mathlib.Core.Path.{_≡_};
 ghost use mathlib.Core.List.{[], _∷_};
 ghost use Rattle.meaning.specs.Edits.{beginning, writing};
 ghost use Rattle.meaning.specs.Locking.{locking, reading};
 ghost use Rattle.meaning.specs.Ending.{committing, aborting, settling};
-ghost use Rattle.meaning.specs.Records.{purging, viewing, pointing};
-ghost use Rattle.meaning.specs.declared.Pick.the-variants.{Earliest, Latest};
+ghost use Rattle.meaning.specs.Records.{purging, viewing};
+ghost use Rattle.types.specs.Numbers.{pointing};
+ghost use Rattle.types.specs.declared.Pick.the-variants.{Earliest, Latest};
 ghost use Rattle.format.specs.Format.{Formats};
 ghost use Rattle.store.specs.Answers.{Does, Shows};
 ghost use Rattle.codes.specs.Codes.{Answers, extentOf, finishOf, named, counts};
 ghost use Rattle.batch.specs.Runs.{Runs};
 ghost use Rattle.asks.specs.Views.{Views};
-use meaning::Counts;
-use meaning::Pick;
+use types::Counts;
+use types::Pick;
 
 // Point: the only call that needs no store.
 #[no_mangle]
@@ -26,7 +27,7 @@ pub extern "C" fn zohetiwa_point(clock: u64, seat: u64, point: &mut u64) -> u64
         (now (point .exit) ∷ [])
         ⌝ }
 {
-    let reply = store::point(meaning::reading_of(clock), meaning::seat_of(seat));
+    let reply = store::point(types::reading_of(clock), types::seat_of(seat));
     telling::point(reply, point)
 }
 
@@ -79,7 +80,7 @@ pub extern "C" fn zohetiwa_write(words: &mut [u64], handle: u64, rec: u64, value
         Answers (Does (writing handle rec value) (now (words .entry)) (now (words .exit))) code [] []
         ⌝ }
 {
-    let reply = store::write(words, meaning::handle_of_word(handle), rec, value);
+    let reply = store::write(words, types::handle_of_word(handle), rec, value);
     verdicts::write(reply)
 }
 
@@ -101,9 +102,9 @@ pub extern "C" fn zohetiwa_lock(
         (now (first .exit) ∷ now (last .exit) ∷ [])
         ⌝ }
 {
-    let h = meaning::handle_of_word(handle);
-    let from = meaning::point_of_word(low);
-    let to = meaning::point_of_word(high);
+    let h = types::handle_of_word(handle);
+    let from = types::point_of_word(low);
+    let to = types::point_of_word(high);
     let reply = store::lock(words, h, rec, from, to, codes::extent(part));
     telling::lock(reply, first, last)
 }
@@ -129,8 +130,8 @@ pub extern "C" fn zohetiwa_read(
         (now (kind .exit) ∷ now (tr .exit) ∷ now (end .exit) ∷ now (written .exit) ∷ now (value .exit) ∷ [])
         ⌝ }
 {
-    let h = meaning::handle_of_word(handle);
-    let upto = meaning::point_of_word(m);
+    let h = types::handle_of_word(handle);
+    let upto = types::point_of_word(m);
     let reply = store::read(words, h, rec, upto, codes::extent(part));
     telling::read(reply, kind, tr, end, written, value)
 }
@@ -151,7 +152,7 @@ pub extern "C" fn zohetiwa_commit_earliest(
 {
     let reply = store::commit(
         words,
-        meaning::handle_of_word(handle),
+        types::handle_of_word(handle),
         Pick::Earliest,
         codes::finish(keep),
     );
@@ -173,7 +174,7 @@ pub extern "C" fn zohetiwa_commit_latest(
 {
     let reply = store::commit(
         words,
-        meaning::handle_of_word(handle),
+        types::handle_of_word(handle),
         Pick::Latest,
         codes::finish(keep),
     );
@@ -194,8 +195,8 @@ pub extern "C" fn zohetiwa_commit_at(
         (now (point .exit) ∷ [])
         ⌝ }
 {
-    let h = meaning::handle_of_word(handle);
-    let pick = Pick::Named(meaning::point_of_word(at));
+    let h = types::handle_of_word(handle);
+    let pick = Pick::Named(types::point_of_word(at));
     let reply = store::commit(words, h, pick, codes::finish(keep));
     telling::commit(reply, point)
 }
@@ -207,7 +208,7 @@ pub extern "C" fn zohetiwa_abort(words: &mut [u64], handle: u64, keep: u64) -> u
         Answers (Does (aborting handle (finishOf keep)) (now (words .entry)) (now (words .exit))) code [] []
         ⌝ }
 {
-    let reply = store::abort(words, meaning::handle_of_word(handle), codes::finish(keep));
+    let reply = store::abort(words, types::handle_of_word(handle), codes::finish(keep));
     verdicts::abort(reply)
 }
 
@@ -216,7 +217,7 @@ pub extern "C" fn zohetiwa_abort(words: &mut [u64], handle: u64, keep: u64) -> u
 pub extern "C" fn zohetiwa_settle(words: &mut [u64], handle: u64) -> u64
     ensures { λ code. ⌜ Answers (Does (settling handle) (now (words .entry)) (now (words .exit))) code [] [] ⌝ }
 {
-    let reply = store::settle(words, meaning::handle_of_word(handle));
+    let reply = store::settle(words, types::handle_of_word(handle));
     verdicts::settle(reply)
 }
 
@@ -235,7 +236,7 @@ pub extern "C" fn zohetiwa_purge(
         (now (versions .exit) ∷ now (locks .exit) ∷ [])
         ⌝ }
 {
-    let reply = store::purge(words, rec, meaning::point_of_word(b));
+    let reply = store::purge(words, rec, types::point_of_word(b));
     telling::purge(reply, versions, locks)
 }
 
@@ -255,7 +256,7 @@ pub extern "C" fn zohetiwa_view(
         (now (point .exit) ∷ now (written .exit) ∷ now (value .exit) ∷ [])
         ⌝ }
 {
-    let reply = store::view(words, rec, meaning::point_of_word(p));
+    let reply = store::view(words, rec, types::point_of_word(p));
     telling::view(reply, point, written, value)
 }
 

@@ -1,16 +1,16 @@
 -- What a found field says of the fields from its position, for each kind of field; the end of the line; handles and
 -- points made of words. Rests on specs/Fields and specs/Kinds.
 use Prim.Native.Nat.{ℕ, _≤_, _<_}
-use mathlib.Core.Path.{_≡_, refl, sym, _∙_, ap}
+use mathlib.Core.Path.{_≡_, _∙_, ap}
 use mathlib.Core.List.{List}
 use borrow.Author.Tests.{le-leb, lt-leb}
 use lib.ListN.{length}
 use lib.Dec.{leb·zero}
-use Rattle.meaning.specs.declared.Handle.{Handle}
-use Rattle.meaning.specs.declared.Point.{Point}
-use Rattle.meaning.specs.declared.Extent.{Extent}
-use Rattle.meaning.specs.declared.Finish.{Finish}
-use Rattle.meaning.specs.declared.Pick.{Pick}
+use Rattle.types.specs.declared.Handle.{Handle}
+use Rattle.types.specs.declared.Point.{Point}
+use Rattle.types.specs.declared.Extent.{Extent}
+use Rattle.types.specs.declared.Finish.{Finish}
+use Rattle.types.specs.declared.Pick.{Pick}
 use Rattle.fields.specs.declared.Parsed.{Parsed}
 use Rattle.fields.specs.declared.Parsed.the-variants.{Malformed}
 use Rattle.fields.specs.Fields.{fields, number, letterOr, done}

@@ -1,14 +1,14 @@
 -- The laws of specs/Laws. Rests on Digits, and on Decimal of the crate `texts`.
 use Prim.Native.Nat.{ℕ, zero, suc, _+_, _-_, _*_, _/_, _%_, _≤_, _<_}
-use mathlib.Core.Path.{_≡_, refl, sym, _∙_, ap}
-use mathlib.Core.Bool.{Bool, true, false, not, cond, _&&_}
+use mathlib.Core.Path.{_≡_, refl, sym, ap}
+use mathlib.Core.Bool.{Bool, true, false, _&&_}
 use mathlib.Core.List.{List, [], _∷_, _++_}
 use native.Mathlib.Omega.{arith}
 use borrow.Author.Tests.{le-leb, eqb-true, ltb-true, ltb-false}
-use lib.ListN.{length, getD}
+use lib.ListN.{getD}
 use lib.Dec.{leb, eqb, ltb}
 use Rattle.texts.specs.Text.{SPACE, LARGEST}
-use Rattle.fields.specs.Fields.{first, others, isDigit, isNumber, digits, value, nonempty}
+use Rattle.fields.specs.Fields.{first, others, isDigit, digits, value, nonempty}
 use Rattle.texts.specs.Parts.{decimal}
 use Rattle.fields.specs.Laws.{spaced, spaceless, allSpaceless, FieldsJoin, FieldsSpaceless, DecimalReads}
 use Rattle.fields.specs.Laws.{DecimalNumber, DecimalLeads}

@@ -1,20 +1,20 @@
 -- Scanning a field byte by byte is reading it whole: the steps of a number's loop and its ways out, and a field of one
 -- byte. Rests on specs/Fields and Digits.
 use Prim.Native.Nat.{ℕ, suc, _+_, _-_, _*_, _≤_, _<_}
-use mathlib.Core.Path.{_≡_, refl, sym, _∙_, ap}
+use mathlib.Core.Path.{_≡_, refl}
 use mathlib.Core.Bool.{Bool, true, false, cond, _&&_}
 use mathlib.Core.List.{List, [], _∷_}
 use native.Mathlib.Omega.{arith}
 use native.Mathlib.Numerals.{add-one}
-use borrow.Author.Tests.{le-leb, lt-leb, leb-true, leb-false, eqb-true, eqb-false, eq-eqb, ne-eqb}
+use borrow.Author.Tests.{le-leb, lt-leb, leb-true, leb-false, ne-eqb}
 use lib.ListN.{length, drop, getD, drop-of-length-le}
 use lib.Seq.{drop-cons}
 use lib.Dec.{leb, eqb}
 use Rattle.fields.specs.declared.Parsed.{Parsed}
 use Rattle.fields.specs.declared.Parsed.the-variants.{Malformed}
 use Rattle.texts.specs.Text.{SPACE, LARGEST}
-use Rattle.fields.specs.Fields.{first, others, isDigit, digits, value, number, letterOr}
-use Rattle.fields.proofs.Digits.{Digit, digit-says, digit-within, digit-in, not-digit}
+use Rattle.fields.specs.Fields.{first, others, digits, value, number, letterOr}
+use Rattle.fields.proofs.Digits.{Digit, digit-says, digit-within, not-digit}
 use Rattle.fields.specs.Cursor.{left, digitOf, endsAt}
 
 abbrev pub Next : Type 0

@@ -8,14 +8,14 @@ use lib.Dec.{eqb}
 use Rattle.fields.specs.Fields.{number, letterOr}
 use Rattle.fields.specs.declared.Parsed.{Parsed}
 use Rattle.fields.specs.declared.Parsed.the-variants as P
-use Rattle.meaning.specs.declared.Handle.{Handle}
-use Rattle.meaning.specs.declared.Point.{Point}
-use Rattle.meaning.specs.declared.Extent.{Extent}
-use Rattle.meaning.specs.declared.Extent.the-variants as X
-use Rattle.meaning.specs.declared.Finish.{Finish}
-use Rattle.meaning.specs.declared.Finish.the-variants as F
-use Rattle.meaning.specs.declared.Pick.{Pick}
-use Rattle.meaning.specs.declared.Pick.the-variants as K
+use Rattle.types.specs.declared.Handle.{Handle}
+use Rattle.types.specs.declared.Point.{Point}
+use Rattle.types.specs.declared.Extent.{Extent}
+use Rattle.types.specs.declared.Extent.the-variants as X
+use Rattle.types.specs.declared.Finish.{Finish}
+use Rattle.types.specs.declared.Finish.the-variants as F
+use Rattle.types.specs.declared.Pick.{Pick}
+use Rattle.types.specs.declared.Pick.the-variants as K
 
 abbrev pub Fields : Type 0
 Fields = List (List ℕ)

@@ -4,12 +4,12 @@
 -- on Fields, and on Parts of the crate `texts`.
 use Prim.Native.Nat.{ℕ, _≤_, _<_}
 use mathlib.Core.Path.{_≡_}
-use mathlib.Core.Bool.{Bool, true, false, not, _&&_}
+use mathlib.Core.Bool.{Bool, true, not, _&&_}
 use mathlib.Core.List.{List, [], _∷_, _++_}
 use lib.ListN.{getD}
 use lib.Dec.{eqb}
 use Rattle.texts.specs.Text.{SPACE, LARGEST}
-use Rattle.fields.specs.Fields.{first, others, isNumber, digits, value}
+use Rattle.fields.specs.Fields.{first, others, isNumber, value}
 use Rattle.texts.specs.Parts.{decimal}
 
 -- each field after the first, with a space before it

@@ -1,5 +1,5 @@
 // Fields of a line, read at a position: a number, one letter, a flag, a commit's point. Each says what follows from the
-// field it found, and where the next one begins. Each function is proved against specs/. Rests on the crates `meaning`
+// field it found, and where the next one begins. Each function is proved against specs/. Rests on the crates `types`
 // and `texts`.
 ghost use mathlib.Core.Path.{_≡_};
 ghost use mathlib.Core.List.{List};
@@ -13,12 +13,12 @@ ghost use Rattle.fields.specs.Kinds.{ExtentNext, FinishNext, PickNext, e
 ghost use Rattle.fields.specs.Kinds.{pick as pick·of, named as named·of};
 ghost use Rattle.fields.specs.Cursor.{left, afterNumber, afterLetter, digitOf, endsAt, afterExtent, afterFinish};
 ghost use Rattle.fields.specs.Cursor.{afterPick};
-use meaning::Call;
-use meaning::Counts;
-use meaning::Extent;
-use meaning::Finish;
-use meaning::Pick;
 use texts::SPACE;
+use types::Call;
+use types::Counts;
+use types::Extent;
+use types::Finish;
+use types::Pick;
 
 const LARGEST: u64 = 18446744073709551615;
 
@@ -185,7 +185,7 @@ fn named(line: &[u8], at: usize) -> FoundPick
     let FoundNumber::At(n, i) = number(line, at) else {
         return FoundPick::Missing;
     };
-    FoundPick::At(Pick::Named(meaning::point_of_word(n)), i)
+    FoundPick::At(Pick::Named(types::point_of_word(n)), i)
 }
 
 // E, L or a named point at this position.

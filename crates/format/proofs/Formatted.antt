@@ -13,7 +13,7 @@ use Rattle.chains.proofs.Parts.{zeros}
 use Rattle.meaning.specs.Records.{goodCounts}
 use Rattle.meaning.specs.Store.{freshRec, freshEdit, fresh}
 use Rattle.meaning.specs.Sound.{soundStore}
-use Rattle.meaning.specs.declared.Counts.{Counts}
+use Rattle.types.specs.declared.Counts.{Counts}
 use Rattle.meaning.proofs.Lists.{and-in}
 use Rattle.meaning.proofs.SoundParts.{fresh-is-sound}
 use Rattle.tables.specs.Layout as Layout
@@ -22,7 +22,7 @@ use Rattle.tables.specs.Layout.{lockBase, accessBase, recordTable, slotTable, v
 use Rattle.tables.specs.Layout.{versionHeads, lockHeads, accessHeads}
 use Rattle.tables.specs.Decode.{build, recordAt, slotAt, floorOf, recordsOf, editsOf, decodeAt, versionRows, lockRows}
 use Rattle.tables.specs.Decode.{accessRows, versionsOf, locksOf, accessesOf}
-use Rattle.tables.specs.Words.{Well, namesRecord, marked, decode, formed, soundWords}
+use Rattle.tables.specs.Words.{Well, namesRecord, marked, decode, soundWords}
 use Rattle.tables.proofs.Bridge.{well-in}
 use Rattle.tables.proofs.Header.{good-ranged}
 use Rattle.tables.proofs.Places

@@ -12,7 +12,7 @@ use borrow.Author.Tests.{lt-ltb, le-ltb, eqb-true}
 use Rattle.chains.specs.declared.Table.{Table}
 use Rattle.chains.specs.Table.{Lies, place}
 use Rattle.meaning.specs.Records.{goodCounts}
-use Rattle.meaning.specs.declared.Counts.{Counts}
+use Rattle.types.specs.declared.Counts.{Counts}
 use Rattle.meaning.proofs.Lists.{and-left, and-right}
 use Rattle.tables.proofs.Header.{good-ranged}
 use Rattle.tables.specs.Layout.{HEADER, Ranged, sizeOf, versionBase, lockBase, accessBase, versionTable, lockTable}

@@ -3,15 +3,15 @@
 use Prim.Native.Nat.{ℕ, zero, suc, _-_}
 use mathlib.Core.Path.{_≡_}
 use mathlib.Core.Bool.{Bool, true, false, cond, _&&_}
-use mathlib.Core.List.{List, [], _∷_, _++_}
+use mathlib.Core.List.{List, [], _++_}
 use lib.ListN.{length, set, replicate}
 use lib.Dec.{ltb, eqb}
 use Rattle.chains.specs.declared.Table.{Table}
 use Rattle.chains.specs.Table.{linkCell}
 use Rattle.meaning.specs.Records.{goodCounts}
-use Rattle.meaning.specs.Replies.{Reply, ok, refusing}
+use Rattle.types.specs.Replies.{Reply, ok, refusing}
 use Rattle.meaning.specs.Store.{fresh}
-use Rattle.meaning.specs.declared.Counts.{Counts}
+use Rattle.types.specs.declared.Counts.{Counts}
 use Rattle.tables.specs.Layout.{HEADER, H-RECORDS, H-EDITS, H-VERSIONS, H-LOCKS, H-ACCESSES, FREE-VERSION, FREE-LOCK}
 use Rattle.tables.specs.Layout.{FREE-ACCESS, sizeOf, versionTable, lockTable, accessTable}
 use Rattle.tables.specs.Words.{lent, decode, soundWords}

@@ -1,17 +1,17 @@
 // The call Format: it lays out a store in a lent slice, whatever the slice held, or refuses and leaves every word as it
-// was. Rests on the crates `meaning`, `chains` and `tables`.
+// was. Rests on the crates `types`, `meaning`, `chains` and `tables`.
 ghost use mathlib.Core.Path.{_≡_};
 ghost use Prim.Native.Nat.{_≤_, _<_};
 ghost use lib.ListN.{length, replicate};
 ghost use lib.Seq.{sets};
 ghost use Rattle.chains.specs.Table.{Lies};
-ghost use Rattle.meaning.specs.Replies.{ofFormat};
+ghost use Rattle.types.specs.Replies.{ofFormat};
 ghost use Rattle.tables.specs.Layout.{HEADER, Ranged, sizeOf};
 ghost use Rattle.format.specs.Format.{headerWords, nextFree, linked, formattedWords, formatFits, Formats};
 use chains::Table;
-use meaning::Counts;
-use meaning::FormatReply;
-use meaning::Refusal;
+use types::Counts;
+use types::FormatReply;
+use types::Refusal;
 
 // Whether the counts are in range and n is the number of words that they ask for.
 fn format_fits(n: usize, c: Counts) -> bool

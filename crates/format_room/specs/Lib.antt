@@ -1,2 +1,2 @@
--- The room that a Format of a script has. Rests on the crates `meaning` and `tables`.
+-- The room that a Format of a script has. Rests on the crates `types`, `meaning` and `tables`.
 pub mod Room

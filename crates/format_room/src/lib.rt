@@ -1,7 +1,8 @@
-// How many words a Format of a script is lent, out of those that there are. Rests on the crates `meaning` and `tables`.
+// How many words a Format of a script is lent, out of those that there are. Rests on the crates `types`, `meaning` and
+// `tables`.
 ghost use mathlib.Core.Path.{_≡_};
 ghost use Rattle.format_room.specs.Room.{wordsFor};
-use meaning::Counts;
+use types::Counts;
 
 // How many words Format is lent: as many as the counts ask for, or none where they are out of range or ask for more
 // than there is room. Lent none, Format refuses with 16.

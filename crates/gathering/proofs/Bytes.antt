@@ -3,7 +3,7 @@ use Prim.Native.Nat.{ℕ, _+_, _≤_, _<_}
 use native.Mathlib.Numerals.{add-one}
 use native.Mathlib.Omega.{arith}
 use mathlib.Core.Path.{_≡_, sym, ap, _∙_}
-use mathlib.Core.Bool.{Bool, true, false, cond}
+use mathlib.Core.Bool.{Bool, cond}
 use mathlib.Core.List.{List, [], _∷_, _++_}
 use lib.ListN.{length, take, set}
 use lib.Dec.{ltb}

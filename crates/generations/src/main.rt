@@ -2,10 +2,10 @@
 // 0. Every call that takes a handle refuses one of another generation with 2, and after 65,536 begins in the slot the
 // stale handle is good again. Rests on `store`, and on `lines` for the text of calls and replies.
 use fields::Parsed;
-use meaning::BeginReply;
-use meaning::Call;
-use meaning::Finish;
 use replies::Line;
+use types::BeginReply;
+use types::Call;
+use types::Finish;
 
 // The words of slot 1 in the store 2 2 4 8 8.
 const SLOT_1: usize = tables::HEADER + 2 * tables::RECORD;
@@ -145,8 +145,8 @@ fn turns(words: &mut [u64; 118], n: u64) {
 fn main() {
     let mut words = [0u64; 118];
     step(&mut words, b"F 2 2 4 8 8");
-    words[SLOT_1 + tables::S_STATE] = meaning::OPEN;
-    words[SLOT_1 + tables::S_GENERATION] = meaning::GENERATIONS - 1;
+    words[SLOT_1 + tables::S_STATE] = types::OPEN;
+    words[SLOT_1 + tables::S_GENERATION] = types::GENERATIONS - 1;
     io::write_all(1, b"slot 1 open with generation 65535: ");
     print_verdict(&words);
     wrap(&mut words);

@@ -4,11 +4,13 @@ use Prim.Native.Nat.{ℕ}
 use native.Mathlib.Omega.{arith}
 use mathlib.Core.Path.{_≡_, refl}
 use mathlib.Core.Bool.{Bool, true, false, cond}
-use Rattle.meaning.specs.Store.{Val, Store, slotOf}
+use Rattle.meaning.specs.Store.{Store}
+use Rattle.types.specs.Numbers.{slotOf}
+use Rattle.types.specs.Values.{Val}
 use Rattle.meaning.specs.Outcomes.{Outcome, Verdict, pass, refuse, unless}
 use Rattle.meaning.specs.Sound.{soundStore}
 use Rattle.meaning.specs.SoundFacts.{SoundStore}
-use Rattle.meaning.specs.declared.Call.{Call}
+use Rattle.types.specs.declared.Call.{Call}
 use Rattle.meaning.proofs.SoundParts.{sound-out}
 use Rattle.meaning.proofs.Verdicts.{PassedOpen}
 use Rattle.serial.specs.Serializable.{_▸_, History}

@@ -8,13 +8,15 @@ use mathlib.Core.Bool.{true, false, cond}
 use mathlib.Core.List.{List, [], _∷_, map}
 use borrow.Author.Tests.{eqb-true, eq-eqb, ne-eqb}
 use Rattle.meaning.specs.Lists.{_∈_, any, find}
-use Rattle.meaning.specs.Limits.{COMMITTED}
-use Rattle.meaning.specs.Store.{Val, Rec, Edit, handle, isOf, noAccess, accessOf, names}
+use Rattle.types.specs.Limits.{COMMITTED}
+use Rattle.meaning.specs.Store.{Rec, Edit, isOf, noAccess, accessOf, names}
+use Rattle.types.specs.Numbers.{handle}
+use Rattle.types.specs.Values.{Val}
 use Rattle.meaning.specs.Edits.{withAccess}
 use Rattle.meaning.specs.Pointwise.{LockOn, HeldOn}
-use Rattle.meaning.specs.declared.Version.{Version}
-use Rattle.meaning.specs.declared.Lock.{Lock}
-use Rattle.meaning.specs.declared.Access.{Access}
+use Rattle.types.specs.declared.Version.{Version}
+use Rattle.types.specs.declared.Lock.{Lock}
+use Rattle.types.specs.declared.Access.{Access}
 use Rattle.meaning.proofs.Lists.{test, not-both}
 use Rattle.serial.proofs.Slots.{Used, SlotStays, Moves, Grows, Nothing}
 use Rattle.history.proofs.StoreSlots.{StandsAt, ReadAt, Wrote, slotsOf}

@@ -6,13 +6,13 @@ use mathlib.Core.Path.{_≡_, refl, sym}
 use mathlib.Core.Bool.{Bool, true}
 use mathlib.Core.List.{List, [], _∷_}
 use Rattle.meaning.specs.Store.{Store, fresh}
-use Rattle.meaning.specs.Replies.{Reply}
+use Rattle.types.specs.Replies.{Reply}
 use Rattle.meaning.specs.Outcomes.{replies}
 use Rattle.meaning.specs.Records.{viewChecks, viewing}
 use Rattle.meaning.specs.Calls.{act, run, after}
 use Rattle.meaning.specs.Sound.{soundStore}
-use Rattle.meaning.specs.declared.Call.{Call}
-use Rattle.meaning.specs.declared.Call.the-variants as C
+use Rattle.types.specs.declared.Call.{Call}
+use Rattle.types.specs.declared.Call.the-variants as C
 use Rattle.meaning.proofs.Lists.{not-both}
 use Rattle.meaning.proofs.Verdicts.{unless-keeps}
 use Rattle.meaning.proofs.Laws.{fresh-is-sound, calls-keep-sound, refusal-changes-nothing}

@@ -12,24 +12,26 @@ use lib.ListN.{length}
 use borrow.Author.Tests.{leb-true}
 use Prim.Native.Nat.{_+_}
 use Rattle.meaning.specs.Lists.{_∈_}
-use Rattle.meaning.specs.Limits.{WRITE, FREE, COMMITTED, ABORTED}
-use Rattle.meaning.specs.Store.{Val, Rec, Edit, Store, handle, slotOf, editAt, recAt, accessOf, writtenOf, versionsUsed}
-use Rattle.meaning.specs.Replies.{ok, commit, nopoint}
+use Rattle.types.specs.Limits.{WRITE, FREE, COMMITTED, ABORTED}
+use Rattle.meaning.specs.Store.{Rec, Edit, Store, editAt, recAt, accessOf, writtenOf, versionsUsed}
+use Rattle.types.specs.Numbers.{handle, slotOf}
+use Rattle.types.specs.Values.{Val}
+use Rattle.types.specs.Replies.{ok, commit, nopoint}
 use Rattle.meaning.specs.Outcomes.{pass, replies, Verdict, needs, knows, isOpen, versionRoom}
 use Rattle.meaning.specs.Ending.{ended, settledLocks, settled, finished, insert, newVersion, committed, aborted}
 use Rattle.meaning.specs.Ending.{goodPick, chosen, allowed, noCommon, commitVerdict, commitOpen, commitChecks}
 use Rattle.meaning.specs.Ending.{committing, abortChecks, aborting, settleChecks, settling}
 use Rattle.meaning.specs.Pointwise.{LockOn, HeldOn, InCommonSet}
 use Rattle.meaning.specs.SoundFacts.{SoundStore}
-use Rattle.meaning.specs.declared.Value.the-variants.{Written}
-use Rattle.meaning.specs.declared.Version.{Version}
-use Rattle.meaning.specs.declared.Access.{Access}
-use Rattle.meaning.specs.declared.Handle.{Handle}
-use Rattle.meaning.specs.declared.Pick.{Pick}
-use Rattle.meaning.specs.declared.Finish.{Finish}
-use Rattle.meaning.specs.declared.Finish.the-variants as F
-use Rattle.meaning.specs.declared.Call.{Call}
-use Rattle.meaning.specs.declared.Call.the-variants as C
+use Rattle.types.specs.declared.Value.the-variants.{Written}
+use Rattle.types.specs.declared.Version.{Version}
+use Rattle.types.specs.declared.Access.{Access}
+use Rattle.types.specs.declared.Handle.{Handle}
+use Rattle.types.specs.declared.Pick.{Pick}
+use Rattle.types.specs.declared.Finish.{Finish}
+use Rattle.types.specs.declared.Finish.the-variants as F
+use Rattle.types.specs.declared.Call.{Call}
+use Rattle.types.specs.declared.Call.the-variants as C
 use Rattle.meaning.proofs.Stores.{InRange, used-range}
 use Rattle.meaning.proofs.Changed.{rec-committed-any, rec-settled-any, rec-aborted, edit-committed}
 use Rattle.meaning.proofs.Changed.{edit-committed-other, edit-settled, edit-settled-other, edit-aborted}

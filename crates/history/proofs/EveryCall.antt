@@ -2,8 +2,9 @@
 use Prim.Native.Nat.{ℕ, _-_}
 use mathlib.Core.Bool.{Bool, true, false, cond}
 use lib.Dec.{leb}
-use Rattle.meaning.specs.Store.{Edit, Store, slotOf, editAt, recAt, withEdit, withRec, accessOf, hasRead, newestAt}
-use Rattle.meaning.specs.Replies.{ok, own, again, commit, nopoint, purged}
+use Rattle.meaning.specs.Store.{Edit, Store, editAt, recAt, withEdit, withRec, accessOf, hasRead, newestAt}
+use Rattle.types.specs.Numbers.{slotOf}
+use Rattle.types.specs.Replies.{ok, own, again, commit, nopoint, purged}
 use Rattle.meaning.specs.Outcomes.{Outcome, replies}
 use Rattle.meaning.specs.Edits.{begun, beginChecks, beginning, written, writeChecks, writing}
 use Rattle.meaning.specs.Locking.{withLock, lockVerdict, lockChecks, lockWanted, locking, readVerdict, readStore}
@@ -12,10 +13,10 @@ use Rattle.meaning.specs.Ending.{settled, finished, committed, aborted, chosen,
 use Rattle.meaning.specs.Ending.{commitChecks, committing, abortChecks, aborting, settleChecks, settling}
 use Rattle.meaning.specs.Records.{purgedRec, purgeVerdict, purgeTo, purgeChecks, purging, viewChecks, viewing}
 use Rattle.meaning.specs.Calls.{act}
-use Rattle.meaning.specs.declared.Finish.{Finish}
-use Rattle.meaning.specs.declared.Finish.the-variants as F
-use Rattle.meaning.specs.declared.Call.{Call}
-use Rattle.meaning.specs.declared.Call.the-variants as C
+use Rattle.types.specs.declared.Finish.{Finish}
+use Rattle.types.specs.declared.Finish.the-variants as F
+use Rattle.types.specs.declared.Call.{Call}
+use Rattle.types.specs.declared.Call.the-variants as C
 use Rattle.meaning.proofs.Verdicts.{unless-keeps}
 
 -- the changes: of a slot, of a record's locks, a commit, a settling, a purge

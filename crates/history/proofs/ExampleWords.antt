@@ -9,15 +9,15 @@ use mathlib.Core.Bool.{true}
 use mathlib.Core.List.{List}
 use mathlib.Core.Option.{some, none}
 use lib.ListN.{length}
-use Rattle.meaning.specs.Limits.{LAST}
-use Rattle.meaning.specs.Store.{Val}
-use Rattle.meaning.specs.Replies.{Reply, at}
+use Rattle.types.specs.Limits.{LAST}
+use Rattle.types.specs.Values.{Val}
+use Rattle.types.specs.Replies.{Reply, at}
 use Rattle.meaning.specs.Records.{goodCounts, viewing}
 use Rattle.meaning.specs.Calls.{opened}
 use Rattle.meaning.specs.Contract.{Shows}
 use Rattle.meaning.specs.Session.{session, sessionReplies}
-use Rattle.meaning.specs.declared.Value.the-variants.{Never, Written}
-use Rattle.meaning.specs.declared.Counts.{Counts}
+use Rattle.types.specs.declared.Value.the-variants.{Never, Written}
+use Rattle.types.specs.declared.Counts.{Counts}
 use Rattle.meaning.proofs.Lists.{not-both}
 use Rattle.serial.specs.Serializable.{Seq, ε, _▸_, History, plainEnd, CommitOrder}
 use Rattle.tables.specs.Layout.{sizeOf}

@@ -8,8 +8,8 @@ use mathlib.Core.List.{List}
 use Rattle.meaning.specs.Records.{goodCounts}
 use Rattle.meaning.specs.Calls.{opened}
 use Rattle.meaning.specs.Session.{session, sessionReplies}
-use Rattle.meaning.specs.declared.Counts.{Counts}
-use Rattle.meaning.specs.declared.Call.{Call}
+use Rattle.types.specs.declared.Counts.{Counts}
+use Rattle.types.specs.declared.Call.{Call}
 use Rattle.serial.specs.Serializable.{Seq, ε, _▸_, CommitOrder}
 use Rattle.history.specs.Statement.{replied}
 use Rattle.history.specs.Examples.{Serial, sessionCounts, sessionCalls, SessionCommits, SessionSerial}

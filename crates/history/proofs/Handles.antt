@@ -8,18 +8,20 @@ use mathlib.Core.Bool.{true}
 use mathlib.Core.List.{List, [], _∷_, _++_}
 use lib.ListN.{length}
 use borrow.Author.Tests.{eq-eqb, ne-eqb}
-use Rattle.meaning.specs.Limits.{GENERATIONS, FREE, OPEN}
-use Rattle.meaning.specs.Store.{Val, Store, fresh, freshRec, handle, slotOf, generationOf, nextGeneration}
-use Rattle.meaning.specs.Replies.{ok, edit}
+use Rattle.types.specs.Limits.{GENERATIONS, FREE, OPEN}
+use Rattle.meaning.specs.Store.{Store, fresh, freshRec}
+use Rattle.types.specs.Numbers.{handle, slotOf, generationOf, nextGeneration}
+use Rattle.types.specs.Values.{Val}
+use Rattle.types.specs.Replies.{ok, edit}
 use Rattle.meaning.specs.Outcomes.{replies}
 use Rattle.meaning.specs.Edits.{beginning}
 use Rattle.meaning.specs.Ending.{aborting}
 use Rattle.meaning.specs.Calls.{act, run, after, opened}
 use Rattle.meaning.specs.Records.{goodCounts}
 use Rattle.meaning.specs.Contract.{Does}
-use Rattle.meaning.specs.declared.Finish.the-variants.{Settle}
-use Rattle.meaning.specs.declared.Call.{Call}
-use Rattle.meaning.specs.declared.Call.the-variants as C
+use Rattle.types.specs.declared.Finish.the-variants.{Settle}
+use Rattle.types.specs.declared.Call.{Call}
+use Rattle.types.specs.declared.Call.the-variants as C
 use Rattle.meaning.proofs.Lists.{not-both}
 use Rattle.tables.specs.Layout.{sizeOf}
 use Rattle.tables.specs.Words.{Lent, lent, decode, formed, soundWords}

@@ -1,5 +1,5 @@
 -- Demand 3 for the calls of the store: each call as steps of the serial core, the theorems, and examples. Rests on the
--- crates `meaning`, `serial`, `tables` and `format`.
+-- crates `types`, `meaning`, `serial`, `tables` and `format`.
 pub mod StoreSlots
 pub mod EveryCall
 pub mod Valued

@@ -1,15 +1,15 @@
 -- Demand 3 over the words of the store: the theorems over what is lent, with the words of `tables`, from the contracts
 -- of `format` and the public calls. Rests on OverWords and the laws of formatted words.
 use Prim.Native.Nat.{ℕ}
-use mathlib.Core.Path.{_≡_, refl, sym, ap, _∙_}
+use mathlib.Core.Path.{_≡_, refl, ap, _∙_}
 use mathlib.Core.Bool.{Bool, true, false}
 use mathlib.Core.List.{List, []}
 use native.Mathlib.Omega.{arith}
 use lib.ListN.{length}
 use Rattle.meaning.specs.Records.{goodCounts}
-use Rattle.meaning.specs.Replies.{Reply, ok, refusing}
-use Rattle.meaning.specs.declared.Counts.{Counts}
-use Rattle.meaning.specs.declared.Call.{Call}
+use Rattle.types.specs.Replies.{Reply, ok, refusing}
+use Rattle.types.specs.declared.Counts.{Counts}
+use Rattle.types.specs.declared.Call.{Call}
 use Rattle.meaning.specs.Contract as contract
 use Rattle.meaning.proofs.Lists.{and-left}
 use Rattle.tables.specs.Words.{Lent, lent, decode, soundWords}

@@ -3,13 +3,13 @@
 use mathlib.Core.Path.{_≡_, refl, ap, _∙_, subst}
 use mathlib.Core.Bool.{Bool, true}
 use mathlib.Core.List.{List, _∷_}
-use Rattle.meaning.specs.Limits.{LAST}
+use Rattle.types.specs.Limits.{LAST}
 use Rattle.meaning.specs.Store.{Store, fresh}
-use Rattle.meaning.specs.Replies.{Reply}
+use Rattle.types.specs.Replies.{Reply}
 use Rattle.meaning.specs.Records.{viewing}
 use Rattle.meaning.specs.Calls.{act, run, after}
-use Rattle.meaning.specs.declared.Counts.{Counts}
-use Rattle.meaning.specs.declared.Call.{Call}
+use Rattle.types.specs.declared.Counts.{Counts}
+use Rattle.types.specs.declared.Call.{Call}
 use Rattle.serial.specs.Serializable.{CommitOrder}
 use Rattle.history.specs.Heard.{history}
 use Rattle.history.specs.Statement.{replied}

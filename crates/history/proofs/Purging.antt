@@ -8,15 +8,16 @@ use mathlib.Core.Logic.{inr}
 use lib.Dec.{leb}
 use lib.ListN.{length}
 use borrow.Author.Tests.{leb-false, le-leb}
-use Rattle.meaning.specs.Limits.{LAST}
-use Rattle.meaning.specs.Store.{Val, Rec, Store, editAt, recAt, withRec, newestAt}
-use Rattle.meaning.specs.Replies.{purged}
+use Rattle.types.specs.Limits.{LAST}
+use Rattle.meaning.specs.Store.{Rec, Store, editAt, recAt, withRec, newestAt}
+use Rattle.types.specs.Values.{Val}
+use Rattle.types.specs.Replies.{purged}
 use Rattle.meaning.specs.Outcomes.{pass, replies, needs, hasRecord}
 use Rattle.meaning.specs.Records.{purgedRec, purgeVerdict, purgeTo, purgeChecks, purging}
 use Rattle.meaning.specs.Pointwise.{LockOn, HeldOn}
-use Rattle.meaning.specs.declared.Point.{Point}
-use Rattle.meaning.specs.declared.Call.{Call}
-use Rattle.meaning.specs.declared.Call.the-variants as C
+use Rattle.types.specs.declared.Point.{Point}
+use Rattle.types.specs.declared.Call.{Call}
+use Rattle.types.specs.declared.Call.the-variants as C
 use Rattle.meaning.specs.Points.{trimTo}
 use Rattle.meaning.proofs.Lists.{keep-in, keep-out}
 use Rattle.meaning.proofs.LockChanges.{held-is, trim-to-is}

@@ -9,24 +9,26 @@ use lib.Dec.{eqb}
 use lib.ListN.{length}
 use borrow.Author.Tests.{eqb-true}
 use Rattle.meaning.specs.Lists.{_∈_, any, find}
-use Rattle.meaning.specs.Limits.{READ}
-use Rattle.meaning.specs.Store.{Val, Edit, Store, slotOf, setEdit, editOf, editAt, recAt, withEdit, withRecords}
+use Rattle.types.specs.Limits.{READ}
+use Rattle.meaning.specs.Store.{Edit, Store, setEdit, editOf, editAt, recAt, withEdit, withRecords}
+use Rattle.types.specs.Numbers.{slotOf}
+use Rattle.types.specs.Values.{Val}
 use Rattle.meaning.specs.Store.{accessOf, hasRead, first, versionOn}
-use Rattle.meaning.specs.Replies.{own, again}
+use Rattle.types.specs.Replies.{own, again}
 use Rattle.meaning.specs.Outcomes.{replies, Verdict, hasRecord}
 use Rattle.meaning.specs.Edits.{withAccess}
 use Rattle.meaning.specs.Locking.{withLock, readVersion, readEnd, readVerdict, readAccess, readStore, readNew, readOpen}
 use Rattle.meaning.specs.Locking.{readChecks, reading}
 use Rattle.meaning.specs.Pointwise.{NewestIs, none, one}
 use Rattle.meaning.specs.SoundFacts.{SoundStore, Present}
-use Rattle.meaning.specs.declared.Value.{Value}
-use Rattle.meaning.specs.declared.Version.{Version}
-use Rattle.meaning.specs.declared.Access.{Access}
-use Rattle.meaning.specs.declared.Extent.{Extent}
-use Rattle.meaning.specs.declared.Handle.{Handle}
-use Rattle.meaning.specs.declared.Point.{Point}
-use Rattle.meaning.specs.declared.Call.{Call}
-use Rattle.meaning.specs.declared.Call.the-variants as C
+use Rattle.types.specs.declared.Value.{Value}
+use Rattle.types.specs.declared.Version.{Version}
+use Rattle.types.specs.declared.Access.{Access}
+use Rattle.types.specs.declared.Extent.{Extent}
+use Rattle.types.specs.declared.Handle.{Handle}
+use Rattle.types.specs.declared.Point.{Point}
+use Rattle.types.specs.declared.Call.{Call}
+use Rattle.types.specs.declared.Call.the-variants as C
 use Rattle.meaning.proofs.Lists.{find-out, not-both}
 use Rattle.meaning.proofs.Tests.{read-out, unread-out}
 use Rattle.meaning.proofs.Stores.{edit-same}

@@ -7,22 +7,24 @@ use mathlib.Core.Bool.{true, false≢true}
 use lib.Dec.{leb}
 use lib.ListN.{length}
 use borrow.Author.Tests.{leb-true}
-use Rattle.meaning.specs.Store.{Val, Rec, Edit, Store, handle, slotOf, nextGeneration, setEdit, editOf, editAt, recAt}
+use Rattle.meaning.specs.Store.{Rec, Edit, Store, setEdit, editOf, editAt, recAt}
+use Rattle.types.specs.Numbers.{handle, slotOf, nextGeneration}
+use Rattle.types.specs.Values.{Val}
 use Rattle.meaning.specs.Store.{withEdit, withRecords, withLocks, accessOf}
 use Rattle.meaning.specs.Points.{addLock}
-use Rattle.meaning.specs.Replies.{ok, edit, locked, at}
+use Rattle.types.specs.Replies.{ok, edit, locked, at}
 use Rattle.meaning.specs.Outcomes.{pass, replies, hasRecord}
 use Rattle.meaning.specs.Edits.{withAccess, freeSlot, openedEdit, begun, beginChecks, beginning, writtenAccess, written}
 use Rattle.meaning.specs.Edits.{writeChecks, writing}
 use Rattle.meaning.specs.Locking.{withLock, lockVerdict, lockChecks, lockWanted, locking}
 use Rattle.meaning.specs.Records.{viewChecks, viewing}
-use Rattle.meaning.specs.declared.Lock.{Lock}
-use Rattle.meaning.specs.declared.Access.{Access}
-use Rattle.meaning.specs.declared.Extent.{Extent}
-use Rattle.meaning.specs.declared.Handle.{Handle}
-use Rattle.meaning.specs.declared.Point.{Point}
-use Rattle.meaning.specs.declared.Call.{Call}
-use Rattle.meaning.specs.declared.Call.the-variants as C
+use Rattle.types.specs.declared.Lock.{Lock}
+use Rattle.types.specs.declared.Access.{Access}
+use Rattle.types.specs.declared.Extent.{Extent}
+use Rattle.types.specs.declared.Handle.{Handle}
+use Rattle.types.specs.declared.Point.{Point}
+use Rattle.types.specs.declared.Call.{Call}
+use Rattle.types.specs.declared.Call.the-variants as C
 use Rattle.meaning.proofs.Stores.{InRange, edit-same, edit-other}
 use Rattle.meaning.proofs.StoresMore.{each-rec}
 use Rattle.meaning.proofs.Verdicts.{needs-pass, forOpen-pass, PassedOpen, hasRecord-out}

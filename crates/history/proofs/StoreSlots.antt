@@ -11,13 +11,15 @@ use lib.Dec.{leb}
 use lib.ListN.{length}
 use borrow.Author.Tests.{leb-true}
 use Rattle.meaning.specs.Lists.{_∈_}
-use Rattle.meaning.specs.Limits.{WRITE, SETTLED, FREE, MAX-RECORDS, MAX-EDITS, MAX-ROWS}
-use Rattle.meaning.specs.Store.{Val, Rec, Edit, Store, countsOf, editOf, handle, editAt, recAt, accessOf}
+use Rattle.types.specs.Limits.{WRITE, SETTLED, FREE, MAX-RECORDS, MAX-EDITS, MAX-ROWS}
+use Rattle.meaning.specs.Store.{Rec, Edit, Store, countsOf, editOf, editAt, recAt, accessOf}
+use Rattle.types.specs.Numbers.{handle}
+use Rattle.types.specs.Values.{Val}
 use Rattle.meaning.specs.Records.{inRange, goodCounts}
 use Rattle.meaning.specs.Pointwise.{LockOn, HeldOn}
 use Rattle.meaning.specs.SoundFacts.{SoundStore}
-use Rattle.meaning.specs.declared.Value.the-variants.{Written}
-use Rattle.meaning.specs.declared.Version.{Version}
+use Rattle.types.specs.declared.Value.the-variants.{Written}
+use Rattle.types.specs.declared.Version.{Version}
 use Rattle.meaning.proofs.Lists.{and-right, every-at}
 use Rattle.meaning.proofs.Stores.{InRange, used-range}
 use Rattle.serial.proofs.Slots.{Slots, Used, SoundSlots}

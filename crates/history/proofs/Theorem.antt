@@ -10,18 +10,19 @@ use mathlib.Core.List.{List, [], _∷_, List·Memᴰ·not-nil}
 use lib.ListN.{length, replicate, length-replicate}
 use borrow.Author.Tests.{le-leb, lt-ltb}
 use Rattle.meaning.specs.Lists.{_∈_}
-use Rattle.meaning.specs.Limits.{LAST}
-use Rattle.meaning.specs.Store.{Val, Rec, Edit, Store, fresh, freshRec, freshEdit, editOf, recOf, recAt, newestAt}
-use Rattle.meaning.specs.Replies.{at}
+use Rattle.types.specs.Limits.{LAST}
+use Rattle.meaning.specs.Store.{Rec, Edit, Store, fresh, freshRec, freshEdit, editOf, recOf, recAt, newestAt}
+use Rattle.types.specs.Values.{Val}
+use Rattle.types.specs.Replies.{at}
 use Rattle.meaning.specs.Outcomes.{hasRecord}
 use Rattle.meaning.specs.Records.{goodCounts, viewChecks, viewing}
 use Rattle.meaning.specs.Calls.{act, run, after}
 use Rattle.meaning.specs.Pointwise.{NewestIs, none, one}
-use Rattle.meaning.specs.declared.Value.{Value}
-use Rattle.meaning.specs.declared.Version.{Version}
-use Rattle.meaning.specs.declared.Counts.{Counts}
-use Rattle.meaning.specs.declared.Call.{Call}
-use Rattle.meaning.specs.declared.Call.the-variants as C
+use Rattle.types.specs.declared.Value.{Value}
+use Rattle.types.specs.declared.Version.{Version}
+use Rattle.types.specs.declared.Counts.{Counts}
+use Rattle.types.specs.declared.Call.{Call}
+use Rattle.types.specs.declared.Call.the-variants as C
 use Rattle.meaning.proofs.Newest.{newest-at-is, falls-once}
 use Rattle.meaning.proofs.SoundParts.{getD-replicate}
 use Rattle.meaning.proofs.Laws.{fresh-is-sound, calls-keep-sound}

@@ -10,15 +10,16 @@ use mathlib.Core.List.{List·Memᴰ·not-nil}
 use lib.Dec.{leb}
 use lib.ListN.{length, set, length-set}
 use Rattle.meaning.specs.Lists.{_∈_}
-use Rattle.meaning.specs.Store.{Val, Rec, Store, fresh, freshRec, editAt, recOf, recAt, withEdit, withRecords, withRec}
+use Rattle.meaning.specs.Store.{Rec, Store, fresh, freshRec, editAt, recOf, recAt, withEdit, withRecords, withRec}
+use Rattle.types.specs.Values.{Val}
 use Rattle.meaning.specs.Store.{withLocks, accessOf}
 use Rattle.meaning.specs.Points.{addLock}
 use Rattle.meaning.specs.Locking.{withLock}
 use Rattle.meaning.specs.Ending.{settledRec, settled, insert, newVersion, committedRec, committed}
 use Rattle.meaning.specs.Records.{purgedRec}
-use Rattle.meaning.specs.declared.Counts.{Counts}
-use Rattle.meaning.specs.declared.Version.{Version}
-use Rattle.meaning.specs.declared.Value.the-variants.{Written}
+use Rattle.types.specs.declared.Counts.{Counts}
+use Rattle.types.specs.declared.Version.{Version}
+use Rattle.types.specs.declared.Value.the-variants.{Written}
 use Rattle.meaning.proofs.Lists.{keep-out, length-mapFrom}
 use Rattle.meaning.proofs.Stores.{rec-same, rec-other, rec-past}
 use Rattle.meaning.proofs.Changed.{rec-committed, rec-committed-past, rec-settled, rec-settled-past}

@@ -2,20 +2,19 @@
 -- the words mean after it, that they are well formed, and that a refused call changes none. That the meaning stays
 -- sound is the law of the calls. Rests on WordSteps.
 use Prim.Native.Nat.{ℕ}
-use mathlib.Core.Path.{_≡_, refl, sym, ap, _∙_}
-use mathlib.Core.Bool.{Bool, true, false, _&&_}
+use mathlib.Core.Path.{_≡_, refl, ap, _∙_}
+use mathlib.Core.Bool.{Bool, true, false}
 use mathlib.Core.List.{List, [], _∷_}
 use lib.ListN.{length}
 use lib.Dec.{eqb}
 use borrow.Author.Tests.{eq-eqb}
-use Rattle.meaning.specs.Store.{Store}
-use Rattle.meaning.specs.Replies.{Reply, ok, refused}
+use Rattle.types.specs.Replies.{Reply, ok, refused}
 use Rattle.meaning.specs.Records.{goodCounts}
 use Rattle.meaning.specs.Calls.{act}
 use Rattle.meaning.specs.Sound.{soundStore}
 use Rattle.meaning.specs.Contract.{Does}
-use Rattle.meaning.specs.declared.Counts.{Counts}
-use Rattle.meaning.specs.declared.Call.{Call}
+use Rattle.types.specs.declared.Counts.{Counts}
+use Rattle.types.specs.declared.Call.{Call}
 use Rattle.meaning.proofs.Lists.{and-in, and-right, not-both}
 use Rattle.meaning.proofs.Laws.{calls-keep-sound}
 use Rattle.tables.specs.Layout.{sizeOf}

@@ -7,20 +7,20 @@ use mathlib.Core.Logic.{_⊎_}
 use mathlib.Core.List.{List, [], _∷_}
 use mathlib.Core.Option.{Option, some, none}
 use lib.ListN.{length}
-use Rattle.meaning.specs.Limits.{LAST}
-use Rattle.meaning.specs.Store.{Val}
-use Rattle.meaning.specs.Replies.{ok, edit, locked, read, commit, purged, at, refusing}
+use Rattle.types.specs.Limits.{LAST}
+use Rattle.types.specs.Values.{Val}
+use Rattle.types.specs.Replies.{ok, edit, locked, read, commit, purged, at, refusing}
 use Rattle.meaning.specs.Records.{viewing}
 use Rattle.meaning.specs.Contract.{Shows}
 use Rattle.meaning.specs.Session.{sessionReplies}
-use Rattle.meaning.specs.declared.Value.the-variants.{Never, Written}
-use Rattle.meaning.specs.declared.Counts.{Counts}
-use Rattle.meaning.specs.declared.Handle.{Handle}
-use Rattle.meaning.specs.declared.Point.{Point}
-use Rattle.meaning.specs.declared.Extent.the-variants.{All, Part}
-use Rattle.meaning.specs.declared.Pick.the-variants.{Earliest, Latest, Named}
-use Rattle.meaning.specs.declared.Finish.the-variants.{Settle}
-use Rattle.meaning.specs.declared.Call.the-variants as C
+use Rattle.types.specs.declared.Value.the-variants.{Never, Written}
+use Rattle.types.specs.declared.Counts.{Counts}
+use Rattle.types.specs.declared.Handle.{Handle}
+use Rattle.types.specs.declared.Point.{Point}
+use Rattle.types.specs.declared.Extent.the-variants.{All, Part}
+use Rattle.types.specs.declared.Pick.the-variants.{Earliest, Latest, Named}
+use Rattle.types.specs.declared.Finish.the-variants.{Settle}
+use Rattle.types.specs.declared.Call.the-variants as C
 use Rattle.serial.specs.Serializable.{Seq, ε, _▸_, History, plainEnd, CommitOrder}
 use Rattle.tables.specs.Words.{Lent, lent, decode, soundWords}
 use Rattle.format.specs.Format.{formattedWords}

@@ -5,20 +5,20 @@ use mathlib.Core.Path.{_≡_}
 use mathlib.Core.List.{List, [], _∷_}
 use mathlib.Core.Option.{some, none}
 use Rattle.meaning.specs.Store.{fresh}
-use Rattle.meaning.specs.Limits.{LAST}
-use Rattle.meaning.specs.Replies.{ok, at}
+use Rattle.types.specs.Limits.{LAST}
+use Rattle.types.specs.Replies.{ok, at}
 use Rattle.meaning.specs.Records.{viewing}
 use Rattle.meaning.specs.Calls.{Line, format, call, run, after}
 use Rattle.meaning.specs.Session.{session, sessionReplies}
-use Rattle.meaning.specs.declared.Value.the-variants.{Never, Written}
-use Rattle.meaning.specs.declared.Counts.{Counts}
-use Rattle.meaning.specs.declared.Handle.{Handle}
-use Rattle.meaning.specs.declared.Point.{Point}
-use Rattle.meaning.specs.declared.Extent.the-variants.{All}
-use Rattle.meaning.specs.declared.Pick.the-variants.{Named}
-use Rattle.meaning.specs.declared.Finish.the-variants.{Settle}
-use Rattle.meaning.specs.declared.Call.{Call}
-use Rattle.meaning.specs.declared.Call.the-variants as C
+use Rattle.types.specs.declared.Value.the-variants.{Never, Written}
+use Rattle.types.specs.declared.Counts.{Counts}
+use Rattle.types.specs.declared.Handle.{Handle}
+use Rattle.types.specs.declared.Point.{Point}
+use Rattle.types.specs.declared.Extent.the-variants.{All}
+use Rattle.types.specs.declared.Pick.the-variants.{Named}
+use Rattle.types.specs.declared.Finish.the-variants.{Settle}
+use Rattle.types.specs.declared.Call.{Call}
+use Rattle.types.specs.declared.Call.the-variants as C
 use Rattle.serial.specs.Serializable as H
 use Rattle.serial.specs.Serializable.{Seq, ε, _▸_, History, editOf, plainEnd, CommitOrder}
 use Rattle.history.specs.Statement.{SerialStore, replied}

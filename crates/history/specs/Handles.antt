@@ -5,14 +5,15 @@ use Prim.Native.Nat.{ℕ, zero, suc, _+_, _*_, _%_, _≤_}
 use mathlib.Core.Path.{_≡_}
 use mathlib.Core.List.{List, [], _∷_, _++_}
 use lib.ListN.{length, replicate}
-use Rattle.meaning.specs.Limits.{GENERATIONS, OPEN}
-use Rattle.meaning.specs.Store.{fresh, handle, nextGeneration}
-use Rattle.meaning.specs.Replies.{edit}
+use Rattle.types.specs.Limits.{GENERATIONS, OPEN}
+use Rattle.meaning.specs.Store.{fresh}
+use Rattle.types.specs.Numbers.{handle, nextGeneration}
+use Rattle.types.specs.Replies.{edit}
 use Rattle.meaning.specs.Calls.{act, run, after}
-use Rattle.meaning.specs.declared.Counts.{Counts}
-use Rattle.meaning.specs.declared.Finish.the-variants.{Settle}
-use Rattle.meaning.specs.declared.Call.{Call}
-use Rattle.meaning.specs.declared.Call.the-variants as C
+use Rattle.types.specs.declared.Counts.{Counts}
+use Rattle.types.specs.declared.Finish.the-variants.{Settle}
+use Rattle.types.specs.declared.Call.{Call}
+use Rattle.types.specs.declared.Call.the-variants as C
 use Rattle.serial.specs.Serializable.{editOf}
 use Rattle.history.specs.Statement.{replied}
 use Rattle.history.specs.StoreWords.{HistoryOn}

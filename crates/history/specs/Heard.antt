@@ -4,13 +4,13 @@
 use mathlib.Core.Option.{Option, some, none}
 use mathlib.Core.List.{List, [], _∷_}
 use Prim.Native.Nat.{ℕ}
-use Rattle.meaning.specs.Store.{Val}
-use Rattle.meaning.specs.Replies.{Reply, ok, edit, locked, read, own, again, commit, nopoint, purged, at, point}
-use Rattle.meaning.specs.Replies.{refusing}
-use Rattle.meaning.specs.declared.Value.{Value}
-use Rattle.meaning.specs.declared.Value.the-variants.{Never, Written}
-use Rattle.meaning.specs.declared.Call.{Call}
-use Rattle.meaning.specs.declared.Call.the-variants as C
+use Rattle.types.specs.Values.{Val}
+use Rattle.types.specs.Replies.{Reply, ok, edit, locked, read, own, again, commit, nopoint, purged, at, point}
+use Rattle.types.specs.Replies.{refusing}
+use Rattle.types.specs.declared.Value.{Value}
+use Rattle.types.specs.declared.Value.the-variants.{Never, Written}
+use Rattle.types.specs.declared.Call.{Call}
+use Rattle.types.specs.declared.Call.the-variants as C
 use Rattle.serial.specs.Serializable.{ε, _▸_, ReadReply, Event, begun, call, other, History}
 use Rattle.serial.specs.Serializable as H
 

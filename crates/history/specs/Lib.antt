@@ -1,5 +1,5 @@
 -- Demand 3: what the plain run hears, and the claim over the abstract store and over what the store is lent; examples.
--- Rests on the crates `meaning`, `serial`, `chains`, `tables` and `format`.
+-- Rests on the crates `types`, `meaning`, `serial`, `chains`, `tables` and `format`.
 pub mod Heard
 pub mod Statement
 pub mod Words

@@ -6,13 +6,14 @@ use Prim.Native.Nat.{ℕ, _<_}
 use mathlib.Core.Path.{_≡_}
 use mathlib.Core.Bool.{true}
 use mathlib.Core.List.{List}
-use Rattle.meaning.specs.Limits.{LAST}
-use Rattle.meaning.specs.Store.{Val, Store, fresh}
-use Rattle.meaning.specs.Replies.{at}
+use Rattle.types.specs.Limits.{LAST}
+use Rattle.meaning.specs.Store.{Store, fresh}
+use Rattle.types.specs.Values.{Val}
+use Rattle.types.specs.Replies.{at}
 use Rattle.meaning.specs.Records.{goodCounts, viewing}
 use Rattle.meaning.specs.Calls.{run, after}
-use Rattle.meaning.specs.declared.Counts.{Counts}
-use Rattle.meaning.specs.declared.Call.{Call}
+use Rattle.types.specs.declared.Counts.{Counts}
+use Rattle.types.specs.declared.Call.{Call}
 use Rattle.serial.specs.Serializable.{Seq, History, Commits, plainEnd, PlainFits, CommitOrder}
 use Rattle.history.specs.Heard.{shownValue, history}
 

@@ -2,14 +2,14 @@
 -- the crate `format`, replied `ok` on a slice, whatever it held; and each call after it, with its reply, keeps the
 -- contract of the public calls (Does of `meaning`, over the meaning and the soundness of words of `tables`), on the
 -- words as the last one left them. So whoever uses the store through its contracts has such a history. The theorems are
--- in proofs/OverStore, under the same names. Rests on Heard and Words, on Replies of `meaning`, on Serializable of
+-- in proofs/OverStore, under the same names. Rests on Heard and Words, on Replies of `types`, on Serializable of
 -- `serial`, on Words of `tables`, on Format of `format`.
 use Prim.Native.Nat.{ℕ}
 use mathlib.Core.Path.{_≡_}
 use mathlib.Core.List.{List}
-use Rattle.meaning.specs.Replies.{Reply, ok}
-use Rattle.meaning.specs.declared.Counts.{Counts}
-use Rattle.meaning.specs.declared.Call.{Call}
+use Rattle.types.specs.Replies.{Reply, ok}
+use Rattle.types.specs.declared.Counts.{Counts}
+use Rattle.types.specs.declared.Call.{Call}
 use Rattle.serial.specs.Serializable.{Seq, Commits, CommitOrder}
 use Rattle.tables.specs.Words.{Lent, lent, decode, soundWords}
 use Rattle.format.specs.Format as format

@@ -7,9 +7,9 @@ use Rattle.chains.specs.Lists.{occ, sumTo, allTo, allOf}
 use Rattle.chains.specs.Walk.{among, rows, ends}
 use Rattle.chains.specs.Table.{place, field, chain, ended, headCell, headOf, rowsOf, endedOf}
 use Rattle.chains.specs.Partition.{onChains, partition}
-use Rattle.meaning.specs.Replies.{Reply}
+use Rattle.types.specs.Replies.{Reply}
 use Rattle.meaning.specs.Records.{goodCounts}
-use Rattle.meaning.specs.declared.Call.{Call}
+use Rattle.types.specs.declared.Call.{Call}
 use Rattle.tables.specs.Layout.{slotBase, versionBase, lockBase, accessBase, sizeOf, recordTable, slotTable}
 use Rattle.tables.specs.Layout.{versionTable, lockTable, accessTable, versionHeads, lockHeads, accessHeads, countsOf}
 use Rattle.tables.specs.Layout.{headerOk}

@@ -6,18 +6,19 @@ use Prim.Native.Nat.{ℕ, _<_}
 use mathlib.Core.Path.{_≡_}
 use mathlib.Core.Bool.{Bool, true}
 use mathlib.Core.List.{List, [], _∷_}
-use Rattle.meaning.specs.Limits.{LAST}
-use Rattle.meaning.specs.Store.{Val, Store, fresh}
-use Rattle.meaning.specs.Replies.{Reply, at}
+use Rattle.types.specs.Limits.{LAST}
+use Rattle.meaning.specs.Store.{Store, fresh}
+use Rattle.types.specs.Values.{Val}
+use Rattle.types.specs.Replies.{Reply, at}
 use Rattle.meaning.specs.Edits.{beginning, writing}
 use Rattle.meaning.specs.Locking.{locking, reading}
 use Rattle.meaning.specs.Ending.{committing, aborting, settling}
 use Rattle.meaning.specs.Records.{goodCounts, purging, viewing}
 use Rattle.meaning.specs.Calls.{act, run, after}
 use Rattle.meaning.specs.Sound.{soundStore}
-use Rattle.meaning.specs.declared.Counts.{Counts}
-use Rattle.meaning.specs.declared.Call.{Call}
-use Rattle.meaning.specs.declared.Call.the-variants as C
+use Rattle.types.specs.declared.Counts.{Counts}
+use Rattle.types.specs.declared.Call.{Call}
+use Rattle.types.specs.declared.Call.the-variants as C
 use Rattle.serial.specs.Serializable.{Seq, History, Commits, plainEnd, PlainFits, CommitOrder}
 use Rattle.history.specs.Heard.{shownValue, history}
 use Rattle.meaning.specs.Contract.{Does, Shows, Formats}

@@ -1,5 +1,5 @@
 -- The examples of specs/Examples, by computation. Rests on nothing.
-use mathlib.Core.Path.{_≡_, refl}
+use mathlib.Core.Path.{refl}
 use Rattle.meaning.specs.Session.{session, sessionReplies}
 use Rattle.fields.specs.Fields.{first, others, digits, value, number, letterOr, done}
 use Rattle.fields.specs.Kinds.{extent, finish, pick}

@@ -12,8 +12,8 @@ use Rattle.fields.specs.Fields.{fields, number, done}
 use Rattle.fields.specs.Kinds.{Fields, handle, point, letter, extent, finish, pick}
 use Rattle.fields.specs.declared.Parsed.{Parsed}
 use Rattle.fields.specs.declared.Parsed.the-variants as P
-use Rattle.meaning.specs.declared.Counts.{Counts}
-use Rattle.meaning.specs.declared.Call.the-variants as C
+use Rattle.types.specs.declared.Counts.{Counts}
+use Rattle.types.specs.declared.Call.the-variants as C
 
 abbrev pub counts : ℕ → ℕ → ℕ → ℕ → ℕ → Counts
 counts r e v l a = record { records = r; edits = e; versions = v; locks = l; accesses = a }

@@ -6,7 +6,7 @@ use mathlib.Core.List.{List, [], _∷_, map}
 use lib.ListN.{replicate}
 use Rattle.meaning.specs.Session.{session, sessionReplies}
 use Rattle.meaning.specs.Calls as M
-use Rattle.meaning.specs.declared.Call.the-variants as C
+use Rattle.types.specs.declared.Call.the-variants as C
 use Rattle.texts.specs.Text.{text}
 use Rattle.fields.specs.Kinds.{handle}
 use Rattle.lines.specs.Calls.{parsed}

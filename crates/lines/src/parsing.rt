@@ -1,4 +1,4 @@
-// The calls, one function for each letter, and the whole line. Rests on the crates `meaning` and `fields`.
+// The calls, one function for each letter, and the whole line. Rests on the crates `types` and `fields`.
 ghost use mathlib.Core.Path.{_≡_};
 ghost use Rattle.lines.specs.Calls.{formatting, beginning, writing, locking, reading, committing, aborting};
 ghost use Rattle.lines.specs.Calls.{settling, purging, viewing, called as called·of, parsed};
@@ -15,8 +15,8 @@ use fields::finish;
 use fields::letter;
 use fields::number;
 use fields::pick;
-use meaning::Call;
-use meaning::Counts;
+use types::Call;
+use types::Counts;
 
 // F records edits versions locks accesses
 fn format(line: &[u8], at: usize) -> Parsed
@@ -75,7 +75,7 @@ fn write(line: &[u8], at: usize) -> Parsed
     if end <= line.len() {
         return Parsed::Malformed;
     }
-    Parsed::Call(Call::Write(meaning::handle_of_word(h), r, v))
+    Parsed::Call(Call::Write(types::handle_of_word(h), r, v))
 }
 
 // L handle record low high flag
@@ -101,10 +101,10 @@ fn lock(line: &[u8], at: usize) -> Parsed
         return Parsed::Malformed;
     }
     Parsed::Call(Call::Lock(
-        meaning::handle_of_word(h),
+        types::handle_of_word(h),
         r,
-        meaning::point_of_word(low),
-        meaning::point_of_word(high),
+        types::point_of_word(low),
+        types::point_of_word(high),
         w,
     ))
 }
@@ -128,7 +128,7 @@ fn read(line: &[u8], at: usize) -> Parsed
     if end <= line.len() {
         return Parsed::Malformed;
     }
-    Parsed::Call(Call::Read(meaning::handle_of_word(h), r, meaning::point_of_word(m), w))
+    Parsed::Call(Call::Read(types::handle_of_word(h), r, types::point_of_word(m), w))
 }
 
 // C handle, E, L or point, S or K
@@ -147,7 +147,7 @@ fn commit(line: &[u8], at: usize) -> Parsed
     if end <= line.len() {
         return Parsed::Malformed;
     }
-    Parsed::Call(Call::Commit(meaning::handle_of_word(h), p, f))
+    Parsed::Call(Call::Commit(types::handle_of_word(h), p, f))
 }
 
 // A handle S or K
@@ -163,7 +163,7 @@ fn abort(line: &[u8], at: usize) -> Parsed
     if end <= line.len() {
         return Parsed::Malformed;
     }
-    Parsed::Call(Call::Abort(meaning::handle_of_word(h), f))
+    Parsed::Call(Call::Abort(types::handle_of_word(h), f))
 }
 
 // P record b
@@ -179,7 +179,7 @@ fn purge(line: &[u8], at: usize) -> Parsed
     if end <= line.len() {
         return Parsed::Malformed;
     }
-    Parsed::Call(Call::Purge(r, meaning::point_of_word(b)))
+    Parsed::Call(Call::Purge(r, types::point_of_word(b)))
 }
 
 // V record p
@@ -195,7 +195,7 @@ fn view(line: &[u8], at: usize) -> Parsed
     if end <= line.len() {
         return Parsed::Malformed;
     }
-    Parsed::Call(Call::View(r, meaning::point_of_word(p)))
+    Parsed::Call(Call::View(r, types::point_of_word(p)))
 }
 
 // S handle
@@ -208,7 +208,7 @@ fn settle(line: &[u8], at: usize) -> Parsed
     if i <= line.len() {
         return Parsed::Malformed;
     }
-    Parsed::Call(Call::Settle(meaning::handle_of_word(h)))
+    Parsed::Call(Call::Settle(types::handle_of_word(h)))
 }
 
 // The call of this letter, whose fields begin at this position.

@@ -4,15 +4,16 @@ use mathlib.Core.Path.{_≡_, sym, ap, _∙_}
 use mathlib.Core.Bool.{Bool, true, false, _&&_}
 use mathlib.Core.List.{List, []}
 use lib.Dec.{leb, ltb}
-use Rattle.meaning.specs.Limits.{LAST, WRITE, SLOTS}
-use Rattle.meaning.specs.Store.{Store, slotOf, recAt}
+use Rattle.types.specs.Limits.{LAST, WRITE, SLOTS}
+use Rattle.meaning.specs.Store.{Store, recAt}
+use Rattle.types.specs.Numbers.{slotOf}
 use Rattle.meaning.specs.Points.{firstBlocked}
-use Rattle.meaning.specs.Replies.{locked, refusing}
+use Rattle.types.specs.Replies.{locked, refusing}
 use Rattle.meaning.specs.Outcomes.{Outcome, replies, Verdict, pass, refuse, needs, unless, knows, isOpen, hasRecord}
 use Rattle.meaning.specs.Outcomes.{judge, lockRoom}
 use Rattle.meaning.specs.Locking.{lockFrom, lockEnd, lockGranted, withLock, lockVerdict, lockChecks, lockWanted}
 use Rattle.meaning.specs.Locking.{locking}
-use Rattle.meaning.specs.declared.Extent.{Extent}
+use Rattle.types.specs.declared.Extent.{Extent}
 use Rattle.blocking.specs.declared.Blocked.{Blocked}
 use Rattle.blocking.specs.Search.{firstJudged}
 use Rattle.calls.specs.declared.Grant.the-variants.{Taken, Judged}

@@ -1,20 +1,20 @@
 -- What Lock has done at each of its returns. Rests on Acting, LockExits and CallsKeep of `meaning`.
 use Prim.Native.Nat.{ℕ, _≤_, _<_}
 use mathlib.Core.Path.{_≡_, refl, sym, ap, _∙_}
-use mathlib.Core.Bool.{Bool, true, false, _&&_}
+use mathlib.Core.Bool.{true, false, _&&_}
 use mathlib.Core.List.{List, []}
 use native.Mathlib.Omega.{arith}
 use lib.Dec.{leb, ltb}
 use borrow.Author.Tests.{ltb-true, lt-ltb, le-ltb, le-leb, lt-leb}
-use Rattle.chains.specs.Walk.{IsRow}
-use Rattle.meaning.specs.Limits.{LAST, WRITE, SLOTS}
-use Rattle.meaning.specs.Store.{Rec, Store, slotOf, recAt}
+use Rattle.types.specs.Limits.{LAST, WRITE, SLOTS}
+use Rattle.meaning.specs.Store.{Rec, recAt}
+use Rattle.types.specs.Numbers.{slotOf}
 use Rattle.meaning.specs.Points.{addLock}
-use Rattle.meaning.specs.Replies.{Reply, locked, refusing}
-use Rattle.meaning.specs.Outcomes.{Outcome, refuse, knows, isOpen, hasRecord, lockRoom}
+use Rattle.types.specs.Replies.{Reply, locked, refusing}
+use Rattle.meaning.specs.Outcomes.{refuse, knows, isOpen, hasRecord, lockRoom}
 use Rattle.meaning.specs.Locking.{withLock, lockWanted, locking}
-use Rattle.meaning.specs.declared.Counts.{Counts}
-use Rattle.meaning.specs.declared.Extent.{Extent}
+use Rattle.types.specs.declared.Counts.{Counts}
+use Rattle.types.specs.declared.Extent.{Extent}
 use Rattle.meaning.proofs.Lists.{and-in}
 use Rattle.meaning.proofs.CallsKeep.{lock-keeps}
 use Rattle.tables.specs.Layout.{countsOf}

@@ -1,14 +1,14 @@
 // Lock on sound words: equal to its definition in the crate `meaning`, and leaving sound words. For callers who prove
 // the words sound (`requires soundWords`), as the calls of `calls`. It goes along one record's locks. Rests on the
-// crates `meaning`, `chains`, `tables`, `changes`, `lookups`, `blocking` and `calls`.
+// crates `types`, `meaning`, `chains`, `tables`, `changes`, `lookups`, `blocking` and `calls`.
 ghost use mathlib.Core.Path.{_≡_};
 ghost use mathlib.Core.Bool.{true};
 ghost use Prim.Native.Nat.{_≤_, _<_};
 ghost use Rattle.chains.specs.Walk.{IsRow};
-ghost use Rattle.meaning.specs.Limits.{LAST, WRITE};
+ghost use Rattle.types.specs.Limits.{LAST, WRITE};
 ghost use Rattle.meaning.specs.Locking.{lockWanted, locking};
-ghost use Rattle.meaning.specs.Replies.{ofLock};
-ghost use Rattle.meaning.specs.declared.Extent.the-variants.{Part};
+ghost use Rattle.types.specs.Replies.{ofLock};
+ghost use Rattle.types.specs.declared.Extent.the-variants.{Part};
 ghost use Rattle.tables.specs.Decode.{decodeAt};
 ghost use Rattle.tables.specs.Words.{lent, soundWords};
 ghost use Rattle.blocking.specs.Search.{firstJudged};
@@ -16,15 +16,15 @@ ghost use Rattle.calls.specs.Contract.{Acts, Ready, Makes};
 ghost use Rattle.calls.specs.Grants.{lockGrant};
 use blocking::Blocked;
 use calls::Grant;
-use meaning::Counts;
-use meaning::Extent;
-use meaning::Handle;
-use meaning::LAST;
-use meaning::Lock;
-use meaning::LockReply;
-use meaning::Point;
-use meaning::Refusal;
-use meaning::WRITE;
+use types::Counts;
+use types::Extent;
+use types::Handle;
+use types::LAST;
+use types::Lock;
+use types::LockReply;
+use types::Point;
+use types::Refusal;
+use types::WRITE;
 
 // P of Lock where low is blocked, with judgement b: the run from the first free point, if there is one.
 fn later_grant(w: &[u64], c: Counts, k: u64, r: usize, low: u64, high: u64, b: Blocked) -> Grant
@@ -98,7 +98,7 @@ fn lock_wanted(
                     owner: k as u64,
                 },
             );
-            LockReply::Locked(meaning::point_of_word(from), meaning::point_of_word(end))
+            LockReply::Locked(types::point_of_word(from), types::point_of_word(end))
         }
     }
 }
@@ -127,8 +127,8 @@ pub fn lock(
     if !calls::has_record(c, rec) {
         return LockReply::Refused(Refusal::NoRecord);
     }
-    let from = meaning::word_of_point(low);
-    let to = meaning::word_of_point(high);
+    let from = types::word_of_point(low);
+    let to = types::word_of_point(high);
     if to < from {
         return LockReply::Refused(Refusal::BadPoint);
     }

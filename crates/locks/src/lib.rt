@@ -1,10 +1,10 @@
-// What one lock is to a point, to a slot and to another lock, by the definitions of `meaning`. Rests on the crate
-// `meaning`; it is a crate of its own so that its wrong programs are tried quickly.
+// What one lock is to a point, to a slot and to another lock, by the definitions of `meaning`. Rests on the crates
+// `types` and `meaning`; it is a crate of its own so that its wrong programs are tried quickly.
 ghost use mathlib.Core.Path.{_≡_};
 ghost use Rattle.meaning.specs.Points.{covers, conflicts, blocks};
 ghost use Rattle.meaning.specs.Sound.{agree, startsRead};
-use meaning::Lock;
-use meaning::WRITE;
+use types::Lock;
+use types::WRITE;
 
 // The point lies in the lock.
 pub fn covers(p: u64, l: Lock) -> bool

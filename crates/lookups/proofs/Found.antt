@@ -1,5 +1,5 @@
 -- Searches for one entry: the access of a record, the newest version. Rests on the loops of `chains` and `tables`.
-use Prim.Native.Nat.{ℕ, zero, suc, _+_, _≤_}
+use Prim.Native.Nat.{ℕ, zero, suc, _≤_}
 use mathlib.Core.Path.{_≡_, refl, sym, ap, _∙_}
 use mathlib.Core.Bool.{Bool, true, false, _||_}
 use mathlib.Core.List.{List, [], _∷_, map}
@@ -13,9 +13,9 @@ use Rattle.chains.specs.Walk.{among, IsRow, rows}
 use Rattle.chains.specs.Table.{link, chain, headOf, rowsOf}
 use Rattle.chains.proofs.Walks.{among-out}
 use Rattle.meaning.specs.Lists.{find, any}
-use Rattle.meaning.specs.declared.Version.{Version}
+use Rattle.types.specs.declared.Version.{Version}
 use Rattle.meaning.specs.Store.{isOf, noAccess, accessOf, first, newestAt, newestBelow}
-use Rattle.meaning.specs.declared.Counts.{Counts}
+use Rattle.types.specs.declared.Counts.{Counts}
 use Rattle.tables.specs.Layout.{accessTable, accessHeads}
 use Rattle.tables.specs.Decode.{accessAt, accessRows, accessesOf, slotAt, AccessRow}
 

@@ -23,7 +23,7 @@ use Rattle.chains.proofs.Loops.{Walk, walk-again, walk-end}
 use Rattle.meaning.specs.Lists.{keep}
 use Rattle.meaning.specs.Store.{versionsUsed, locksUsed, accessesUsed, names, isOf, writtenOf}
 use Rattle.meaning.specs.Outcomes.{lockRoom, accessRoom, versionRoom}
-use Rattle.meaning.specs.declared.Counts.{Counts}
+use Rattle.types.specs.declared.Counts.{Counts}
 use Rattle.meaning.proofs.Lists.{test}
 use Rattle.tables.specs.Layout.{lockTable, lockHeads, versionTable, versionHeads, accessTable, accessHeads}
 use Rattle.tables.specs.Decode.{versionAt, lockAt, accessAt, versionRows, lockRows, accessRows, versionsOf, locksOf}

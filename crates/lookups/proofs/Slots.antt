@@ -9,11 +9,12 @@ use native.Mathlib.Omega.{arith}
 use lib.Dec.{leb, eqb}
 use borrow.Author.Tests.{leb-true, leb-false, eqb-true, eqb-false, eq-eqb, ne-eqb, not-false}
 use Rattle.chains.specs.Walk.{IsRow}
-use Rattle.meaning.specs.Limits.{FREE, OPEN}
-use Rattle.meaning.specs.Store.{Edit, freshEdit, slotOf, generationOf, editOf, inUse}
+use Rattle.types.specs.Limits.{FREE, OPEN}
+use Rattle.meaning.specs.Store.{Edit, freshEdit, editOf, inUse}
+use Rattle.types.specs.Numbers.{slotOf, generationOf}
 use Rattle.meaning.specs.Edits.{freeFrom, freeSlot}
 use Rattle.meaning.specs.Outcomes.{knows, isOpen}
-use Rattle.meaning.specs.declared.Counts.{Counts}
+use Rattle.types.specs.declared.Counts.{Counts}
 use Rattle.meaning.proofs.Lists.{test, getD-past}
 use Rattle.tables.specs.Decode.{build, slotAt, editsOf, decodeAt}
 use Rattle.tables.proofs.Decoded.{edit-of, edits-length}

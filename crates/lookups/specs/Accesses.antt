@@ -7,8 +7,8 @@ use mathlib.Core.List.{List}
 use Rattle.chains.specs.Walk.{IsRow}
 use Rattle.meaning.specs.Store.{accessOf}
 use Rattle.meaning.specs.Outcomes.{accessRoom}
-use Rattle.meaning.specs.declared.Access.{Access}
-use Rattle.meaning.specs.declared.Counts.{Counts}
+use Rattle.types.specs.declared.Access.{Access}
+use Rattle.types.specs.declared.Counts.{Counts}
 use Rattle.tables.specs.Decode.{slotAt, decodeAt, AccessRow}
 
 -- a is the access of record r by the edit whose row of it is i

@@ -1,2 +1,2 @@
--- What the row of an access tells. Rests on the crates `meaning` and `tables`.
+-- What the row of an access tells. Rests on the crates `types`, `meaning` and `tables`.
 pub mod Accesses

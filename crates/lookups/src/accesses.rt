@@ -1,12 +1,12 @@
-// An edit's access of a record: its row, found by one walk, and the access in that row.
-// On any words with these counts. Rests on the crates `meaning`, `chains` and `tables`.
+// An edit's access of a record: its row, found by one walk, and the access in that row. On any words with these counts.
+// Rests on the crates `types`, `chains` and `tables`.
 ghost use Prim.Native.Nat.{_≤_};
 ghost use Rattle.chains.specs.Walk.{IsRow};
 ghost use Rattle.tables.specs.Layout.{Fits};
 ghost use Rattle.tables.specs.Decode.{AccessRow};
 ghost use Rattle.lookups.specs.Accesses.{InRow};
-use meaning::Access;
-use meaning::Counts;
+use types::Access;
+use types::Counts;
 
 // The row of slot k's access of record r, or 0.
 pub fn access_row(w: &[u64], c: Counts, k: usize, r: u64) -> usize

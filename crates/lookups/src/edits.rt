@@ -1,16 +1,15 @@
-// Edits: the slot of a handle, whether it is known and open, and the lowest free slot.
-// Each equals a function of the decoded store, on any words with these counts. Rests on the crates `meaning`, `chains`
-// and `tables`.
+// Edits: the slot of a handle, whether it is known and open, and the lowest free slot. Each equals a function of the
+// decoded store, on any words with these counts. Rests on the crates `types`, `meaning`, `chains` and `tables`.
 ghost use mathlib.Core.Path.{_≡_};
 ghost use Rattle.meaning.specs.Store.{inUse};
 ghost use Rattle.meaning.specs.Edits.{freeSlot};
 ghost use Rattle.meaning.specs.Outcomes.{knows, isOpen};
 ghost use Rattle.tables.specs.Layout.{Fits};
 ghost use Rattle.tables.specs.Decode.{decodeAt, editsOf};
-use meaning::Counts;
-use meaning::FREE;
-use meaning::Handle;
-use meaning::OPEN;
+use types::Counts;
+use types::FREE;
+use types::Handle;
+use types::OPEN;
 
 // Slot 0 and slots past the end read as free.
 pub fn slot_used(w: &[u64], c: Counts, k: u64) -> bool
@@ -30,18 +29,18 @@ pub fn known(w: &[u64], c: Counts, h: Handle) -> bool
     requires { ⌜ Fits c (now w) ⌝ }
     ensures { λ q. ⌜ q ≡ knows (decodeAt c (now (w .entry))) (h .0) ⌝ }
 {
-    let k = meaning::slot_of(h);
+    let k = types::slot_of(h);
     if !slot_used(w, c, k) {
         return false;
     }
-    tables::generation_of(w, c, chains::wide(k)) == meaning::generation_of(h)
+    tables::generation_of(w, c, chains::wide(k)) == types::generation_of(h)
 }
 
 pub fn is_open(w: &[u64], c: Counts, h: Handle) -> bool
     requires { ⌜ Fits c (now w) ⌝ }
     ensures { λ q. ⌜ q ≡ isOpen (decodeAt c (now (w .entry))) (h .0) ⌝ }
 {
-    let k = meaning::slot_of(h);
+    let k = types::slot_of(h);
     if !slot_used(w, c, k) {
         return false;
     }

@@ -1,6 +1,5 @@
-// Rooms: whether a table has the free rows that a change takes.
-// On well-formed words, whose free chain holds every row that no other chain has. Rests on the crates `meaning`,
-// `chains` and `tables`.
+// Rooms: whether a table has the free rows that a change takes. On well-formed words, whose free chain holds every row
+// that no other chain has. Rests on the crates `types`, `meaning`, `chains` and `tables`.
 ghost use mathlib.Core.Path.{_≡_};
 ghost use mathlib.Core.Bool.{true, cond};
 ghost use Prim.Native.Nat.{suc, _+_, _<_};
@@ -9,7 +8,7 @@ ghost use lib.Dec.{leb};
 ghost use Rattle.chains.specs.Walk.{IsRow};
 ghost use Rattle.chains.specs.Table.{Laid};
 ghost use Rattle.chains.specs.Partition.{partition, used};
-ghost use Rattle.meaning.specs.Limits.{MAX-ROWS};
+ghost use Rattle.types.specs.Limits.{MAX-ROWS};
 ghost use Rattle.meaning.specs.Store.{writtenOf};
 ghost use Rattle.meaning.specs.Outcomes.{lockRoom, versionRoom};
 ghost use Rattle.tables.specs.Layout.{Fits};
@@ -18,7 +17,7 @@ ghost use Rattle.tables.specs.Words.{Well};
 ghost use Rattle.lookups.specs.Accesses.{RoomBeside};
 use chains::Heads;
 use chains::Table;
-use meaning::Counts;
+use types::Counts;
 
 // Whether a table has so many free rows; no more rows than that are walked.
 fn has_free(w: &[u64], t: Table, h: Heads, most: usize) -> bool

@@ -1,16 +1,16 @@
-// Versions of a record r: the newest below or at a point, and the one that stands on it.
-// Each is one walk of the record's version chain. Rests on the crates `meaning`, `chains` and `tables`.
+// Versions of a record r: the newest below or at a point, and the one that stands on it. Each is one walk of the
+// record's version chain. Rests on the crates `types`, `meaning`, `chains` and `tables`.
 ghost use mathlib.Core.Path.{_≡_};
 ghost use Prim.Native.Nat.{_≤_, _<_};
 ghost use lib.Dec.{eqb};
-ghost use Rattle.meaning.specs.Limits.{LAST};
+ghost use Rattle.types.specs.Limits.{LAST};
 ghost use Rattle.meaning.specs.Store.{newestAt, newestBelow, versionOn};
 ghost use Rattle.meaning.specs.Lists.{any};
 ghost use Rattle.tables.specs.Layout.{Fits};
 ghost use Rattle.tables.specs.Decode.{recordAt};
-use meaning::Counts;
-use meaning::Value;
-use meaning::Version;
+use types::Counts;
+use types::Value;
+use types::Version;
 
 pub fn newest_below(w: &[u64], c: Counts, r: usize, m: u64) -> Version
     requires { ⌜ Fits c (now w) × (r < c .records) ⌝ }

@@ -10,7 +10,7 @@ use lib.Dec.{ltb, eqb}
 use lib.ListN.{length, length-map}
 use borrow.Author.Tests.{ltb-true, eqb-true, eq-eqb, ne-eqb}
 use Rattle.meaning.specs.Lists.{_∈_, all, pairwise}
-use Rattle.meaning.specs.Limits.{OPEN}
+use Rattle.types.specs.Limits.{OPEN}
 use Rattle.meaning.specs.Store.{Val, Access, Rec, Edit, Store, setEdit, editAt, recOf, withEdit, isOf, noAccess}
 use Rattle.meaning.specs.Store.{accessOf, names, accessesUsed}
 use Rattle.meaning.specs.Outcomes.{accessRoom}

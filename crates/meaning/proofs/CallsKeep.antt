@@ -7,11 +7,11 @@ use mathlib.Core.Bool.{Bool, true, false, cond, _&&_}
 use lib.Dec.{leb, ltb}
 use lib.ListN.{length}
 use borrow.Author.Tests.{leb-true, ltb-true}
-use Rattle.meaning.specs.Limits.{LAST, READ, WRITE, FREE, OPEN}
+use Rattle.types.specs.Limits.{LAST, READ, WRITE, FREE, OPEN}
 use Rattle.meaning.specs.Store.{Val, Store, handle, slotOf, nextGeneration, editAt, recAt, accessOf, hasRead}
 use Rattle.meaning.specs.Store.{newestAt, versionOn}
 use Rattle.meaning.specs.Points.{firstBlocked}
-use Rattle.meaning.specs.Replies.{Reply, ok, edit, locked, own, again, read, at}
+use Rattle.types.specs.Replies.{Reply, ok, edit, locked, own, again, read, at}
 use Rattle.meaning.specs.Outcomes.{Outcome, pass, replies, orElse, needs, hasRecord, isPoint, judge, accessRoom}
 use Rattle.meaning.specs.Outcomes.{lockRoom}
 use Rattle.meaning.specs.Edits.{freeSlot, begun, beginChecks, beginning, written, writeChecks, writing}
@@ -20,7 +20,7 @@ use Rattle.meaning.specs.Locking.{locking, readFrom, readEnd, readGrante
 use Rattle.meaning.specs.Locking.{readNew, readOpen, readChecks, reading}
 use Rattle.meaning.specs.Records.{viewChecks, viewing}
 use Rattle.meaning.specs.Sound.{soundStore}
-use Rattle.meaning.specs.declared.Extent.{Extent}
+use Rattle.types.specs.declared.Extent.{Extent}
 use Rattle.meaning.proofs.Lists.{and-left, and-right}
 use Rattle.meaning.proofs.Verdicts.{needs-pass, orElse-pass, judge-refuses, unless-keeps, forOpen-pass}
 use Rattle.meaning.proofs.Verdicts.{hasRecord-out, lockRoom-out}

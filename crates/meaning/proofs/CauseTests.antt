@@ -9,7 +9,7 @@ use lib.Dec.{leb, ltb, eqb}
 use lib.ListN.{length}
 use borrow.Author.Tests.{ltb-true, ltb-false, leb-true, leb-false, eqb-true, eqb-false, eq-eqb, not-true, not-false}
 use Rattle.meaning.specs.Lists.{any}
-use Rattle.meaning.specs.Limits.{LAST, FREE, OPEN, COMMITTED, ABORTED}
+use Rattle.types.specs.Limits.{LAST, FREE, OPEN, COMMITTED, ABORTED}
 use Rattle.meaning.specs.Store.{Store, slotOf, generationOf, editAt, inUse, isOf, names, writtenOf, versionsUsed}
 use Rattle.meaning.specs.Store.{locksUsed, accessesUsed}
 use Rattle.meaning.specs.Outcomes.{knows, isOpen, hasRecord, isPoint, accessRoom, lockRoom, versionRoom}

@@ -7,7 +7,7 @@ use mathlib.Core.Path.{_≡_, refl}
 use mathlib.Core.Bool.{true}
 use lib.ListN.{length, length-set}
 use Rattle.meaning.specs.Lists.{_∈_, mapFrom}
-use Rattle.meaning.specs.Limits.{COMMITTED, ABORTED}
+use Rattle.types.specs.Limits.{COMMITTED, ABORTED}
 use Rattle.meaning.specs.Store.{Access, Rec, Edit, Store, freshRec, countsOf, editAt, recAt, withEdit}
 use Rattle.meaning.specs.Store.{withRecords, withRec}
 use Rattle.meaning.specs.Ending.{ended, freed, settledRec, settled, committedRec, committed, aborted}

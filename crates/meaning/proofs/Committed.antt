@@ -10,7 +10,7 @@ use mathlib.Core.Bool.{Bool, true, false, cond}
 use mathlib.Core.List.{List}
 use lib.ListN.{length}
 use Rattle.meaning.specs.Lists.{_∈_, mapFrom}
-use Rattle.meaning.specs.Limits.{LAST, WRITE, SETTLED, OPEN, COMMITTED}
+use Rattle.types.specs.Limits.{LAST, WRITE, SETTLED, OPEN, COMMITTED}
 use Rattle.meaning.specs.Store.{Version, Rec, Edit, Store, freshRec, editOf, setEdit, recOf, editAt, recAt}
 use Rattle.meaning.specs.Store.{withEdit, withRecords, accessOf, writtenOf, versionsUsed, locksUsed, accessesUsed}
 use Rattle.meaning.specs.Ending.{ended, insert, newVersion, committedRec, committed}

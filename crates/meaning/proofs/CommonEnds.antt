@@ -11,7 +11,7 @@ use mathlib.Core.List.{Memᴰ·append-right, Memᴰ·cast}
 use lib.Dec.{ltb}
 use borrow.Author.Tests.{ltb-true, lt-ltb}
 use Rattle.meaning.specs.Lists.{_∈_, all, keep, least, greatest}
-use Rattle.meaning.specs.Limits.{LAST}
+use Rattle.types.specs.Limits.{LAST}
 use Rattle.meaning.specs.Store.{Lock, Access, Rec, Edit, editAt, hasRead}
 use Rattle.meaning.specs.Points.{writes, firstFree, ownOn, allows, lowest, inCommon, lowEnds, highEnds, earliest}
 use Rattle.meaning.specs.Points.{latest}

@@ -9,7 +9,7 @@ use mathlib.Core.List.{List}
 use lib.Dec.{leb, ltb}
 use borrow.Author.Tests.{leb-true, le-leb, ltb-true, lt-ltb}
 use Rattle.meaning.specs.Lists.{_∈_, all}
-use Rattle.meaning.specs.Limits.{LAST, WRITE}
+use Rattle.types.specs.Limits.{LAST, WRITE}
 use Rattle.meaning.specs.Store.{Lock, Access, Rec, Edit, recOf, hasRead}
 use Rattle.meaning.specs.Points.{covered, own, writes, firstFree, ownOn, allowsWrite, allowsRead, allows, lowest}
 use Rattle.meaning.specs.Points.{inCommon}

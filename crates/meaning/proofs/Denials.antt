@@ -7,15 +7,15 @@ use native.Mathlib.Decide.{decLt}
 use mathlib.Core.Path.{_≡_}
 use mathlib.Core.Logic.{_⊎_, inl, inr}
 use mathlib.Core.Bool.{true, false}
-use Rattle.meaning.specs.Limits.{READ, WRITE}
+use Rattle.types.specs.Limits.{READ, WRITE}
 use Rattle.meaning.specs.Store.{Rec, Store, recAt}
 use Rattle.meaning.specs.Points.{firstBlocked}
 use Rattle.meaning.specs.Locking.{lockGranted, readGranted, readVersion, readFrom}
 use Rattle.meaning.specs.Pointwise.{Proper, LeastBlocked, NoneBlocked, LockDenied, LockTakes, ReadDenied}
 use Rattle.meaning.specs.Pointwise.{ReadTakes, NewestIs}
 use Rattle.meaning.specs.Causes.{LockJudged, ReadJudged}
-use Rattle.meaning.specs.declared.Extent.{Extent}
-use Rattle.meaning.specs.declared.Extent.the-variants.{All, Part}
+use Rattle.types.specs.declared.Extent.{Extent}
+use Rattle.types.specs.declared.Extent.the-variants.{All, Part}
 use Rattle.meaning.proofs.Points.{first-blocked-is-least, lock-takes-run, read-takes-run}
 use Rattle.meaning.proofs.Newest.{newest-one}
 

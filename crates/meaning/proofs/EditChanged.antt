@@ -7,7 +7,7 @@ use mathlib.Core.Path.{_≡_, refl}
 use mathlib.Core.Logic.{_⊎_, inl, inr}
 use mathlib.Core.List.{List, List·Memᴰ·not-nil}
 use lib.ListN.{length}
-use Rattle.meaning.specs.Limits.{SETTLED, FREE, OPEN, COMMITTED, ABORTED}
+use Rattle.types.specs.Limits.{SETTLED, FREE, OPEN, COMMITTED, ABORTED}
 use Rattle.meaning.specs.Store.{Lock, Rec, Edit, Store, editOf, setEdit, editAt, recAt, withEdit, accessesUsed}
 use Rattle.meaning.specs.Store.{versionsUsed, locksUsed}
 use Rattle.meaning.specs.Edits.{openedEdit, begun}

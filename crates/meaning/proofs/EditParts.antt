@@ -10,7 +10,7 @@ use lib.Dec.{ltb, eqb}
 use lib.ListN.{length, getD}
 use borrow.Author.Tests.{leb-true, le-leb, ltb-true, lt-ltb, eqb-true, eqb-false, eq-eqb, ne-eqb, not-true}
 use Rattle.meaning.specs.Lists.{_∈_, any}
-use Rattle.meaning.specs.Limits.{GENERATIONS, WRITE, FREE, COMMITTED, ABORTED}
+use Rattle.types.specs.Limits.{GENERATIONS, WRITE, FREE, COMMITTED, ABORTED}
 use Rattle.meaning.specs.Store.{Lock, Access, Rec, Edit, recOf, hasRead}
 use Rattle.meaning.specs.Points.{isWrite, isOwned, inCommon}
 use Rattle.meaning.specs.Sound.{stateListed, generationListed, pointListed, namesExisting, namesOnce, isPresent}

@@ -10,12 +10,12 @@ use lib.Dec.{leb}
 use lib.ListN.{length}
 use borrow.Author.Tests.{leb-true, leb-false, ltb-true, ltb-false, not-true}
 use Rattle.meaning.specs.Lists.{_∈_, any}
-use Rattle.meaning.specs.Limits.{LAST, SETTLED, FREE, OPEN}
+use Rattle.types.specs.Limits.{LAST, SETTLED, FREE, OPEN}
 use Rattle.meaning.specs.Store.{Version, Lock, Rec, Edit, Store, slotOf, editAt, recAt, withRec, newestAt}
 use Rattle.meaning.specs.Store.{versionsUsed, writtenOf}
 use Rattle.meaning.specs.Points.{isOwned, earliest, latest}
 use Rattle.meaning.specs.Outcomes.{replies, pass, needs, unless, knows, isOpen, hasRecord, versionRoom}
-use Rattle.meaning.specs.Replies.{ok, commit, nopoint, purged}
+use Rattle.types.specs.Replies.{ok, commit, nopoint, purged}
 use Rattle.meaning.specs.Ending.{finished, settled, committed, aborted, goodPick, chosen, allowed, noCommon}
 use Rattle.meaning.specs.Ending.{commitVerdict, commitOpen, commitChecks, committing, abortChecks, aborting}
 use Rattle.meaning.specs.Ending.{settleChecks, settling}
@@ -24,10 +24,10 @@ use Rattle.meaning.specs.Sound.{soundStore}
 use Rattle.meaning.specs.SoundFacts.{SoundStore}
 use Rattle.meaning.specs.Pointwise.{InCommonSet, EmptyCommonSet, LeastCommon, GreatestCommon, VersionOn, NewestIs}
 use Rattle.meaning.specs.Pointwise.{none, one}
-use Rattle.meaning.specs.declared.Pick.{Pick}
-use Rattle.meaning.specs.declared.Pick.the-variants.{Earliest, Latest, Named}
-use Rattle.meaning.specs.declared.Finish.{Finish}
-use Rattle.meaning.specs.declared.Finish.the-variants as F
+use Rattle.types.specs.declared.Pick.{Pick}
+use Rattle.types.specs.declared.Pick.the-variants.{Earliest, Latest, Named}
+use Rattle.types.specs.declared.Finish.{Finish}
+use Rattle.types.specs.declared.Finish.the-variants as F
 use Rattle.meaning.proofs.CallsKeep.{IsSound}
 use Rattle.meaning.proofs.Lists.{and-in, any-none}
 use Rattle.meaning.proofs.Tests.{other-in}

@@ -8,11 +8,11 @@ use mathlib.Core.Path.{_≡_, refl}
 use mathlib.Core.Logic.{_⊎_, inl, inr}
 use mathlib.Core.Bool.{true, false≢true}
 use mathlib.Core.List.{[], _∷_}
-use Rattle.meaning.specs.Limits.{SLOTS, SETTLED, FREE, READ, WRITE}
+use Rattle.types.specs.Limits.{SLOTS, SETTLED, FREE, READ, WRITE}
 use Rattle.meaning.specs.Store.{Lock, Counts, Store, slotOf, countsOf, editOf, recAt}
 use Rattle.meaning.specs.Points.{holder}
-use Rattle.meaning.specs.Replies.{Reply, ok, edit, locked, read, own, again, commit, nopoint, purged, at, point}
-use Rattle.meaning.specs.Replies.{refusing, refused}
+use Rattle.types.specs.Replies.{Reply, ok, edit, locked, read, own, again, commit, nopoint, purged, at, point}
+use Rattle.types.specs.Replies.{refusing, refused}
 use Rattle.meaning.specs.Outcomes.{handleAt}
 use Rattle.meaning.specs.Locking.{readFrom}
 use Rattle.meaning.specs.Records.{goodCounts}
@@ -23,8 +23,8 @@ use Rattle.meaning.specs.Causes.{edits}
 use Rattle.meaning.specs.Order.{order, held, Stands, Refuses, HeldByLowest}
 use Rattle.meaning.specs.Laws.{RefusalChangesNothing, RefusedForCause, GrantedWithoutCause, OnlyOwnNumbers}
 use Rattle.meaning.specs.Laws.{HolderIsLowest}
-use Rattle.meaning.specs.declared.Call.{Call}
-use Rattle.meaning.specs.declared.Call.the-variants as C
+use Rattle.types.specs.declared.Call.{Call}
+use Rattle.types.specs.declared.Call.the-variants as C
 use Rattle.meaning.proofs.Stores.{used-range}
 use Rattle.meaning.proofs.Points.{holder-is-lowest}
 use Rattle.meaning.proofs.Newest.{newest-below-is, newest-one}

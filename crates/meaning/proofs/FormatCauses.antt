@@ -8,9 +8,9 @@ use mathlib.Core.Logic.{_⊎_, inl, inr, _↔_}
 use mathlib.Core.Bool.{Bool, true, false, cond, _&&_}
 use mathlib.Core.List.{List, []}
 use lib.Dec.{ltb}
-use Rattle.meaning.specs.Limits.{READINGS, SEATS, LAST, MAX-RECORDS, MAX-EDITS, MAX-ROWS}
+use Rattle.types.specs.Limits.{READINGS, SEATS, LAST, MAX-RECORDS, MAX-EDITS, MAX-ROWS}
 use Rattle.meaning.specs.Store.{Counts, fresh}
-use Rattle.meaning.specs.Replies.{Reply, ok, point, refusing}
+use Rattle.types.specs.Replies.{Reply, ok, point, refusing}
 use Rattle.meaning.specs.Outcomes.{replies, pass, needs, unless}
 use Rattle.meaning.specs.Records.{goodCounts, formatting}
 use Rattle.meaning.specs.Causes.{BadCounts, records, edits, versions, locks, accesses, OutOfRange}

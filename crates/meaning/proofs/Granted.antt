@@ -12,14 +12,14 @@ use lib.Dec.{eqb}
 use lib.ListN.{length, getD}
 use borrow.Author.Tests.{eqb-true}
 use Rattle.meaning.specs.Lists.{_∈_}
-use Rattle.meaning.specs.Limits.{LAST, READ, WRITE, FREE}
+use Rattle.types.specs.Limits.{LAST, READ, WRITE, FREE}
 use Rattle.meaning.specs.Store.{Version, Rec, Edit, freshEdit, editOf, newestBelow}
 use Rattle.meaning.specs.Edits.{freeFrom}
 use Rattle.meaning.specs.Locking.{lockFrom, lockEnd, lockGranted, readGranted, grantEnd}
 use Rattle.meaning.specs.Pointwise.{Proper, NoneBlocked, LockTakes, ReadTakes, NewestIs, none, one}
 use Rattle.meaning.specs.SoundFacts.{SoundRec, Present}
-use Rattle.meaning.specs.declared.Extent.{Extent}
-use Rattle.meaning.specs.declared.Extent.the-variants.{All, Part}
+use Rattle.types.specs.declared.Extent.{Extent}
+use Rattle.types.specs.declared.Extent.the-variants.{All, Part}
 use Rattle.meaning.proofs.Lists.{test}
 use Rattle.meaning.proofs.Stores.{InRange}
 use Rattle.meaning.proofs.Points.{lock-takes-run, read-takes-run}

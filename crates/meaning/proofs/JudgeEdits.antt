@@ -8,14 +8,14 @@ use mathlib.Core.List.{List, [], _∷_}
 use lib.Dec.{leb, eqb}
 use lib.ListN.{length, getD}
 use borrow.Author.Tests.{leb-true, leb-false, eqb-false}
-use Rattle.meaning.specs.Limits.{FREE}
+use Rattle.types.specs.Limits.{FREE}
 use Rattle.meaning.specs.Store.{Edit, Store, freshEdit, slotOf, editOf}
 use Rattle.meaning.specs.Outcomes.{knows, isOpen, hasRecord, accessRoom}
 use Rattle.meaning.specs.Edits.{freeFrom, freeSlot, beginning, beginChecks, writing, writeChecks}
 use Rattle.meaning.specs.Causes.{NoFreeSlot}
 use Rattle.meaning.specs.Order.{order}
-use Rattle.meaning.specs.declared.Handle.{Handle}
-use Rattle.meaning.specs.declared.Call.the-variants as C
+use Rattle.types.specs.declared.Handle.{Handle}
+use Rattle.types.specs.declared.Call.the-variants as C
 use Rattle.meaning.proofs.Lists.{not-both, test}
 use Rattle.meaning.proofs.Granted.{free-found}
 use Rattle.meaning.proofs.SoundParts.{sound-out}

@@ -4,17 +4,17 @@ use Prim.Native.Nat.{ℕ}
 use mathlib.Core.Path.{refl}
 use mathlib.Core.Bool.{not}
 use Rattle.meaning.specs.Store.{Store, slotOf, editAt}
-use Rattle.meaning.specs.Replies.{nopoint}
+use Rattle.types.specs.Replies.{nopoint}
 use Rattle.meaning.specs.Outcomes.{knows, isOpen, versionRoom}
 use Rattle.meaning.specs.Ending.{goodPick, chosen, allowed, noCommon, committing, commitChecks, commitOpen}
 use Rattle.meaning.specs.Ending.{commitVerdict, aborting, abortChecks, settling, settleChecks}
 use Rattle.meaning.specs.Causes.{BadPoint, NotCommon}
 use Rattle.meaning.specs.Order.{order}
-use Rattle.meaning.specs.declared.Handle.{Handle}
-use Rattle.meaning.specs.declared.Pick.{Pick}
-use Rattle.meaning.specs.declared.Pick.the-variants.{Earliest, Latest, Named}
-use Rattle.meaning.specs.declared.Finish.{Finish}
-use Rattle.meaning.specs.declared.Call.the-variants as C
+use Rattle.types.specs.declared.Handle.{Handle}
+use Rattle.types.specs.declared.Pick.{Pick}
+use Rattle.types.specs.declared.Pick.the-variants.{Earliest, Latest, Named}
+use Rattle.types.specs.declared.Finish.{Finish}
+use Rattle.types.specs.declared.Call.the-variants as C
 use Rattle.meaning.proofs.Lists.{not-both}
 use Rattle.meaning.proofs.CommonSet.{common-set-is}
 use Rattle.meaning.proofs.CommonEnds.{no-common-is-empty}

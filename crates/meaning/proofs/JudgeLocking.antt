@@ -6,7 +6,7 @@ use mathlib.Core.Bool.{Bool, true, _&&_}
 use mathlib.Core.List.{[], _∷_}
 use lib.Dec.{leb, ltb}
 use borrow.Author.Tests.{leb-true}
-use Rattle.meaning.specs.Limits.{LAST, WRITE}
+use Rattle.types.specs.Limits.{LAST, WRITE}
 use Rattle.meaning.specs.Store.{Lock, Rec, Store, slotOf, recAt}
 use Rattle.meaning.specs.Points.{firstBlocked, frozen, holder}
 use Rattle.meaning.specs.Outcomes.{knows, isOpen, hasRecord, judge, handleAt, lockRoom}
@@ -15,10 +15,10 @@ use Rattle.meaning.specs.Sound.{soundStore}
 use Rattle.meaning.specs.Pointwise.{Proper, Frozen}
 use Rattle.meaning.specs.Causes.{LockJudged}
 use Rattle.meaning.specs.Order.{order, concerns}
-use Rattle.meaning.specs.declared.Handle.{Handle}
-use Rattle.meaning.specs.declared.Point.{Point}
-use Rattle.meaning.specs.declared.Extent.{Extent}
-use Rattle.meaning.specs.declared.Call.the-variants as C
+use Rattle.types.specs.declared.Handle.{Handle}
+use Rattle.types.specs.declared.Point.{Point}
+use Rattle.types.specs.declared.Extent.{Extent}
+use Rattle.types.specs.declared.Call.the-variants as C
 use Rattle.meaning.proofs.Lists.{and-left, not-both}
 use Rattle.meaning.proofs.SoundParts.{sound-out}
 use Rattle.meaning.proofs.Points.{frozen-is}

@@ -8,10 +8,10 @@ use mathlib.Core.Bool.{true, false}
 use mathlib.Core.List.{[], _∷_}
 use lib.Dec.{leb, ltb}
 use borrow.Author.Tests.{leb-true, ltb-true, ltb-false}
-use Rattle.meaning.specs.Limits.{LAST, READ}
+use Rattle.types.specs.Limits.{LAST, READ}
 use Rattle.meaning.specs.Store.{Value, Access, Rec, Store, slotOf, editAt, recAt, accessOf, hasRead, versionOn}
 use Rattle.meaning.specs.Points.{firstBlocked, frozen, holder}
-use Rattle.meaning.specs.Replies.{own, again}
+use Rattle.types.specs.Replies.{own, again}
 use Rattle.meaning.specs.Outcomes.{knows, isOpen, hasRecord, isPoint, judge, handleAt, accessRoom, lockRoom}
 use Rattle.meaning.specs.Locking.{readGranted, readVersion, readFrom, reading, readChecks, readOpen, readNew}
 use Rattle.meaning.specs.Locking.{readVerdict}
@@ -20,10 +20,10 @@ use Rattle.meaning.specs.SoundFacts.{SoundStore}
 use Rattle.meaning.specs.Pointwise.{Frozen, NewestIs}
 use Rattle.meaning.specs.Causes.{Accessed, ReadJudged}
 use Rattle.meaning.specs.Order.{order, concerns}
-use Rattle.meaning.specs.declared.Handle.{Handle}
-use Rattle.meaning.specs.declared.Point.{Point}
-use Rattle.meaning.specs.declared.Extent.{Extent}
-use Rattle.meaning.specs.declared.Call.the-variants as C
+use Rattle.types.specs.declared.Handle.{Handle}
+use Rattle.types.specs.declared.Point.{Point}
+use Rattle.types.specs.declared.Extent.{Extent}
+use Rattle.types.specs.declared.Call.the-variants as C
 use Rattle.meaning.proofs.Lists.{and-left, not-both}
 use Rattle.meaning.proofs.SoundParts.{sound-out}
 use Rattle.meaning.proofs.Points.{frozen-is}

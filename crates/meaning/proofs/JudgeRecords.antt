@@ -7,18 +7,18 @@ use mathlib.Core.List.{List, []}
 use lib.Dec.{leb}
 use borrow.Author.Tests.{leb-true, leb-false, eqb-false, ne-eqb, le-leb, lt-leb, not-true, not-false}
 use Rattle.meaning.specs.Lists.{any}
-use Rattle.meaning.specs.Limits.{LAST, SETTLED}
+use Rattle.types.specs.Limits.{LAST, SETTLED}
 use Rattle.meaning.specs.Store.{Version, Lock, Rec, Store, recAt, newestAt}
 use Rattle.meaning.specs.Points.{isOwned}
-use Rattle.meaning.specs.Replies.{at, refusing}
+use Rattle.types.specs.Replies.{at, refusing}
 use Rattle.meaning.specs.Outcomes.{replies, hasRecord}
 use Rattle.meaning.specs.Records.{purging, purgeChecks, purgeTo, purgeVerdict, viewing, viewChecks}
 use Rattle.meaning.specs.SoundFacts.{SoundStore}
 use Rattle.meaning.specs.Pointwise.{NewestIs}
 use Rattle.meaning.specs.Causes.{LockedBelow}
 use Rattle.meaning.specs.Order.{order}
-use Rattle.meaning.specs.declared.Point.{Point}
-use Rattle.meaning.specs.declared.Call.the-variants as C
+use Rattle.types.specs.declared.Point.{Point}
+use Rattle.types.specs.declared.Call.the-variants as C
 use Rattle.meaning.proofs.Lists.{and-in, and-left, and-right, not-both, any-in, any-out}
 use Rattle.meaning.proofs.Newest.{newest-at-is, newest-one}
 use Rattle.meaning.proofs.SoundParts.{sound-out}

@@ -11,19 +11,19 @@ use lib.Dec.{eqb}
 use lib.ListN.{getD}
 use borrow.Author.Tests.{eqb-true, eqb-false, not-true}
 use Rattle.meaning.specs.Lists.{_∈_, any}
-use Rattle.meaning.specs.Limits.{READ, WRITE}
+use Rattle.types.specs.Limits.{READ, WRITE}
 use Rattle.meaning.specs.Store.{Store, slotOf, recAt}
 use Rattle.meaning.specs.Points.{holder, firstBlocked}
-use Rattle.meaning.specs.Replies.{Reply, ok, edit, locked, read, own, again, commit, nopoint, purged, at, point}
-use Rattle.meaning.specs.Replies.{refusing, refused}
+use Rattle.types.specs.Replies.{Reply, ok, edit, locked, read, own, again, commit, nopoint, purged, at, point}
+use Rattle.types.specs.Replies.{refusing, refused}
 use Rattle.meaning.specs.Outcomes.{Outcome, replies, handleAt}
 use Rattle.meaning.specs.Locking.{readFrom}
 use Rattle.meaning.specs.Sound.{soundStore}
 use Rattle.meaning.specs.Order.{Item, unsound, noSlot, noEdit, ended, stillOpen, noRecord, badPoint, ownOrAgain}
 use Rattle.meaning.specs.Order.{belowFloor, emptySet, notCommon, lockedBelow, frozen, held, noAccessRow}
 use Rattle.meaning.specs.Order.{noLockRow, noVersionRow, Stands, Says, Grants, Refuses, concerns}
-use Rattle.meaning.specs.declared.Call.{Call}
-use Rattle.meaning.specs.declared.Call.the-variants as C
+use Rattle.types.specs.declared.Call.{Call}
+use Rattle.types.specs.declared.Call.the-variants as C
 use Rattle.meaning.proofs.Lists.{and-left, and-right, any-out}
 use Rattle.meaning.proofs.CauseTests.{Refutes}
 

@@ -6,11 +6,11 @@ use mathlib.Core.Path.{_≡_, sym, ap, _∙_}
 use mathlib.Core.Bool.{true, false≢true}
 use mathlib.Core.List.{List}
 use Rattle.meaning.specs.Store.{Store}
-use Rattle.meaning.specs.Replies.{refusing, refused}
+use Rattle.types.specs.Replies.{refusing, refused}
 use Rattle.meaning.specs.Outcomes.{Outcome}
 use Rattle.meaning.specs.Sound.{soundStore}
 use Rattle.meaning.specs.Order.{Item, Stands, First, here, there, NoneStands, Says, Grants}
-use Rattle.meaning.specs.declared.Call.{Call}
+use Rattle.types.specs.declared.Call.{Call}
 use Rattle.meaning.proofs.Judging.{Judging, granted, refuses, answers, passes, Reason, not-granted}
 use Rattle.meaning.proofs.Judging.{grant-no-refusal, says-one}
 

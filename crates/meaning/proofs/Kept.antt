@@ -9,7 +9,7 @@ use mathlib.Core.List.{List}
 use lib.ListN.{length}
 use borrow.Author.Tests.{eqb-true}
 use Rattle.meaning.specs.Lists.{_∈_, any, find}
-use Rattle.meaning.specs.Limits.{WRITE}
+use Rattle.types.specs.Limits.{WRITE}
 use Rattle.meaning.specs.Store.{Lock, Access, Rec, Edit, recOf, isOf, noAccess, accessOf}
 use Rattle.meaning.specs.Pointwise.{LockOn, HeldOn, InCommonSet}
 use Rattle.meaning.specs.SoundFacts.{SoundEdit, Present, ReadStarts}

@@ -6,7 +6,7 @@ use Rattle.meaning.specs.Laws.{SoundIsFacts, FreshIsSound, CallsKeepSoun
 use Rattle.meaning.specs.Laws.{GrantedWithoutCause, OnlyOwnNumbers, HolderIsLowest, FormatRefusedForCause}
 use Rattle.meaning.specs.Laws.{PointRefusedForCause, PointsOrderAsPairs, PointsRunToLast}
 use Rattle.meaning.specs.Calls.{act}
-use Rattle.meaning.specs.declared.Call.the-variants as C
+use Rattle.types.specs.declared.Call.the-variants as C
 use Rattle.meaning.proofs.Points as points
 use Rattle.meaning.proofs.CommonSet as common
 use Rattle.meaning.proofs.CommonEnds as ends

@@ -6,7 +6,7 @@ use mathlib.Core.Logic.{_⊎_, inl, inr}
 use mathlib.Core.List.{List, List·Memᴰ·head, List·Memᴰ·tail, List·Memᴰ·cases-cons}
 use lib.ListN.{length, set, length-set}
 use Rattle.meaning.specs.Lists.{_∈_}
-use Rattle.meaning.specs.Limits.{READ, WRITE, SETTLED, FREE, OPEN}
+use Rattle.types.specs.Limits.{READ, WRITE, SETTLED, FREE, OPEN}
 use Rattle.meaning.specs.Store.{Version, Lock, Rec, Edit, Store, editOf, recOf, editAt, recAt, withRecords}
 use Rattle.meaning.specs.Store.{withRec, withLocks, locksUsed, accessesUsed}
 use Rattle.meaning.specs.Points.{addLock}

@@ -9,7 +9,7 @@ use mathlib.Core.List.{List, _∷_, List·Memᴰ·head, List·Memᴰ·tail, List
 use lib.Dec.{leb}
 use borrow.Author.Tests.{lt-leb, not-true}
 use Rattle.meaning.specs.Lists.{_∈_, keep}
-use Rattle.meaning.specs.Limits.{SETTLED}
+use Rattle.types.specs.Limits.{SETTLED}
 use Rattle.meaning.specs.Store.{Lock}
 use Rattle.meaning.specs.Points.{isOwned, addLock, leaveSettled, dropOwner, emptied, trimmed, trimTo}
 use Rattle.meaning.specs.Pointwise.{LockOn, HeldOn}

@@ -11,7 +11,7 @@ use lib.Dec.{eqb}
 use lib.ListN.{length}
 use borrow.Author.Tests.{eqb-true, eq-eqb}
 use Rattle.meaning.specs.Lists.{_∈_, keep}
-use Rattle.meaning.specs.Limits.{READ, WRITE, SETTLED, COMMITTED}
+use Rattle.types.specs.Limits.{READ, WRITE, SETTLED, COMMITTED}
 use Rattle.meaning.specs.Store.{Lock, Access, Edit, noAccess, accessOf, hasRead}
 use Rattle.meaning.specs.Points.{isWrite, isOwned, own, leaveSettled, dropOwner}
 use Rattle.meaning.specs.Pointwise.{LockOn}

@@ -10,7 +10,7 @@ use mathlib.Core.List.{List, map, Memᴰ·map, Memᴰ·of-map, Memᴰ·cast}
 use lib.Dec.{leb, ltb, eqb}
 use borrow.Author.Tests.{leb-true, leb-false, ltb-true, ltb-false, eqb-true, eq-eqb}
 use Rattle.meaning.specs.Lists.{_∈_, any, keep, least}
-use Rattle.meaning.specs.Limits.{SLOTS, READ, WRITE, SETTLED}
+use Rattle.types.specs.Limits.{SLOTS, READ, WRITE, SETTLED}
 use Rattle.meaning.specs.Store.{Version, Lock, Rec, Store, recAt}
 use Rattle.meaning.specs.Points.{isOwned, covers, conflicts, blockers, firstBlocked, firstOpen, frozen, holder}
 use Rattle.meaning.specs.Locking.{grantEnd, lockFrom, lockEnd, lockGranted, readGranted}
@@ -18,8 +18,8 @@ use Rattle.meaning.specs.Pointwise.{BlockedBy, Blocked, Proper, LeastBlo
 use Rattle.meaning.specs.Pointwise.{LockTakes, LockDenied, ReadTakes, ReadDenied, VersionOn, SettledOn, Frozen}
 use Rattle.meaning.specs.Pointwise.{LowestHolder}
 use Rattle.meaning.specs.Laws.{FirstBlockedIsLeast, LockTakesRun, ReadTakesRun}
-use Rattle.meaning.specs.declared.Extent.{Extent}
-use Rattle.meaning.specs.declared.Extent.the-variants.{All, Part}
+use Rattle.types.specs.declared.Extent.{Extent}
+use Rattle.types.specs.declared.Extent.the-variants.{All, Part}
 use Rattle.meaning.proofs.Lists.{and-in, and-left, and-right, or-out, or-left, or-right, test, any-in, any-out}
 use Rattle.meaning.proofs.Lists.{keep-in, keep-out, least-le, least-out}
 use Rattle.meaning.proofs.Tests.{Under, covers-out, covers-in, owned-out, owned-in, conflicts-out, conflicts-in}

@@ -11,7 +11,7 @@ use lib.Dec.{leb, ltb}
 use lib.ListN.{length, set, length-set}
 use borrow.Author.Tests.{leb-true, le-leb}
 use Rattle.meaning.specs.Lists.{_∈_}
-use Rattle.meaning.specs.Limits.{READ, WRITE, SETTLED, FREE}
+use Rattle.types.specs.Limits.{READ, WRITE, SETTLED, FREE}
 use Rattle.meaning.specs.Store.{Version, Lock, Access, Rec, Store, editOf, recOf, editAt, recAt, withRec}
 use Rattle.meaning.specs.Store.{withRecords, accessesUsed}
 use Rattle.meaning.specs.Records.{purgedRec}

@@ -10,7 +10,7 @@ use lib.Dec.{leb, ltb, eqb}
 use lib.ListN.{getD}
 use borrow.Author.Tests.{leb-true, leb-false, le-leb, ltb-true, lt-ltb, eqb-true, eqb-false, eq-eqb, not-true}
 use Rattle.meaning.specs.Lists.{_∈_, all, any, pairwise}
-use Rattle.meaning.specs.Limits.{LAST, READ, WRITE, SETTLED, FREE, COMMITTED}
+use Rattle.types.specs.Limits.{LAST, READ, WRITE, SETTLED, FREE, COMMITTED}
 use Rattle.meaning.specs.Store.{Version, Lock, Rec, Edit, editOf, inUse, accessOf}
 use Rattle.meaning.specs.Points.{isWrite, isOwned, covers, meets}
 use Rattle.meaning.specs.Pointwise.{VersionOn}

@@ -1,5 +1,5 @@
 -- The session's replies, by computation. Rests on nothing.
-use mathlib.Core.Path.{_≡_, refl}
+use mathlib.Core.Path.{refl}
 use Rattle.meaning.specs.Session.{session, sessionReplies, SessionRight}
 use Rattle.meaning.specs.Calls.{opened}
 

@@ -11,7 +11,7 @@ use mathlib.Core.Bool.{true}
 use mathlib.Core.List.{List, List·Memᴰ·not-nil}
 use lib.ListN.{length}
 use Rattle.meaning.specs.Lists.{_∈_, mapFrom}
-use Rattle.meaning.specs.Limits.{READ, WRITE, SETTLED, FREE, COMMITTED}
+use Rattle.types.specs.Limits.{READ, WRITE, SETTLED, FREE, COMMITTED}
 use Rattle.meaning.specs.Store.{Lock, Rec, Edit, Store, freshRec, editOf, setEdit, recOf, editAt, recAt, withEdit}
 use Rattle.meaning.specs.Store.{withRecords, accessOf, versionsUsed, locksUsed, accessesUsed}
 use Rattle.meaning.specs.Ending.{freed, settledLocks, settledRec, settled}

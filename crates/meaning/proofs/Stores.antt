@@ -2,17 +2,16 @@
 use Prim.Native.Nat.{ℕ, zero, suc, _+_, _≤_, _<_}
 use native.Mathlib.Omega.{arith}
 use native.Mathlib.Decide.{decLt}
-use mathlib.Core.Path.{_≡_, refl, sym, ap, _∙_}
-use mathlib.Core.Bool.{Bool, true, false, not}
-use mathlib.Core.List.{List, [], _∷_}
+use mathlib.Core.Path.{_≡_, refl, ap}
+use mathlib.Core.Bool.{true, false, not}
+use mathlib.Core.List.{List}
 use lib.Dec.{eqb}
 use lib.ListN.{length, getD, set, length-set}
 use lib.Seq.{getD-set-same, getD-set-other}
 use borrow.Author.Tests.{not-true, eqb-false, ne-eqb}
 use Rattle.meaning.specs.Lists.{mapFrom, total}
-use Rattle.meaning.specs.Limits.{FREE}
-use Rattle.meaning.specs.Store.{Rec, Edit, Store, freshRec, freshEdit, editOf, setEdit, recOf, inUse}
-use Rattle.meaning.specs.Store.{accessesUsed}
+use Rattle.types.specs.Limits.{FREE}
+use Rattle.meaning.specs.Store.{Rec, Edit, freshRec, freshEdit, editOf, setEdit, recOf, inUse}
 use Rattle.meaning.proofs.Lists.{getD-past, getD-mapFrom, length-mapFrom, total-set}
 
 -- a slot that is not free is one of the store's

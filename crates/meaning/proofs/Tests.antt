@@ -10,7 +10,7 @@ use lib.Dec.{leb, eqb}
 use borrow.Author.Tests.{leb-true, le-leb, ltb-true, ltb-false, lt-ltb, le-ltb, eqb-true, eqb-false, eq-eqb, ne-eqb}
 use borrow.Author.Tests.{not-true}
 use Rattle.meaning.specs.Lists.{_∈_}
-use Rattle.meaning.specs.Limits.{WRITE}
+use Rattle.types.specs.Limits.{WRITE}
 use Rattle.meaning.specs.Store.{Lock, Access, Rec, hasRead}
 use Rattle.meaning.specs.Points.{isWrite, isOwned, covers, meets, covered, own, writes, conflicts, blocks}
 use Rattle.meaning.specs.Points.{blockers}

@@ -8,7 +8,7 @@ use mathlib.Core.List.{List}
 use lib.ListN.{length, length-map}
 use borrow.Author.Tests.{leb-false}
 use Rattle.meaning.specs.Lists.{_∈_, keep}
-use Rattle.meaning.specs.Limits.{SETTLED}
+use Rattle.types.specs.Limits.{SETTLED}
 use Rattle.meaning.specs.Store.{Lock}
 use Rattle.meaning.specs.Points.{isOwned, emptied, trimmed, trimTo}
 use Rattle.meaning.proofs.Lists.{length-keep}

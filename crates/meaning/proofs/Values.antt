@@ -1,29 +1,16 @@
 -- What the code's tests on readings, seats and locks come to, one law for each way that a test returns. Rests on
 -- nothing.
-use Prim.Native.Nat.{ℕ, _+_, _*_, _≤_, _<_}
+use Prim.Native.Nat.{ℕ, _≤_, _<_}
 use native.Mathlib.Omega.{arith}
 use native.Mathlib.Decide.{decLe}
-use mathlib.Core.Path.{_≡_, refl, sym, ap, _∙_}
-use mathlib.Core.Bool.{Bool, true, false, not, _&&_, _||_}
-use mathlib.Core.List.{[]}
+use mathlib.Core.Path.{_≡_, _∙_}
+use mathlib.Core.Bool.{true, false, not, _||_}
 use lib.Dec.{leb, ltb, eqb}
 use borrow.Author.Tests.{eq-eqb, ne-eqb, le-leb, lt-leb, lt-ltb, le-ltb}
-use Rattle.meaning.specs.Limits.{READINGS, SEATS, WRITE}
+use Rattle.types.specs.Limits.{WRITE}
 use Rattle.meaning.specs.Store.{Lock}
 use Rattle.meaning.specs.Points.{covers, conflicts, blocks, meets}
-use Rattle.meaning.specs.Replies.{point, refusing}
-use Rattle.meaning.specs.Records.{pointing}
 use Rattle.meaning.specs.Sound.{agree, startsRead}
-
-module _ (r s : ℕ) where
-  pub reading-large : READINGS ≤ r → refusing 6 [] ≡ pointing r s
-  reading-large h = rw (le-ltb r READINGS h)
-
-  pub seat-large : r < READINGS → SEATS ≤ s → refusing 6 [] ≡ pointing r s
-  seat-large g h = rw (lt-ltb r READINGS g, le-ltb s SEATS h)
-
-  pub point-made : r < READINGS → s < SEATS → point (r * SEATS + s) ≡ pointing r s
-  point-made g h = rw (lt-ltb r READINGS g, lt-ltb s SEATS h)
 
 module _ (p : ℕ) (l : Lock) where
   pub covers-low : p < l .low → false ≡ covers p l

@@ -8,7 +8,7 @@ use mathlib.Core.List.{List, [], _∷_}
 use lib.Dec.{eqb}
 use lib.ListN.{length}
 use borrow.Author.Tests.{eqb-true, ltb-true}
-use Rattle.meaning.specs.Limits.{FREE, OPEN}
+use Rattle.types.specs.Limits.{FREE, OPEN}
 use Rattle.meaning.specs.Store.{Store, slotOf, generationOf, editAt, recAt, inUse, locksUsed}
 use Rattle.meaning.specs.Points.{frozen, holder}
 use Rattle.meaning.specs.Outcomes.{Outcome, Verdict, pass, refuse, orElse, needs, unless, knows, isOpen, forOpen}

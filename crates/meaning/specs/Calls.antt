@@ -1,11 +1,10 @@
 -- Every call as a function from a store to a reply and the store after it, and a run of a list of calls. Rests on the
 -- files of calls.
-use Prim.Native.Nat.{ℕ}
 use mathlib.Core.List.{List, [], _∷_}
 use mathlib.Core.Bool.{true}
 use Rattle.meaning.specs.Store.{Counts, Store, editOf, setEdit, recOf, withEdit, withRecords, inUse, accessOf}
 use Rattle.meaning.specs.Store.{names, versionsUsed, locksUsed, accessesUsed, newestAt, newestBelow, versionOn}
-use Rattle.meaning.specs.Replies.{Reply}
+use Rattle.types.specs.Replies.{Reply}
 use Rattle.meaning.specs.Outcomes.{Outcome, knows, isOpen, hasRecord, judge, accessRoom, lockRoom, versionRoom}
 use Rattle.meaning.specs.Edits.{beginning, writing, withAccess, begun, beginChecks, written, writeChecks}
 use Rattle.meaning.specs.Locking.{locking, reading, withLock, lockVerdict, lockChecks, lockWanted, readVerdict}
@@ -17,8 +16,8 @@ use Rattle.meaning.specs.Records.{viewChecks, goodCounts}
 use Rattle.meaning.specs.Points.{covered, own, writes, firstCovered, firstFree, conflicts, blocks, blockers}
 use Rattle.meaning.specs.Points.{frozen, holder, addLock, leaveSettled, dropOwner, trimTo, ownOn, allows}
 use Rattle.meaning.specs.Points.{inCommon, earliest, latest}
-use Rattle.meaning.specs.declared.Call.{Call}
-use Rattle.meaning.specs.declared.Call.the-variants as C
+use Rattle.types.specs.declared.Call.{Call}
+use Rattle.types.specs.declared.Call.the-variants as C
 
 -- Calls: what each of them comes to. 1 "store not sound" is no part of it: that is judged on the words
 unfoldable pub act : Call → Store → Outcome

@@ -7,15 +7,15 @@ use mathlib.Core.Logic.{_⊎_}
 use mathlib.Core.Bool.{true}
 use lib.ListN.{length}
 use Rattle.meaning.specs.Lists.{_∈_}
-use Rattle.meaning.specs.Limits.{LAST, READ, WRITE, SETTLED, FREE, OPEN, COMMITTED, ABORTED, MAX-RECORDS}
-use Rattle.meaning.specs.Limits.{MAX-EDITS, MAX-ROWS}
+use Rattle.types.specs.Limits.{LAST, READ, WRITE, SETTLED, FREE, OPEN, COMMITTED, ABORTED, MAX-RECORDS}
+use Rattle.types.specs.Limits.{MAX-EDITS, MAX-ROWS}
 use Rattle.meaning.specs.Store.{Version, Lock, Access, Counts, Store, slotOf, generationOf, editAt, recAt}
 use Rattle.meaning.specs.Store.{accessesUsed}
 use Rattle.meaning.specs.Pointwise.{LeastBlocked, LockDenied, ReadDenied, InCommonSet, NewestIs}
-use Rattle.meaning.specs.declared.Extent.{Extent}
-use Rattle.meaning.specs.declared.Pick.the-variants.{Earliest, Latest, Named}
-use Rattle.meaning.specs.declared.Call.{Call}
-use Rattle.meaning.specs.declared.Call.the-variants as C
+use Rattle.types.specs.declared.Extent.{Extent}
+use Rattle.types.specs.declared.Pick.the-variants.{Earliest, Latest, Named}
+use Rattle.types.specs.declared.Call.{Call}
+use Rattle.types.specs.declared.Call.the-variants as C
 
 -- P of the handle of a call; for 2
 abbrev pub OfHandle : Call → (ℕ → Type 0) → Type 0

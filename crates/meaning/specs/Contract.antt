@@ -4,10 +4,10 @@ use mathlib.Core.Path.{_≡_}
 use mathlib.Core.Bool.{Bool, true, false}
 use mathlib.Core.List.{[]}
 use Rattle.meaning.specs.Store.{Store, fresh}
-use Rattle.meaning.specs.Replies.{Reply, refused, refusing}
+use Rattle.types.specs.Replies.{Reply, refused, refusing}
 use Rattle.meaning.specs.Outcomes.{Outcome}
 use Rattle.meaning.specs.Records.{goodCounts}
-use Rattle.meaning.specs.declared.Counts.{Counts}
+use Rattle.types.specs.declared.Counts.{Counts}
 
 module _ (Lent : Type 0) (decode : Lent → Store) (soundLent : Lent → Bool) where
   -- "settles its reply and the meaning of the lent store afterwards for every slice and argument, refused ones too": a

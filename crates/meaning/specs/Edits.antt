@@ -1,13 +1,13 @@
 -- The calls Begin and Write, and how an edit changes. Rests on Outcomes.
 use Prim.Native.Nat.{ℕ, suc}
-use mathlib.Core.Bool.{Bool, true, false, cond}
+use mathlib.Core.Bool.{true, cond}
 use mathlib.Core.List.{List, [], _∷_, map}
 use lib.ListN.{length}
 use lib.Dec.{leb, eqb}
-use Rattle.meaning.specs.Limits.{FREE, OPEN}
+use Rattle.types.specs.Limits.{FREE, OPEN}
 use Rattle.meaning.specs.Store.{Val, Access, Edit, Store, handle, slotOf, nextGeneration, editAt, withEdit, isOf}
 use Rattle.meaning.specs.Store.{accessOf, names}
-use Rattle.meaning.specs.Replies.{ok, edit}
+use Rattle.types.specs.Replies.{ok, edit}
 use Rattle.meaning.specs.Outcomes.{Outcome, replies, Verdict, pass, needs, unless, forOpen, hasRecord, accessRoom}
 
 -- "names an existing record at most once": an access takes the place of the edit's access of that record, or stands

@@ -1,20 +1,20 @@
 -- The calls Commit, Abort and Settle. Rests on Outcomes and the common set of Points.
 use Prim.Native.Nat.{ℕ}
-use mathlib.Core.Bool.{Bool, true, false, not, cond}
+use mathlib.Core.Bool.{Bool, true, not, cond}
 use mathlib.Core.List.{List, [], _∷_}
 use lib.Dec.{ltb, eqb}
 use Rattle.meaning.specs.Lists.{mapFrom}
-use Rattle.meaning.specs.Limits.{LAST, READ, WRITE, FREE, COMMITTED, ABORTED}
+use Rattle.types.specs.Limits.{LAST, READ, WRITE, FREE, COMMITTED, ABORTED}
 use Rattle.meaning.specs.Store.{Written, Version, Lock, Access, Rec, Edit, Store, slotOf, editAt, withEdit}
 use Rattle.meaning.specs.Store.{withRecords, withLocks, accessOf, hasRead}
 use Rattle.meaning.specs.Points.{leaveSettled, dropOwner, inCommon, earliest, latest}
-use Rattle.meaning.specs.Replies.{ok, commit, nopoint}
+use Rattle.types.specs.Replies.{ok, commit, nopoint}
 use Rattle.meaning.specs.Outcomes.{Outcome, replies, Verdict, pass, needs, unless, knows, isOpen, forOpen}
 use Rattle.meaning.specs.Outcomes.{isPoint, versionRoom}
-use Rattle.meaning.specs.declared.Pick.{Pick}
-use Rattle.meaning.specs.declared.Pick.the-variants.{Earliest, Latest, Named}
-use Rattle.meaning.specs.declared.Finish.{Finish}
-use Rattle.meaning.specs.declared.Finish.the-variants as F
+use Rattle.types.specs.declared.Pick.{Pick}
+use Rattle.types.specs.declared.Pick.the-variants.{Earliest, Latest, Named}
+use Rattle.types.specs.declared.Finish.{Finish}
+use Rattle.types.specs.declared.Finish.the-variants as F
 
 -- Layout, edit slot: state "2 committed, 3 aborted", "commit point": the same edit, ended
 abbrev pub ended : Edit → ℕ → ℕ → Edit

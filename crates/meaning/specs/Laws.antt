@@ -9,14 +9,15 @@ use mathlib.Core.Bool.{Bool, true, false}
 use mathlib.Core.List.{List, [], _∷_}
 use lib.ListN.{length}
 use Rattle.meaning.specs.Lists.{_∈_}
-use Rattle.meaning.specs.Limits.{LAST, READINGS, SEATS, READ, WRITE}
-use Rattle.meaning.specs.Store.{Lock, Counts, Rec, Edit, Store, fresh, editAt, recAt, inUse, newestAt}
+use Rattle.types.specs.Limits.{LAST, READINGS, SEATS, READ}
+use Rattle.meaning.specs.Store.{Counts, Rec, Edit, Store, fresh, editAt, recAt, inUse, newestAt}
 use Rattle.meaning.specs.Store.{newestBelow, locksUsed}
 use Rattle.meaning.specs.Points.{firstBlocked, inCommon, earliest, latest}
-use Rattle.meaning.specs.Replies.{Reply, refused, refusing}
+use Rattle.types.specs.Replies.{refused, refusing}
 use Rattle.meaning.specs.Locking.{lockFrom, lockEnd, lockGranted, readGranted, grantEnd}
 use Rattle.meaning.specs.Ending.{settled, noCommon}
-use Rattle.meaning.specs.Records.{goodCounts, formatting, pointing}
+use Rattle.meaning.specs.Records.{goodCounts, formatting}
+use Rattle.types.specs.Numbers.{pointing}
 use Rattle.meaning.specs.Calls.{act}
 use Rattle.meaning.specs.Sound.{soundStore, versionsFall}
 use Rattle.meaning.specs.SoundFacts.{SoundStore}
@@ -25,8 +26,8 @@ use Rattle.meaning.specs.Pointwise.{ReadDenied, InCommonSet, EmptyCommon
 use Rattle.meaning.specs.Pointwise.{NewestIs}
 use Rattle.meaning.specs.Causes.{BadCounts}
 use Rattle.meaning.specs.Order.{Item, order, First, NoneStands, Says, Grants, Refuses, concerns, HeldByLowest}
-use Rattle.meaning.specs.declared.Extent.{Extent}
-use Rattle.meaning.specs.declared.Call.{Call}
+use Rattle.types.specs.declared.Extent.{Extent}
+use Rattle.types.specs.declared.Call.{Call}
 
 -- (a) "the least blocked point wanted", for writers and readers
 abbrev pub FirstBlockedIsLeast : Type 0

@@ -1,10 +1,8 @@
 -- The meaning of document 01 over an abstract store: what each call replies and makes of it, what a sound store is, and
 -- the same point by point, with the laws that tie the two. Rests on nothing.
 pub mod Lists
-pub mod Limits
 pub mod Store
 pub mod Points
-pub mod Replies
 pub mod Outcomes
 pub mod Edits
 pub mod Locking

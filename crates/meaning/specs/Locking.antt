@@ -1,18 +1,17 @@
 -- The calls Lock and Read. Rests on Outcomes and Edits.
 use Prim.Native.Nat.{ℕ, suc, _-_}
-use mathlib.Core.Bool.{Bool, true, false, cond, _&&_}
-use mathlib.Core.List.{List, [], _∷_}
+use mathlib.Core.Bool.{Bool, false, cond, _&&_}
 use lib.Dec.{leb, ltb}
-use Rattle.meaning.specs.Limits.{LAST, READ, WRITE}
-use Rattle.meaning.specs.Store.{blank, Version, Lock, Access, Rec, Store, slotOf, editAt, recAt, withEdit}
+use Rattle.types.specs.Limits.{LAST, READ, WRITE}
+use Rattle.meaning.specs.Store.{blank, Version, Access, Rec, Store, slotOf, editAt, recAt, withEdit}
 use Rattle.meaning.specs.Store.{withRec, withLocks, accessOf, hasRead, newestBelow, versionOn}
 use Rattle.meaning.specs.Points.{firstBlocked, firstOpen, addLock}
-use Rattle.meaning.specs.Replies.{locked, read, own, again}
+use Rattle.types.specs.Replies.{locked, read, own, again}
 use Rattle.meaning.specs.Outcomes.{Outcome, replies, Verdict, pass, orElse, needs, unless, forOpen, hasRecord}
 use Rattle.meaning.specs.Outcomes.{isPoint, judge, accessRoom, lockRoom}
 use Rattle.meaning.specs.Edits.{withAccess}
-use Rattle.meaning.specs.declared.Extent.{Extent}
-use Rattle.meaning.specs.declared.Extent.the-variants.{All, Part}
+use Rattle.types.specs.declared.Extent.{Extent}
+use Rattle.types.specs.declared.Extent.the-variants.{All, Part}
 
 -- "A wants all points or none, P takes a part." Where what is taken of low..high ends, if it starts at from
 abbrev pub grantEnd : Extent → ℕ → ℕ → Rec → ℕ → ℕ → ℕ

@@ -7,16 +7,16 @@ use mathlib.Core.Bool.{false}
 use mathlib.Core.List.{List, [], _∷_}
 use lib.ListN.{length}
 use Rattle.meaning.specs.Store.{Value, Store, editAt, recAt, writtenOf, versionsUsed, locksUsed}
-use Rattle.meaning.specs.Replies.{Reply, ok, edit, locked, read, own, again, commit, nopoint, purged, at}
-use Rattle.meaning.specs.Replies.{refusing}
+use Rattle.types.specs.Replies.{Reply, ok, edit, locked, read, own, again, commit, nopoint, purged, at}
+use Rattle.types.specs.Replies.{refusing}
 use Rattle.meaning.specs.Outcomes.{handleAt}
 use Rattle.meaning.specs.Sound.{soundStore}
 use Rattle.meaning.specs.Pointwise.{Frozen, LowestHolder, EmptyCommonSet}
 use Rattle.meaning.specs.Causes.{OfHandle, OfOpen, OfRecord, OfCommit, OfPurge, OfAccess, OfGrant, NoFreeSlot}
 use Rattle.meaning.specs.Causes.{NoSuchEdit, HasEnded, StillOpen, BadPoint, OwnOrAgain, BelowFloor, NotCommon}
 use Rattle.meaning.specs.Causes.{LockedBelow, Judged, NoAccessRow}
-use Rattle.meaning.specs.declared.Call.{Call}
-use Rattle.meaning.specs.declared.Call.the-variants as C
+use Rattle.types.specs.declared.Call.{Call}
+use Rattle.types.specs.declared.Call.the-variants as C
 
 -- what ends the checks of a call: a refusal, "own or repeated reads", `nopoint`
 pub data Item : Type 0 where

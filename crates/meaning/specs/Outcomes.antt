@@ -5,11 +5,11 @@ use mathlib.Core.Bool.{Bool, true, false, cond, _&&_, _||_}
 use mathlib.Core.List.{List, [], _∷_}
 use lib.ListN.{length}
 use lib.Dec.{leb, ltb, eqb}
-use Rattle.meaning.specs.Limits.{LAST, OPEN}
-use Rattle.meaning.specs.Store.{Edit, Store, handle, slotOf, generationOf, editAt, recAt, inUse, names, writtenOf}
+use Rattle.types.specs.Limits.{LAST, OPEN}
+use Rattle.meaning.specs.Store.{Store, handle, slotOf, generationOf, editAt, recAt, inUse, names, writtenOf}
 use Rattle.meaning.specs.Store.{versionsUsed, locksUsed, accessesUsed}
 use Rattle.meaning.specs.Points.{frozen, holder}
-use Rattle.meaning.specs.Replies.{Reply, refusing}
+use Rattle.types.specs.Replies.{Reply, refusing}
 
 -- "its reply and the meaning of the lent store afterwards"
 pub record Outcome : Type 0 where

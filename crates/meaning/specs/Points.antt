@@ -1,12 +1,12 @@
 -- Points under locks, found from the ends of the lock rows: no definition here steps from point to point. The pointwise
 -- reading of each is a law (specs/Laws). Rests on Store.
 use Prim.Native.Nat.{ℕ, suc, _-_, max}
-use mathlib.Core.Bool.{Bool, true, false, not, cond, _&&_, _||_}
+use mathlib.Core.Bool.{Bool, not, cond, _&&_, _||_}
 use mathlib.Core.List.{List, [], _∷_, map, _++_}
 use lib.Dec.{leb, ltb, eqb}
 use Rattle.meaning.specs.Lists.{all, any, keep, least, greatest}
-use Rattle.meaning.specs.Limits.{LAST, SLOTS, READ, WRITE, SETTLED}
-use Rattle.meaning.specs.Store.{Version, Lock, Access, Rec, Edit, Store, recOf, recAt, hasRead}
+use Rattle.types.specs.Limits.{LAST, SLOTS, WRITE, SETTLED}
+use Rattle.meaning.specs.Store.{Lock, Access, Rec, Edit, Store, recOf, recAt, hasRead}
 
 -- Layout, lock: "mode (1 read, 2 write)": a write lock
 abbrev pub isWrite : Lock → Bool

@@ -7,11 +7,11 @@ use mathlib.Core.Logic.{_⊎_}
 use mathlib.Core.Bool.{true}
 use mathlib.Core.List.{List}
 use Rattle.meaning.specs.Lists.{_∈_}
-use Rattle.meaning.specs.Limits.{LAST, READ, WRITE, SETTLED}
+use Rattle.types.specs.Limits.{LAST, READ, WRITE, SETTLED}
 use Rattle.meaning.specs.Store.{Version, Lock, Access, Rec, Edit, Store, recOf, recAt, first}
 use Rattle.meaning.specs.Points.{lowest}
-use Rattle.meaning.specs.declared.Extent.{Extent}
-use Rattle.meaning.specs.declared.Extent.the-variants.{All, Part}
+use Rattle.types.specs.declared.Extent.{Extent}
+use Rattle.types.specs.declared.Extent.the-variants.{All, Part}
 
 -- "lies in an own write lock": the owner o has a lock of the mode m on the point p
 pub record LockOn (ls : List Lock) (o m p : ℕ) : Type 0 where

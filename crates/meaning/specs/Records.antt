@@ -1,14 +1,14 @@
 -- The calls Purge and View on a record, and Format and Point, which need no sound store. Rests on Outcomes.
-use Prim.Native.Nat.{ℕ, _+_, _*_, _-_}
-use mathlib.Core.Bool.{Bool, true, false, not, cond, _&&_}
-use mathlib.Core.List.{List, [], _∷_}
+use Prim.Native.Nat.{ℕ, _-_}
+use mathlib.Core.Bool.{Bool, not, cond, _&&_}
+use mathlib.Core.List.{[], _∷_}
 use lib.ListN.{length}
-use lib.Dec.{leb, ltb}
+use lib.Dec.{leb}
 use Rattle.meaning.specs.Lists.{any, keep, every}
-use Rattle.meaning.specs.Limits.{LAST, READINGS, SEATS, SETTLED, MAX-RECORDS, MAX-EDITS, MAX-ROWS}
-use Rattle.meaning.specs.Store.{Version, Lock, Counts, Rec, Store, fresh, recAt, withRec, newestAt}
+use Rattle.types.specs.Limits.{LAST, SETTLED, MAX-RECORDS, MAX-EDITS, MAX-ROWS}
+use Rattle.meaning.specs.Store.{Version, Counts, Rec, Store, fresh, recAt, withRec, newestAt}
 use Rattle.meaning.specs.Points.{isOwned, trimTo}
-use Rattle.meaning.specs.Replies.{Reply, ok, purged, at, point, refusing}
+use Rattle.types.specs.Replies.{ok, purged, at, point}
 use Rattle.meaning.specs.Outcomes.{Outcome, replies, Verdict, pass, needs, unless, hasRecord}
 
 -- "versions below v go, settled locks lose their points up to v, rows left empty go, and the floor is v"
@@ -68,7 +68,3 @@ goodCounts c =
 -- the length is the sum is for the words to say: fits
 unfoldable pub formatting : Bool → Counts → Store → Outcome
 formatting fits c s = unless s (needs (goodCounts c && fits) 16 pass) (replies (fresh c) ok)
-
--- "Point makes a point of a reading and a seat; it needs no store." 6: "reading, seat ... too large"
-abbrev pub pointing : ℕ → ℕ → Reply
-pointing reading seat = cond (ltb reading READINGS && ltb seat SEATS) (point (reading * SEATS + seat)) (refusing 6 [])

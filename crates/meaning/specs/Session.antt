@@ -3,15 +3,15 @@
 use Prim.Native.Nat.{ℕ}
 use mathlib.Core.Path.{_≡_}
 use mathlib.Core.List.{List, [], _∷_}
-use Rattle.meaning.specs.Store.{Never, Written, Counts, Store}
-use Rattle.meaning.specs.Replies.{Reply, ok, edit, locked, read, commit, purged, refusing}
+use Rattle.meaning.specs.Store.{Never, Written, Store}
+use Rattle.types.specs.Replies.{Reply, ok, edit, locked, read, commit, purged, refusing}
 use Rattle.meaning.specs.Calls.{Line, format, call, lines}
-use Rattle.meaning.specs.declared.Handle.{Handle}
-use Rattle.meaning.specs.declared.Point.{Point}
-use Rattle.meaning.specs.declared.Extent.the-variants.{All, Part}
-use Rattle.meaning.specs.declared.Pick.the-variants.{Earliest, Latest}
-use Rattle.meaning.specs.declared.Finish.the-variants.{Settle}
-use Rattle.meaning.specs.declared.Call.the-variants as C
+use Rattle.types.specs.declared.Handle.{Handle}
+use Rattle.types.specs.declared.Point.{Point}
+use Rattle.types.specs.declared.Extent.the-variants.{All, Part}
+use Rattle.types.specs.declared.Pick.the-variants.{Earliest, Latest}
+use Rattle.types.specs.declared.Finish.the-variants.{Settle}
+use Rattle.types.specs.declared.Call.the-variants as C
 
 -- "edit 65": the handle of the first begin in slot 1
 abbrev edit-65 : Handle

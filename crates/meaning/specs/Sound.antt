@@ -2,13 +2,13 @@
 -- (That the length fits the counts, that every row is on one chain, that lock rows name their record and that written
 -- marks are 0 or 1 are clauses on the words.) Rests on Store and Points.
 use Prim.Native.Nat.{ℕ, suc}
-use mathlib.Core.Bool.{Bool, true, false, not, _&&_, _||_}
+use mathlib.Core.Bool.{Bool, false, not, _&&_, _||_}
 use mathlib.Core.List.{List, [], _∷_}
 use lib.ListN.{length}
 use lib.Dec.{leb, ltb, eqb}
 use Rattle.meaning.specs.Lists.{every, all, any, pairwise, allFrom}
-use Rattle.meaning.specs.Limits.{LAST, GENERATIONS, READ, WRITE, SETTLED, FREE, COMMITTED, ABORTED}
-use Rattle.meaning.specs.Store.{Version, Lock, Access, Rec, Edit, Store, countsOf, editOf, recOf, inUse, accessOf}
+use Rattle.types.specs.Limits.{LAST, GENERATIONS, READ, WRITE, SETTLED, FREE, COMMITTED, ABORTED}
+use Rattle.meaning.specs.Store.{Version, Lock, Rec, Edit, Store, countsOf, editOf, recOf, inUse, accessOf}
 use Rattle.meaning.specs.Store.{hasRead, versionsUsed, locksUsed, accessesUsed}
 use Rattle.meaning.specs.Points.{isWrite, isOwned, covers, meets, inCommon}
 use Rattle.meaning.specs.Records.{goodCounts}

@@ -7,7 +7,7 @@ use mathlib.Core.Bool.{true}
 use mathlib.Core.List.{List, []}
 use lib.ListN.{length}
 use Rattle.meaning.specs.Lists.{_∈_}
-use Rattle.meaning.specs.Limits.{LAST, GENERATIONS, READ, WRITE, SETTLED, FREE, COMMITTED, ABORTED}
+use Rattle.types.specs.Limits.{LAST, GENERATIONS, READ, WRITE, SETTLED, FREE, COMMITTED, ABORTED}
 use Rattle.meaning.specs.Store.{Version, Lock, Access, Rec, Edit, Store, countsOf, editOf, recOf, editAt, recAt}
 use Rattle.meaning.specs.Store.{accessOf, versionsUsed, locksUsed, accessesUsed}
 use Rattle.meaning.specs.Records.{goodCounts}

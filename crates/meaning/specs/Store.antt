@@ -1,26 +1,20 @@
 -- The abstract store: what the words of a sound slice mean. Row numbers, chains and free rows are left out.
 -- Rests on Lists and Limits; Version, Lock, Access, Value and Counts are the types of src/lib.rt.
-use Prim.Native.Nat.{ℕ, zero, suc, _+_, _*_, _/_, _%_}
-use mathlib.Core.Bool.{Bool, true, false, not}
-use mathlib.Core.List.{List, [], _∷_}
+use Prim.Native.Nat.{ℕ, zero, suc}
+use mathlib.Core.Bool.{Bool, false, not}
+use mathlib.Core.List.{List, []}
 use lib.ListN.{length, getD, set, replicate}
 use lib.Dec.{leb, ltb, eqb}
 use Rattle.meaning.specs.Lists.{any, find, total, keep}
-use Rattle.meaning.specs.Limits.{SLOTS, GENERATIONS, FREE, OPEN}
-pub use Rattle.meaning.specs.declared.Value.{Value}
-pub use Rattle.meaning.specs.declared.Value.the-variants.{Never, Written}
-pub use Rattle.meaning.specs.declared.Version.{Version}
-pub use Rattle.meaning.specs.declared.Lock.{Lock}
-pub use Rattle.meaning.specs.declared.Access.{Access}
-pub use Rattle.meaning.specs.declared.Counts.{Counts}
-
--- "a pending value (any 64 bits)": what an edit writes
-abbrev pub Val : Type 0
-Val = ℕ
-
--- Layout, access: "value (0 until written)"
-abbrev pub blank : Val
-blank = 0
+use Rattle.types.specs.Limits.{FREE}
+pub use Rattle.types.specs.declared.Value.{Value}
+pub use Rattle.types.specs.declared.Value.the-variants.{Never, Written}
+pub use Rattle.types.specs.Values.{Val, blank}
+pub use Rattle.types.specs.Numbers.{handle, slotOf, generationOf, nextGeneration}
+pub use Rattle.types.specs.declared.Version.{Version}
+pub use Rattle.types.specs.declared.Lock.{Lock}
+pub use Rattle.types.specs.declared.Access.{Access}
+pub use Rattle.types.specs.declared.Counts.{Counts}
 
 -- Layout, record: "first version, first lock, floor". The paper's key: its versions from the newest, its locks, its
 -- floor (low-water mark: versions below it are purged)
@@ -75,22 +69,6 @@ countsOf s =
       locks = s .lockRows;
       accesses = s .accessRows;
     }
-
--- "An edit's handle is generation × 64 + slot"
-abbrev pub handle : ℕ → ℕ → ℕ
-handle generation slot = generation * SLOTS + slot
-
--- the slot of a handle
-abbrev pub slotOf : ℕ → ℕ
-slotOf h = h % SLOTS
-
--- the generation of a handle; a handle above 65,535 × 64 + 63 has one that no slot has
-abbrev pub generationOf : ℕ → ℕ
-generationOf h = h / SLOTS
-
--- "raises its generation by one, and after 65,535 comes 0"
-abbrev pub nextGeneration : ℕ → ℕ
-nextGeneration g = (g + 1) % GENERATIONS
 
 -- "edit slot | 1 to 63, named from 1": the edit of a slot; slot 0 and those past the end read as free
 unfoldable pub editOf : List Edit → ℕ → Edit

@@ -1,13 +1,13 @@
 // A call of any kind on sound words, for callers who prove them sound: the call of its kind, with no check. Rests on
-// the crates `meaning`, `tables`, `calls`, `locking`, `reading`, `endings`, `commits`, `purges` and `store`.
+// the crates `types`, `meaning`, `tables`, `calls`, `locking`, `reading`, `endings`, `commits`, `purges` and `store`.
 ghost use mathlib.Core.Path.{_≡_};
 ghost use mathlib.Core.Bool.{true};
-ghost use Rattle.meaning.specs.Replies.{ofAnswer};
+ghost use Rattle.types.specs.Replies.{ofAnswer};
 ghost use Rattle.meaning.specs.Calls.{act};
 ghost use Rattle.tables.specs.Words.{lent, soundWords};
 ghost use Rattle.store.specs.Answers.{Does};
-use meaning::Answer;
-use meaning::Call;
+use types::Answer;
+use types::Call;
 
 pub fn perform(words: &mut [u64], call: Call) -> Answer
     requires { ⌜ soundWords (lent (now words)) ≡ true ⌝ }

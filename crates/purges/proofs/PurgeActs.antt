@@ -9,12 +9,12 @@ use mathlib.Core.List.{List, []}
 use lib.Dec.{leb, ltb}
 use borrow.Author.Tests.{leb-true, ltb-true}
 use Rattle.meaning.specs.Lists.{_∈_, any, keep, find}
-use Rattle.meaning.specs.Limits.{LAST}
-use Rattle.meaning.specs.declared.Counts.{Counts}
-use Rattle.meaning.specs.declared.Version.{Version}
+use Rattle.types.specs.Limits.{LAST}
+use Rattle.types.specs.declared.Counts.{Counts}
+use Rattle.types.specs.declared.Version.{Version}
 use Rattle.meaning.specs.Store.{Rec, Store, first, recAt, withRec, withLocks, newestAt}
 use Rattle.meaning.specs.Points.{trimTo}
-use Rattle.meaning.specs.Replies.{Reply, purged, refusing}
+use Rattle.types.specs.Replies.{Reply, purged, refusing}
 use Rattle.meaning.specs.Outcomes.{hasRecord}
 use Rattle.meaning.specs.Records.{purgedRec, purgeTo, purging}
 use Rattle.meaning.proofs.Lists.{find-out}

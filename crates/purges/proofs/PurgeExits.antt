@@ -1,16 +1,15 @@
 -- The ways that Purge ends, one law for each return of the code. Rests on Verdicts of `calls`.
 use Prim.Native.Nat.{ℕ, _-_, _≤_, _<_}
 use mathlib.Core.Path.{_≡_, refl, _∙_}
-use mathlib.Core.Bool.{Bool, true, false, not, cond}
-use mathlib.Core.List.{List, []}
+use mathlib.Core.Bool.{true, false}
+use mathlib.Core.List.{[]}
 use lib.Dec.{leb}
-use lib.ListN.{length}
 use borrow.Author.Tests.{le-leb, lt-leb}
-use Rattle.meaning.specs.Limits.{LAST}
-use Rattle.meaning.specs.Store.{Rec, Store, recAt, withRec, newestAt}
-use Rattle.meaning.specs.Replies.{purged, refusing}
-use Rattle.meaning.specs.Outcomes.{Outcome, replies, Verdict, pass, needs, unless, hasRecord}
-use Rattle.meaning.specs.Records.{purgedRec, purgeVerdict, purgeTo, purgeChecks, purging}
+use Rattle.types.specs.Limits.{LAST}
+use Rattle.meaning.specs.Store.{Rec, Store, recAt, newestAt}
+use Rattle.types.specs.Replies.{purged, refusing}
+use Rattle.meaning.specs.Outcomes.{Outcome, replies, pass, needs, hasRecord}
+use Rattle.meaning.specs.Records.{purgeVerdict, purgeTo, purgeChecks, purging}
 use Rattle.calls.proofs.Verdicts.{needs-fails, needs-holds}
 use Rattle.endings.specs.Parts.{lockedBelow, purgedTo, purgeAll}
 

@@ -1,12 +1,13 @@
 // Purge on sound words: equal to its definition in the crate `meaning`, and leaving sound words. For callers who prove
 // the words sound (`requires soundWords`), as the calls of `calls` and `endings`. It goes along one record's versions
-// and locks. Rests on the crates `meaning`, `chains`, `tables`, `changes`, `trims`, `lookups`, `calls` and `endings`.
+// and locks. Rests on the crates `types`, `meaning`, `chains`, `tables`, `changes`, `trims`, `lookups`, `calls` and
+// `endings`.
 ghost use mathlib.Core.Path.{_≡_};
 ghost use mathlib.Core.Bool.{true, not, _&&_};
 ghost use Prim.Native.Nat.{_≤_, _<_};
 ghost use lib.Dec.{leb};
-ghost use Rattle.meaning.specs.Limits.{LAST, SETTLED};
-ghost use Rattle.meaning.specs.Replies.{ofPurge};
+ghost use Rattle.types.specs.Limits.{LAST, SETTLED};
+ghost use Rattle.types.specs.Replies.{ofPurge};
 ghost use Rattle.meaning.specs.Points.{isOwned};
 ghost use Rattle.meaning.specs.Records.{purgeTo, purging};
 ghost use Rattle.tables.specs.Layout.{Fits};
@@ -14,13 +15,13 @@ ghost use Rattle.tables.specs.Decode.{recordAt, decodeAt};
 ghost use Rattle.tables.specs.Words.{lent, soundWords, Well};
 ghost use Rattle.calls.specs.Contract.{Acts, Makes};
 ghost use Rattle.endings.specs.Parts.{lockedBelow, purgeAll};
-use meaning::Counts;
-use meaning::LAST;
-use meaning::Lock;
-use meaning::Point;
-use meaning::PurgeReply;
-use meaning::Refusal;
-use meaning::SETTLED;
+use types::Counts;
+use types::LAST;
+use types::Lock;
+use types::Point;
+use types::PurgeReply;
+use types::Refusal;
+use types::SETTLED;
 
 // A lock of an unsettled edit at or below v.
 fn held_below(l: Lock, v: u64) -> bool
@@ -86,7 +87,7 @@ pub fn purge(w: &mut [u64], rec: u64, b: Point) -> PurgeReply
     if !calls::has_record(c, rec) {
         return PurgeReply::Refused(Refusal::NoRecord);
     }
-    let p = meaning::word_of_point(b);
+    let p = types::word_of_point(b);
     if LAST < p {
         return PurgeReply::Refused(Refusal::BadPoint);
     }

@@ -1,21 +1,22 @@
 -- The ways that Read ends, one law for each return of the code. Rests on Verdicts and Granting.
 use Prim.Native.Nat.{ℕ, _-_, _≤_, _<_}
-use mathlib.Core.Path.{_≡_, refl, sym, ap, _∙_}
+use mathlib.Core.Path.{_≡_, sym, ap, _∙_}
 use mathlib.Core.Bool.{Bool, true, false}
 use mathlib.Core.List.{List, []}
 use lib.Dec.{ltb}
 use borrow.Author.Tests.{lt-ltb}
-use Rattle.meaning.specs.Limits.{READ, SLOTS}
-use Rattle.meaning.specs.Store.{Store, slotOf, editAt, recAt, accessOf, hasRead, versionOn}
+use Rattle.types.specs.Limits.{READ, SLOTS}
+use Rattle.meaning.specs.Store.{Store, editAt, recAt, accessOf, versionOn}
+use Rattle.types.specs.Numbers.{slotOf}
 use Rattle.meaning.specs.Points.{firstBlocked}
-use Rattle.meaning.specs.Replies.{read, own, again, refusing}
+use Rattle.types.specs.Replies.{read, own, again, refusing}
 use Rattle.meaning.specs.Outcomes.{Outcome, replies, Verdict, pass, refuse, orElse, needs, unless, knows, isOpen}
 use Rattle.meaning.specs.Outcomes.{hasRecord, isPoint, judge, accessRoom, lockRoom}
 use Rattle.meaning.specs.Locking.{readVersion, readFrom, readEnd, readGranted, readVerdict, readStore, readNew}
 use Rattle.meaning.specs.Locking.{readOpen, readChecks, reading}
-use Rattle.meaning.specs.declared.Version.{Version}
-use Rattle.meaning.specs.declared.Access.{Access}
-use Rattle.meaning.specs.declared.Extent.{Extent}
+use Rattle.types.specs.declared.Version.{Version}
+use Rattle.types.specs.declared.Access.{Access}
+use Rattle.types.specs.declared.Extent.{Extent}
 use Rattle.blocking.specs.declared.Blocked.{Blocked}
 use Rattle.blocking.specs.Search.{firstJudged}
 use Rattle.calls.specs.declared.Grant.the-variants.{Taken, Judged}

@@ -1,29 +1,30 @@
 -- What Read has done at each of its returns. Rests on Acting, ReadExits and CallsKeep of `meaning`.
-use Prim.Native.Nat.{ℕ, suc, _+_, _-_, _≤_, _<_}
+use Prim.Native.Nat.{ℕ, _+_, _-_, _≤_, _<_}
 use mathlib.Core.Path.{_≡_, refl, sym, ap, _∙_}
-use mathlib.Core.Bool.{Bool, true, false, _&&_}
+use mathlib.Core.Bool.{true, false}
 use mathlib.Core.List.{List, []}
 use native.Mathlib.Omega.{arith}
 use lib.Dec.{leb, ltb}
-use borrow.Author.Tests.{ltb-true, lt-ltb, le-ltb, le-leb, lt-leb}
+use borrow.Author.Tests.{lt-ltb, le-ltb, le-leb, lt-leb}
 use Rattle.chains.specs.Walk.{IsRow}
-use Rattle.meaning.specs.Limits.{LAST, READ, SLOTS}
-use Rattle.meaning.specs.Store.{Rec, Edit, Store, slotOf, editAt, recAt, accessOf, newestBelow, versionOn, locksUsed}
+use Rattle.types.specs.Limits.{LAST, READ, SLOTS}
+use Rattle.meaning.specs.Store.{Rec, Edit, Store, editAt, recAt, accessOf, newestBelow, versionOn, locksUsed}
+use Rattle.types.specs.Numbers.{slotOf}
 use Rattle.meaning.specs.Points.{addLock}
-use Rattle.meaning.specs.Replies.{Reply, read, own, again, refusing}
-use Rattle.meaning.specs.Outcomes.{Outcome, replies, refuse, knows, isOpen, hasRecord, isPoint, accessRoom, lockRoom}
+use Rattle.types.specs.Replies.{Reply, read, own, again, refusing}
+use Rattle.meaning.specs.Outcomes.{replies, refuse, knows, isOpen, hasRecord, accessRoom, lockRoom}
 use Rattle.meaning.specs.Edits.{withAccess}
 use Rattle.meaning.specs.Locking.{withLock, readVersion, readFrom, readStore, readNew, readOpen, reading}
-use Rattle.meaning.specs.declared.Access.{Access}
-use Rattle.meaning.specs.declared.Counts.{Counts}
-use Rattle.meaning.specs.declared.Extent.{Extent}
-use Rattle.meaning.specs.declared.Version.{Version}
+use Rattle.types.specs.declared.Access.{Access}
+use Rattle.types.specs.declared.Counts.{Counts}
+use Rattle.types.specs.declared.Extent.{Extent}
+use Rattle.types.specs.declared.Version.{Version}
 use Rattle.meaning.proofs.Lists.{and-in}
 use Rattle.meaning.proofs.CallsKeep.{read-keeps}
 use Rattle.meaning.proofs.Granted.{read-at}
 use Rattle.tables.specs.Layout.{countsOf}
 use Rattle.tables.specs.Decode.{recordAt, slotAt, decodeAt}
-use Rattle.tables.specs.Words.{lent, soundWords, Well}
+use Rattle.tables.specs.Words.{lent, soundWords}
 use Rattle.tables.proofs.Decoded.{rec-at, edit-at}
 use Rattle.changes.specs.Becomes.{Becomes, onLocks, onEdit}
 use Rattle.blocking.specs.declared.Blocked.{Blocked}

@@ -1,32 +1,32 @@
 // Read on sound words: equal to its definition in the crate `meaning`, and leaving sound words. For callers who prove
 // the words sound (`requires soundWords`), as the calls of `calls`. It goes along the edit's accesses, and along one
-// record's versions and locks. Rests on the crates `meaning`, `chains`, `tables`, `changes`, `slots`, `lookups`,
-// `blocking` and `calls`.
+// record's versions and locks. Rests on the crates `types`, `meaning`, `chains`, `tables`, `changes`, `slots`,
+// `lookups`, `blocking` and `calls`.
 ghost use mathlib.Core.Path.{_≡_};
 ghost use mathlib.Core.Bool.{true};
 ghost use Prim.Native.Nat.{_≤_, _<_};
 ghost use Rattle.chains.specs.Walk.{IsRow};
-ghost use Rattle.meaning.specs.Limits.{LAST};
+ghost use Rattle.types.specs.Limits.{LAST};
 ghost use Rattle.meaning.specs.Locking.{readNew, readOpen, reading};
-ghost use Rattle.meaning.specs.Replies.{ofRead};
-ghost use Rattle.meaning.specs.declared.Extent.the-variants.{Part};
+ghost use Rattle.types.specs.Replies.{ofRead};
+ghost use Rattle.types.specs.declared.Extent.the-variants.{Part};
 ghost use Rattle.tables.specs.Decode.{decodeAt, AccessRow};
 ghost use Rattle.tables.specs.Words.{lent, soundWords};
 ghost use Rattle.calls.specs.Contract.{Acts, Ready, Makes};
 ghost use Rattle.calls.specs.Grants.{readGrant};
 ghost use Rattle.calls.specs.Parts.{readTaken};
 use calls::Grant;
-use meaning::Access;
-use meaning::Counts;
-use meaning::Extent;
-use meaning::Handle;
-use meaning::LAST;
-use meaning::Lock;
-use meaning::Point;
-use meaning::READ;
-use meaning::ReadReply;
-use meaning::Refusal;
-use meaning::Version;
+use types::Access;
+use types::Counts;
+use types::Extent;
+use types::Handle;
+use types::LAST;
+use types::Lock;
+use types::Point;
+use types::READ;
+use types::ReadReply;
+use types::Refusal;
+use types::Version;
 
 fn read_grant(w: &[u64], c: Counts, extent: Extent, k: u64, r: usize, low: u64, high: u64) -> Grant
     requires { ⌜ Ready c (now w) × (r < c .records) × (1 ≤ low) × (low ≤ high) × (high ≤ LAST) × (1 ≤ k) ⌝ }
@@ -98,8 +98,8 @@ fn read_taken(
     );
     let value = v.value;
     ReadReply::Read(
-        meaning::point_of_word(v.point),
-        meaning::point_of_word(end),
+        types::point_of_word(v.point),
+        types::point_of_word(end),
         value,
     )
 }
@@ -144,7 +144,7 @@ fn read_open(w: &mut [u64], c: Counts, k: usize, r: usize, m: u64, extent: Exten
     if 0 < a.from {
         let v = lookups::version_on(w, c, r, a.from - 1);
         let value = v.value;
-        return ReadReply::Again(meaning::point_of_word(a.from - 1), value);
+        return ReadReply::Again(types::point_of_word(a.from - 1), value);
     }
     read_new(w, c, k, r, i, m, extent)
 }
@@ -166,7 +166,7 @@ pub fn read(w: &mut [u64], h: Handle, rec: u64, m: Point, extent: Extent) -> Rea
     if !calls::has_record(c, rec) {
         return ReadReply::Refused(Refusal::NoRecord);
     }
-    let n = meaning::word_of_point(m);
+    let n = types::word_of_point(m);
     if n < 1 {
         return ReadReply::Refused(Refusal::BadPoint);
     }

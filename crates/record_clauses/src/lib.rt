@@ -1,7 +1,7 @@
 // The clauses of a record: its locks each and in pairs, its versions, and what backs each version; `records_sound` is
 // all of them for all records. It asks that the slots are sound, for then the marks of `lock_marks` say of each lock
-// whether its owner wrote the record. Rests on the crates `meaning`, `locks`, `chains`, `tables`, `lookups` and
-// `clauses` and on the module `lock_marks`.
+// whether its owner wrote the record. Rests on the crates `types`, `meaning`, `locks`, `chains`, `tables`, `lookups`
+// and `clauses` and on the module `lock_marks`.
 mod lock_marks;
 
 ghost use mathlib.Core.Path.{_≡_};
@@ -11,7 +11,7 @@ ghost use Prim.Native.Nat.{ℕ, suc, _≤_, _<_};
 ghost use Rattle.chains.specs.Lists.{occ};
 ghost use Rattle.chains.specs.Walk.{IsRow, rows};
 ghost use Rattle.chains.specs.Table.{link};
-ghost use Rattle.meaning.specs.Limits.{LAST};
+ghost use Rattle.types.specs.Limits.{LAST};
 ghost use Rattle.meaning.specs.Lists.{all, any, pairwise};
 ghost use Rattle.meaning.specs.Store.{accessOf};
 ghost use Rattle.meaning.specs.Sound.{agree, wroteAt, backs, soundRec};
@@ -23,13 +23,13 @@ ghost use Rattle.clauses.specs.Clauses.{fallsTo, versionsSound, isBacked, recor
 ghost use Rattle.clauses.specs.Marks.{Writers};
 use lock_marks::MARKS;
 use lock_marks::mark_slots;
-use meaning::COMMITTED;
-use meaning::Counts;
-use meaning::LAST;
-use meaning::Lock;
-use meaning::READ;
-use meaning::SETTLED;
-use meaning::WRITE;
+use types::COMMITTED;
+use types::Counts;
+use types::LAST;
+use types::Lock;
+use types::READ;
+use types::SETTLED;
+use types::WRITE;
 
 // The locks of a record, each by itself: its span, its mode, its owner.
 

@@ -1,6 +1,6 @@
 // Marks of lock rows, so that one step tells whether a lock's owner wrote the record: for each record that an edit has
 // written, the rows of its own locks on that record become 1. Marks of the crate `clauses` has the same marks on lists.
-// Rests on the crates `meaning`, `chains`, `tables` and `clauses`.
+// Rests on the crates `types`, `chains`, `tables` and `clauses`.
 ghost use mathlib.Core.Path.{_≡_};
 ghost use Prim.Native.Nat.{_<_};
 ghost use lib.ListN.{length};
@@ -8,11 +8,11 @@ ghost use Rattle.chains.specs.Walk.{IsRow};
 ghost use Rattle.tables.specs.Layout.{Fits};
 ghost use Rattle.tables.specs.Decode.{slotAt, lockRows};
 ghost use Rattle.clauses.specs.Marks.{MARKS, ownMark, markOwn, markAccess, markAccesses, markSlots};
-use meaning::Access;
-use meaning::Counts;
+use types::Access;
+use types::Counts;
 
 // A mark for each row number from 0 to the last, so that a row is its own index.
-pub const MARKS: usize = meaning::MAX_ROWS + 1;
+pub const MARKS: usize = types::MAX_ROWS + 1;
 
 fn own_mark(w: &[u64], c: Counts, k: u64, i: usize, old: u8) -> u8
     requires { ⌜ Fits c (now w) × IsRow (c .locks) i ⌝ }

@@ -3,8 +3,8 @@
 // that is not sound must reply `no 1` and keep every word; on the sound one each call has another reply, so that the
 // lines can differ. Rests on `store` and, for the text of calls and replies, on `lines`.
 use fields::Parsed;
-use meaning::Call;
 use replies::Line;
+use types::Call;
 
 // The store 2 3 4 8 8 in 122 words: where its parts begin.
 const WORDS: usize = 122;

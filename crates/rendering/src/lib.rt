@@ -1,13 +1,13 @@
 // The line that prints the answer of `perform`, for every program that runs calls read from text. Rests on the crates
-// `meaning`, `replies` and `value_replies`.
+// `types`, `replies` and `value_replies`.
 ghost use mathlib.Core.Path.{_≡_};
-ghost use Rattle.meaning.specs.Replies.{ofAnswer};
+ghost use Rattle.types.specs.Replies.{ofAnswer};
 ghost use Rattle.replies.specs.Lines.{lineOf};
-use meaning::Answer;
 use replies::Line;
 use replies::line_of_abort;
 use replies::line_of_settle;
 use replies::line_of_write;
+use types::Answer;
 use value_replies::line_of_begin;
 use value_replies::line_of_commit;
 use value_replies::line_of_lock;

@@ -1,7 +1,7 @@
 -- The line of each reply of document 01: its kind and its values, with a case of its own for refusal 8. Rests on
--- Replies of `meaning` and the type Line.
+-- Replies of `types` and the type Line.
 use mathlib.Core.List.{[], _∷_}
-use Rattle.meaning.specs.Replies as R
+use Rattle.types.specs.Replies as R
 use Rattle.replies.specs.declared.Line.{Line}
 use Rattle.replies.specs.declared.Line.the-variants as L
 

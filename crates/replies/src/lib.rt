@@ -1,14 +1,14 @@
 // What a line prints, and the line of a refusal and of each call that answers `ok`, by meaning's number and values of
-// its case. `value_replies` has the calls that answer values; `printing` writes a line. Rests on the crate `meaning`.
+// its case. `value_replies` has the calls that answer values; `printing` writes a line. Rests on the crate `types`.
 ghost use mathlib.Core.Path.{_≡_};
-ghost use Rattle.meaning.specs.Replies.{ofRefusal, ofFormat, ofWrite, ofAbort, ofSettle};
+ghost use Rattle.types.specs.Replies.{ofRefusal, ofFormat, ofWrite, ofAbort, ofSettle};
 ghost use Rattle.replies.specs.Lines.{lineOf};
-use meaning::AbortReply;
-use meaning::FormatReply;
-use meaning::Refusal;
-use meaning::SettleReply;
-use meaning::Value;
-use meaning::WriteReply;
+use types::AbortReply;
+use types::FormatReply;
+use types::Refusal;
+use types::SettleReply;
+use types::Value;
+use types::WriteReply;
 
 // What a line prints: a reply, or `?`.
 pub enum Line {
@@ -39,7 +39,7 @@ pub fn line_of_refusal(r: Refusal) -> Line
         Refusal::NoRecord => Line::No(5),
         Refusal::BadPoint => Line::No(6),
         Refusal::BelowFloor => Line::No(7),
-        Refusal::Held(h) => Line::Held(meaning::word_of_handle(h)),
+        Refusal::Held(h) => Line::Held(types::word_of_handle(h)),
         Refusal::Frozen => Line::No(9),
         Refusal::NoAccessRow => Line::No(10),
         Refusal::NoLockRow => Line::No(11),

@@ -2,7 +2,6 @@
 // runs the public calls of the store. It reads and writes in blocks, and its memory does not grow with the input. Rests
 // on the crates `io`, `libc`, `lines`, `gathering`, which makes lines of bytes, and `answers`, which runs a line on the
 // store. This file reads blocks; `output` collects what is to be written.
-ghost use Prim.Native.Nat.{_≤_};
 ghost use lib.ListN.{length};
 ghost use Rattle.script.specs.Run.{Inside};
 

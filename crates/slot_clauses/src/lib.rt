@@ -1,24 +1,24 @@
 // The clauses of a slot: its words, the records that its accesses name, its reads, and its point; `slots_sound` is all
-// of them for all slots. Rests on the crates `meaning`, `locks`, `chains`, `tables`, `common` (for the common set) and
-// `clauses`.
+// of them for all slots. Rests on the crates `types`, `meaning`, `locks`, `chains`, `tables`, `common` (for the common
+// set) and `clauses`.
 ghost use mathlib.Core.Path.{_≡_};
 ghost use mathlib.Core.Bool.{true, _||_};
 ghost use Prim.Native.Nat.{_-_, _<_};
 ghost use lib.Dec.{eqb};
 ghost use Rattle.chains.specs.Walk.{IsRow};
-ghost use Rattle.meaning.specs.Limits.{COMMITTED};
+ghost use Rattle.types.specs.Limits.{COMMITTED};
 ghost use Rattle.meaning.specs.Lists.{any};
 ghost use Rattle.meaning.specs.Sound.{namesExisting, startsRead, isPresent, pointCommon, freeIdle, soundEdit};
 ghost use Rattle.tables.specs.Layout.{Fits};
 ghost use Rattle.tables.specs.Decode.{lockAt, versionAt, recordAt, slotAt, recordsOf};
 ghost use Rattle.clauses.specs.Clauses.{standsBefore, readSound, accessesSound, slotListed, Stamps, slotsSound};
-use meaning::ABORTED;
-use meaning::Access;
-use meaning::COMMITTED;
-use meaning::Counts;
-use meaning::FREE;
-use meaning::GENERATIONS;
-use meaning::MAX_RECORDS;
+use types::ABORTED;
+use types::Access;
+use types::COMMITTED;
+use types::Counts;
+use types::FREE;
+use types::GENERATIONS;
+use types::MAX_RECORDS;
 
 // A record read: the edit has a read lock that starts just after the point read, and that point is a present version,
 // or 0 under floor 0.

@@ -1,8 +1,8 @@
 -- Changes of one slot's accesses: a row taken, filled and put first; a row filled again; all rows freed. Rests on
 -- OneTable, Stored, Rooms, Lists.
-use Prim.Native.Nat.{ℕ, zero, suc, _≤_, _<_}
+use Prim.Native.Nat.{ℕ, _≤_, _<_}
 use mathlib.Core.Path.{_≡_, refl, sym, ap, _∙_}
-use mathlib.Core.Bool.{Bool, true, false, not, cond}
+use mathlib.Core.Bool.{true, false}
 use mathlib.Core.List.{List, [], _∷_, map, tail, reverseAux}
 use native.Mathlib.Omega.{arith}
 use native.Mathlib.Decide.{ℕ-discrete}
@@ -10,15 +10,15 @@ use lib.Dec.{leb}
 use Rattle.chains.specs.Lists.{occ, allOf, lastOr}
 use Rattle.chains.specs.Walk.{IsRow}
 use Rattle.chains.specs.Table.{field, rowsOf}
-use Rattle.chains.specs.Change.{Ready, Changed, Moved, Taken, Split, Emptied}
+use Rattle.chains.specs.Change.{Ready, Changed, Moved, Taken, Emptied}
 use Rattle.chains.proofs.Occurs.{occ-here}
 use Rattle.chains.proofs.Words.{on-chain}
-use Rattle.chains.proofs.Frames.{only-elsewhere, field-kept, else-refl}
+use Rattle.chains.proofs.Frames.{only-elsewhere, field-kept}
 use Rattle.chains.proofs.Entries.{Filled, filled-start, pushed-entries, other-entries, entries-kept}
-use Rattle.meaning.specs.Store.{Edit, withEdit, editAt, accessesUsed, isOf, names}
+use Rattle.meaning.specs.Store.{Edit, withEdit, editAt, accessesUsed, names}
 use Rattle.meaning.specs.Edits.{withAccess}
-use Rattle.meaning.specs.declared.Access.{Access}
-use Rattle.meaning.specs.declared.Counts.{Counts}
+use Rattle.types.specs.declared.Access.{Access}
+use Rattle.types.specs.declared.Counts.{Counts}
 use Rattle.tables.specs.Layout.{accessTable, accessHeads, Fits, A-RECORD, A-FROM, A-WRITTEN, A-VALUE}
 use Rattle.tables.specs.Decode.{accessAt, accessRows, accessesOf, slotAt, decodeAt}
 use Rattle.writes.specs.Rows.{accessStored}

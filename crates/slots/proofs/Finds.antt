@@ -15,7 +15,7 @@ use Rattle.chains.proofs.Words.{on-chain}
 use Rattle.meaning.specs.Lists.{any}
 use Rattle.meaning.specs.Store.{editAt, isOf, names, accessesUsed}
 use Rattle.meaning.specs.Outcomes.{accessRoom}
-use Rattle.meaning.specs.declared.Counts.{Counts}
+use Rattle.types.specs.declared.Counts.{Counts}
 use Rattle.tables.specs.Layout.{accessTable, accessHeads}
 use Rattle.tables.specs.Decode.{accessAt, accessRows, accessesOf, decodeAt}
 use Rattle.tables.specs.Words.{Well}

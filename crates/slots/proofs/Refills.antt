@@ -1,10 +1,10 @@
 -- A row of a slot's chain that is filled again, by an access of the record that it names: its entry alone changes.
 -- Rests on Accesses and on Stored and Lists of `changes`.
-use Prim.Native.Nat.{ℕ, suc, _≤_, _<_}
+use Prim.Native.Nat.{ℕ, _≤_}
 use mathlib.Core.Path.{_≡_, refl, sym, ap, _∙_}
 use mathlib.Core.Logic.{_⊎_, inl, inr}
-use mathlib.Core.Bool.{Bool, true, false, not, cond}
-use mathlib.Core.List.{List, [], _∷_, map}
+use mathlib.Core.Bool.{true, false, not, cond}
+use mathlib.Core.List.{List, map}
 use native.Mathlib.Omega.{arith}
 use native.Mathlib.Decide.{ℕ-discrete}
 use lib.Dec.{eqb}
@@ -20,13 +20,12 @@ use Rattle.meaning.specs.Lists.{any, pairwise}
 use Rattle.meaning.specs.Store.{Edit, withEdit, editAt, isOf, names}
 use Rattle.meaning.specs.Edits.{withAccess}
 use Rattle.meaning.specs.Sound.{namesOnce}
-use Rattle.meaning.specs.declared.Access.{Access}
-use Rattle.meaning.specs.declared.Counts.{Counts}
+use Rattle.types.specs.declared.Access.{Access}
+use Rattle.types.specs.declared.Counts.{Counts}
 use Rattle.tables.specs.Layout.{accessTable, accessHeads}
-use Rattle.tables.specs.Decode.{accessAt, accessRows, accessesOf, slotAt, decodeAt}
+use Rattle.tables.specs.Decode.{accessAt, accessRows, accessesOf, decodeAt}
 use Rattle.writes.specs.Rows.{accessStored}
 use Rattle.tables.specs.Words.{Well, marked}
-use Rattle.tables.proofs.Decoded.{edit-at}
 use Rattle.changes.specs.Becomes.{Becomes, withAccesses}
 use Rattle.changes.proofs.Parts.{all-same}
 use Rattle.changes.proofs.OneTable.{accesses-become}

@@ -1,6 +1,6 @@
 // Changes of a slot and of its accesses, as those of `changes`: each leaves the words well formed and equals a function
 // of the decoded store; the callers prove that the words are well formed (`Well`), that slots are in range, and that
-// there is room. Rests on the crates `meaning`, `chains`, `updates`, `tables`, `writes` and `changes`.
+// there is room. Rests on the crates `types`, `meaning`, `chains`, `updates`, `tables`, `writes` and `changes`.
 ghost use mathlib.Core.Path.{_≡_};
 ghost use mathlib.Core.Bool.{true, false};
 ghost use mathlib.Core.List.{[]};
@@ -8,7 +8,7 @@ ghost use Prim.Native.Nat.{_≤_, _<_};
 ghost use Rattle.chains.specs.Lists.{occ};
 ghost use Rattle.chains.specs.Walk.{IsRow};
 ghost use Rattle.chains.specs.Change.{Taken, Moved};
-ghost use Rattle.meaning.specs.Limits.{GENERATIONS, FREE};
+ghost use Rattle.types.specs.Limits.{GENERATIONS, FREE};
 ghost use Rattle.meaning.specs.Store.{editAt, names, accessesUsed};
 ghost use Rattle.meaning.specs.Outcomes.{accessRoom};
 ghost use Rattle.meaning.specs.Sound.{namesOnce};
@@ -20,10 +20,10 @@ ghost use Rattle.tables.specs.Words.{Well};
 ghost use Rattle.changes.specs.Becomes.{Becomes};
 ghost use Rattle.changes.specs.Becomes.{withGeneration};
 ghost use Rattle.changes.specs.Becomes.{withAccesses, onEdit};
-use meaning::Access;
-use meaning::Counts;
-use meaning::FREE;
-use meaning::OPEN;
+use types::Access;
+use types::Counts;
+use types::FREE;
+use types::OPEN;
 
 // The slot's state and commit point.
 pub fn set_state(w: &mut [u64], c: Counts, k: usize, state: u64, point: u64)
@@ -51,7 +51,7 @@ pub fn open_slot(w: &mut [u64], c: Counts, k: usize)
     ensures { λ _. ⌜ Becomes c (now (w .exit)) (begun (decodeAt c (now (w .entry))) k) ⌝ }
 {
     let g = tables::generation_of(w, c, k);
-    let next = meaning::next_generation(g as u16);
+    let next = types::next_generation(g as u16);
     set_generation(w, c, k, next as u64);
     set_state(w, c, k, OPEN, 0);
 }

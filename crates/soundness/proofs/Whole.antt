@@ -19,8 +19,8 @@ use Rattle.meaning.specs.Lists.{allFrom}
 use Rattle.meaning.specs.Records.{goodCounts}
 use Rattle.meaning.specs.Store.{countsOf, versionsUsed, locksUsed, accessesUsed}
 use Rattle.meaning.specs.Sound.{rowsFit, soundRec, soundEdit, soundStore}
-use Rattle.meaning.specs.declared.Counts.{Counts}
-use Rattle.meaning.proofs.Lists.{and-in, and-left, and-right, every-at, test}
+use Rattle.types.specs.declared.Counts.{Counts}
+use Rattle.meaning.proofs.Lists.{and-in, and-left, and-right, every-at}
 use Rattle.tables.specs.Layout as Layout
 use Rattle.tables.specs.Layout.{HEADER, sizeOf, headerOk, Fits, versionTable, lockTable, accessTable, versionHeads}
 use Rattle.tables.specs.Layout.{lockHeads, accessHeads}

@@ -1,5 +1,5 @@
 // The clauses on the words: every row is on exactly one chain, lock rows name the record of their chain, written marks
-// are 0 or 1. `formed_at` is all of them; it equals `formedAt` of tables/specs/Words. Rests on the crates `meaning`,
+// are 0 or 1. `formed_at` is all of them; it equals `formedAt` of tables/specs/Words. Rests on the crates `types`,
 // `chains` and `tables`.
 ghost use mathlib.Core.Path.{_≡_};
 ghost use Prim.Native.Nat.{_<_};
@@ -9,7 +9,7 @@ ghost use Rattle.tables.specs.Layout.{Fits};
 ghost use Rattle.tables.specs.Decode.{lockRows, accessRows};
 ghost use Rattle.tables.specs.Words.{versionsParted, locksParted, accessesParted, namesRecord, marked, locksNamed};
 ghost use Rattle.tables.specs.Words.{marksListed, formedAt};
-use meaning::Counts;
+use types::Counts;
 
 // The chains.
 

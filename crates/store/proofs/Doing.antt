@@ -5,7 +5,7 @@ use mathlib.Core.Path.{_≡_, refl, sym, _∙_}
 use mathlib.Core.Bool.{Bool, true, false, false≢true}
 use mathlib.Core.List.{List, []}
 use Rattle.meaning.specs.Store.{Store}
-use Rattle.meaning.specs.Replies.{Reply, refusing}
+use Rattle.types.specs.Replies.{Reply, refusing}
 use Rattle.meaning.specs.Outcomes.{Outcome}
 use Rattle.tables.specs.Words.{lent, decode, soundWords}
 use Rattle.calls.specs.Contract.{Acts}

@@ -1,14 +1,13 @@
 -- A call of any kind is the call of its kind. Rests on Doing.
 use Prim.Native.Nat.{ℕ}
 use mathlib.Core.Path.{_≡_, refl, sym, _∙_}
-use mathlib.Core.Bool.{true}
 use mathlib.Core.List.{List}
 use Rattle.meaning.specs.Store.{Store}
-use Rattle.meaning.specs.Replies.{Reply}
+use Rattle.types.specs.Replies.{Reply}
 use Rattle.meaning.specs.Outcomes.{Outcome, replies, Verdict, pass, refuse, unless}
 use Rattle.meaning.specs.Records.{viewing, viewChecks}
 use Rattle.meaning.specs.Calls.{act}
-use Rattle.meaning.specs.declared.Call.{Call}
+use Rattle.types.specs.declared.Call.{Call}
 use Rattle.store.specs.Answers.{Does, Shows}
 
 -- the same outcome of every store

@@ -3,7 +3,7 @@
 use Prim.Native.Nat.{ℕ}
 use mathlib.Core.List.{List}
 use Rattle.meaning.specs.Store.{Store}
-use Rattle.meaning.specs.Replies.{Reply}
+use Rattle.types.specs.Replies.{Reply}
 use Rattle.meaning.specs.Outcomes.{Outcome}
 use Rattle.meaning.specs.Contract as contract
 use Rattle.tables.specs.Words.{Lent, lent, decode, soundWords}

@@ -1,45 +1,46 @@
 // The public calls of the store, on lent words. Each checks the words first (refusal 1) and then does what its
 // definition says; none has a `requires`. The contract of each settles its reply and what the words mean afterwards,
-// for every slice and argument. Rests on the crates `meaning`, `tables`, `soundness`, `format`, `calls`, `locking`,
-// `reading`, `endings`, `commits` and `purges`.
-ghost use Rattle.meaning.specs.Replies.{ofPoint, ofFormat, ofBegin, ofWrite, ofLock, ofRead, ofCommit, ofAbort};
-ghost use Rattle.meaning.specs.Replies.{ofSettle, ofPurge, ofView, ofAnswer};
+// for every slice and argument. Rests on the crates `types`, `meaning`, `tables`, `soundness`, `format`, `calls`,
+// `locking`, `reading`, `endings`, `commits` and `purges`.
+ghost use Rattle.types.specs.Replies.{ofPoint, ofFormat, ofBegin, ofWrite, ofLock, ofRead, ofCommit, ofAbort};
+ghost use Rattle.types.specs.Replies.{ofSettle, ofPurge, ofView, ofAnswer};
 ghost use Rattle.meaning.specs.Edits.{beginning, writing};
 ghost use Rattle.meaning.specs.Locking.{locking, reading};
 ghost use Rattle.meaning.specs.Ending.{committing, aborting, settling};
 ghost use mathlib.Core.Path.{_≡_};
-ghost use Rattle.meaning.specs.Records.{purging, viewing, pointing};
+ghost use Rattle.meaning.specs.Records.{purging, viewing};
+ghost use Rattle.types.specs.Numbers.{pointing};
 ghost use Rattle.format.specs.Format.{Formats};
 ghost use Rattle.meaning.specs.Calls.{act};
 ghost use Rattle.store.specs.Answers.{Does, Shows};
-use meaning::AbortReply;
-use meaning::Answer;
-use meaning::BeginReply;
-use meaning::Call;
-use meaning::CommitReply;
-use meaning::Counts;
-use meaning::Extent;
-use meaning::Finish;
-use meaning::FormatReply;
-use meaning::Handle;
-use meaning::LockReply;
-use meaning::Pick;
-use meaning::Point;
-use meaning::PointReply;
-use meaning::PurgeReply;
-use meaning::ReadReply;
-use meaning::Reading;
-use meaning::Refusal;
-use meaning::Seat;
-use meaning::SettleReply;
-use meaning::ViewReply;
-use meaning::WriteReply;
+use types::AbortReply;
+use types::Answer;
+use types::BeginReply;
+use types::Call;
+use types::CommitReply;
+use types::Counts;
+use types::Extent;
+use types::Finish;
+use types::FormatReply;
+use types::Handle;
+use types::LockReply;
+use types::Pick;
+use types::Point;
+use types::PointReply;
+use types::PurgeReply;
+use types::ReadReply;
+use types::Reading;
+use types::Refusal;
+use types::Seat;
+use types::SettleReply;
+use types::ViewReply;
+use types::WriteReply;
 
 // The point of a clock reading and a seat.
 pub fn point(reading: Reading, seat: Seat) -> PointReply
     ensures { λ r. ⌜ ofPoint r ≡ pointing (reading .0) (seat .0) ⌝ }
 {
-    meaning::make_point(reading, seat)
+    types::make_point(reading, seat)
 }
 
 // A fresh store in the slice, whatever it held.

@@ -1,14 +1,14 @@
 -- `formed`, which is computed, and `Well`, its plain facts: each from the other; soundness of well-formed words. Rests
 -- on Header.
-use Prim.Native.Nat.{ℕ, zero, suc, _≤_, _<_}
-use mathlib.Core.Path.{_≡_, refl, sym, ap, _∙_}
-use mathlib.Core.Bool.{Bool, true, _&&_}
+use Prim.Native.Nat.{ℕ, zero, suc, _≤_}
+use mathlib.Core.Path.{_≡_, refl, ap, _∙_}
+use mathlib.Core.Bool.{true}
 use mathlib.Core.List.{List, [], _∷_}
 use native.Mathlib.Omega.{arith}
-use Rattle.chains.specs.Lists.{allTo, allOf}
+use Rattle.chains.specs.Lists.{allOf}
 use Rattle.chains.proofs.Bounded.{both-true, all-at, all-all}
 use Rattle.meaning.proofs.Lists.{every-at, and-in}
-use Rattle.meaning.specs.declared.Counts.{Counts}
+use Rattle.types.specs.declared.Counts.{Counts}
 use Rattle.tables.specs.Layout.{countsOf, headerOk, Fits}
 use Rattle.meaning.specs.Sound.{soundStore}
 use Rattle.tables.specs.Decode.{lockRows, accessRows, decodeAt}

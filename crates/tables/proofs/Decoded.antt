@@ -1,12 +1,12 @@
 -- The parts of the decoded store: record r and slot k are what the words say. Rests on Builds.
-use Prim.Native.Nat.{ℕ, zero, suc, _≤_, _<_}
-use mathlib.Core.Path.{_≡_, refl, ap, _∙_}
+use Prim.Native.Nat.{ℕ, zero, suc, _<_}
+use mathlib.Core.Path.{_≡_, refl}
 use mathlib.Core.List.{List}
 use native.Mathlib.Omega.{arith}
 use lib.ListN.{length}
 use Rattle.chains.specs.Walk.{IsRow}
-use Rattle.meaning.specs.Store.{Rec, Edit, Store, freshRec, freshEdit, recOf, editOf, recAt, editAt}
-use Rattle.meaning.specs.declared.Counts.{Counts}
+use Rattle.meaning.specs.Store.{freshRec, freshEdit, recOf, editOf, recAt, editAt}
+use Rattle.types.specs.declared.Counts.{Counts}
 use Rattle.tables.specs.Decode.{recordAt, slotAt, recordsOf, editsOf, decodeAt}
 use Rattle.tables.proofs.Builds.{build-length, build-at}
 

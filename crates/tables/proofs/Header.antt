@@ -2,7 +2,7 @@
 -- through it. Rests on specs.Layout.
 use Prim.Native.Nat.{ℕ, _≤_, _<_}
 use mathlib.Core.Path.{_≡_, refl, sym, ap, _∙_}
-use mathlib.Core.Bool.{Bool, true, false, _&&_, and-false}
+use mathlib.Core.Bool.{true, false, and-false}
 use mathlib.Core.List.{List, [], _∷_}
 use native.Mathlib.Omega.{arith}
 use lib.ListN.{length}
@@ -10,9 +10,9 @@ use lib.Dec.{leb, eqb}
 use borrow.Author.Tests.{leb-true, eqb-true, ne-eqb, le-leb, lt-leb, eq-eqb}
 use Rattle.chains.proofs.Bounded.{both-true}
 use Rattle.meaning.proofs.Lists.{every-at}
-use Rattle.meaning.specs.Limits.{MAX-RECORDS, MAX-EDITS, MAX-ROWS}
+use Rattle.types.specs.Limits.{MAX-RECORDS, MAX-EDITS, MAX-ROWS}
 use Rattle.meaning.specs.Records.{goodCounts, inRange}
-use Rattle.meaning.specs.declared.Counts.{Counts}
+use Rattle.types.specs.declared.Counts.{Counts}
 use Rattle.tables.specs.Layout.{countsOf, headerOk, sizeOf, Ranged, Fits, HEADER}
 
 range : (n top : ℕ) → inRange n top ≡ true → (1 ≤ n) × (n ≤ top)

@@ -3,15 +3,15 @@
 use Prim.Native.Nat.{ℕ, suc, _-_}
 use mathlib.Core.Path.{_≡_, refl, sym, ap, _∙_}
 use mathlib.Core.Bool.{Bool, true, false}
-use mathlib.Core.List.{List, [], _∷_, map}
+use mathlib.Core.List.{List, map}
 use Rattle.chains.specs.Walk.{more, rows}
 use Rattle.chains.specs.Table.{link, chain, headOf, rowsOf}
 use Rattle.chains.proofs.Loops.{Walk, walk-again, walk-out, walk-end}
 use Rattle.meaning.specs.Lists.{all, any, find, pairwise}
-use Rattle.meaning.specs.declared.Version.{Version}
-use Rattle.meaning.specs.declared.Lock.{Lock}
-use Rattle.meaning.specs.declared.Access.{Access}
-use Rattle.meaning.specs.declared.Counts.{Counts}
+use Rattle.types.specs.declared.Version.{Version}
+use Rattle.types.specs.declared.Lock.{Lock}
+use Rattle.types.specs.declared.Access.{Access}
+use Rattle.types.specs.declared.Counts.{Counts}
 use Rattle.tables.specs.Layout.{lockTable, lockHeads, versionTable, versionHeads, accessTable, accessHeads}
 use Rattle.tables.specs.Decode.{recordAt, slotAt, lockAt, versionAt, accessAt, locksOf, versionsOf, accessesOf}
 use Rattle.tables.specs.Decode.{lockRows, versionRows, accessRows}

@@ -1,19 +1,17 @@
 -- Where the words lie: each table is laid, the parts lie one after the other, and a chain's head word is a word of the
 -- header or of its owner's row. Only here are the products of counts and widths seen. Rests on specs.Layout.
-use Prim.Native.Nat.{ℕ, zero, suc, _+_, _*_, _-_, _≤_, _<_}
+use Prim.Native.Nat.{ℕ, suc, _-_, _≤_, _<_}
 use mathlib.Core.Path.{_≡_, _∙_}
 use mathlib.Core.List.{List}
 use native.Mathlib.Omega.{arith}
 use lib.ListN.{length, getD, set, length-set}
 use lib.Seq.{getD-set-other}
-use Rattle.chains.specs.declared.Table.{Table}
-use Rattle.chains.specs.declared.Heads.{Heads}
 use Rattle.chains.specs.Walk.{IsRow}
 use Rattle.chains.specs.Table.{Laid, Lies, place, headCell}
-use Rattle.meaning.specs.declared.Counts.{Counts}
+use Rattle.types.specs.declared.Counts.{Counts}
 use Rattle.tables.specs.Layout.{slotBase, versionBase, lockBase, accessBase, sizeOf, recordTable, slotTable}
 use Rattle.tables.specs.Layout.{versionTable, lockTable, accessTable, versionHeads, lockHeads, accessHeads}
-use Rattle.tables.specs.Layout.{Ranged, Fits, countsOf, HEADER, H-RECORDS, H-EDITS, H-VERSIONS, H-LOCKS}
+use Rattle.tables.specs.Layout.{Fits, countsOf, HEADER, H-RECORDS, H-EDITS, H-VERSIONS, H-LOCKS}
 use Rattle.tables.specs.Layout.{H-ACCESSES, R-VERSION, R-LOCK, S-ACCESS}
 
 module _ {c : Counts} {w : List ℕ} (f : Fits c w) where

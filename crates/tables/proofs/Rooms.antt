@@ -1,14 +1,13 @@
 -- Room in the words of the meaning: where fewer rows are in use than the table has, the free chain is not empty; no
 -- more rows are in use than the table has, and the decoded store has the counts of the words. Rests on Rooms of
 -- `chains`.
-use Prim.Native.Nat.{ℕ, zero, suc, _≤_, _<_}
-use mathlib.Core.Path.{_≡_, refl, sym, ap, _∙_}
+use Prim.Native.Nat.{ℕ, suc, _<_}
+use mathlib.Core.Path.{_≡_, refl, ap, _∙_}
 use mathlib.Core.Bool.{true}
 use mathlib.Core.List.{List, map}
 use native.Mathlib.Omega.{arith}
 use borrow.Author.Tests.{le-leb}
 use lib.ListN.{length, length-map}
-use Rattle.chains.specs.Lists.{sumTo}
 use Rattle.chains.specs.Table.{headOf, rowsOf}
 use Rattle.chains.specs.Partition.{used}
 use Rattle.chains.proofs.Bounded.{sum-ext}
@@ -17,7 +16,7 @@ use Rattle.meaning.specs.Records.{goodCounts}
 use Rattle.meaning.specs.Store.{versionsUsed, locksUsed, accessesUsed, countsOf}
 use Rattle.meaning.specs.Sound.{rowsFit}
 use Rattle.meaning.proofs.Lists.{and-in}
-use Rattle.meaning.specs.declared.Counts.{Counts}
+use Rattle.types.specs.declared.Counts.{Counts}
 use Rattle.tables.specs.Layout.{lockTable, lockHeads, versionTable, versionHeads, accessTable, accessHeads}
 use Rattle.tables.specs.Decode.{versionAt, lockAt, accessAt, versionRows, lockRows, accessRows, versionsOf}
 use Rattle.tables.specs.Decode.{locksOf, accessesOf, recordAt, slotAt, recordsOf, editsOf, decodeAt}

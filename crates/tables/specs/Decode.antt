@@ -7,11 +7,11 @@ use mathlib.Core.Path.{_≡_}
 use Rattle.chains.specs.Lists.{firstOf}
 use Rattle.chains.specs.Table.{field, rowsOf}
 use Rattle.meaning.specs.Store.{Rec, Edit, Store, isOf}
-use Rattle.meaning.specs.declared.Value.the-variants.{Written}
-use Rattle.meaning.specs.declared.Version.{Version}
-use Rattle.meaning.specs.declared.Lock.{Lock}
-use Rattle.meaning.specs.declared.Access.{Access}
-use Rattle.meaning.specs.declared.Counts.{Counts}
+use Rattle.types.specs.declared.Value.the-variants.{Written}
+use Rattle.types.specs.declared.Version.{Version}
+use Rattle.types.specs.declared.Lock.{Lock}
+use Rattle.types.specs.declared.Access.{Access}
+use Rattle.types.specs.declared.Counts.{Counts}
 use Rattle.tables.specs.Layout
 
 -- f 0, .., f (n - 1)

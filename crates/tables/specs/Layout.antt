@@ -8,9 +8,9 @@ use lib.ListN.{length, getD}
 use lib.Dec.{eqb}
 use Rattle.chains.specs.declared.Table.{Table}
 use Rattle.chains.specs.declared.Heads.{Heads}
-use Rattle.meaning.specs.Limits.{MAX-RECORDS, MAX-EDITS, MAX-ROWS}
+use Rattle.types.specs.Limits.{MAX-RECORDS, MAX-EDITS, MAX-ROWS}
 use Rattle.meaning.specs.Records.{goodCounts}
-use Rattle.meaning.specs.declared.Counts.{Counts}
+use Rattle.types.specs.declared.Counts.{Counts}
 
 -- "8 header words; then 3 for each record, 4 for each edit slot, 4 for each version row, 5 for each lock row, 5 for
 -- each access row"

@@ -1,5 +1,5 @@
 -- The layout of document 01: where words lie, the abstract store that words say, and sound words. Rests on the crates
--- `meaning` and `chains`.
+-- `types`, `meaning` and `chains`.
 pub mod Layout
 pub mod Decode
 pub mod Words

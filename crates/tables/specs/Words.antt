@@ -10,7 +10,7 @@ use Rattle.chains.specs.Table.{field}
 use Rattle.chains.specs.Partition.{partition}
 use Rattle.meaning.specs.Lists.{every}
 use Rattle.meaning.specs.Store.{Store}
-use Rattle.meaning.specs.declared.Counts.{Counts}
+use Rattle.types.specs.declared.Counts.{Counts}
 use Rattle.meaning.specs.Sound.{soundStore}
 use Rattle.tables.specs.Layout
 use Rattle.tables.specs.Decode.{lockRows, accessRows, decodeAt}

@@ -1,10 +1,7 @@
 // The tables of a store in lent words: the layout of document 01, the header, and rows by value. Rests on the crates
-// `meaning` and `chains`.
-//
-// A caller proves that the words have these counts (`Fits`), so the functions have `requires`. Each read equals a part
-// of the decoded store; the stores of words and rows are the crate `writes`.
-//
-// This file has the layout and the header; `reads` has the words, rows and chains.
+// `types`, `meaning` and `chains`.  A caller proves that the words have these counts (`Fits`), so the functions have
+// `requires`. Each read equals a part of the decoded store; the stores of words and rows are the crate `writes`.  This
+// file has the layout and the header; `reads` has the words, rows and chains.
 mod reads;
 
 pub use reads::access_at;
@@ -30,10 +27,10 @@ ghost use Rattle.tables.specs.Layout.{HEADER, recordTable, slotTable, ve
 ghost use Rattle.tables.specs.Layout.{versionHeads, lockHeads, accessHeads, countsOf, sizeOf, headerOk, Ranged};
 use chains::Heads;
 use chains::Table;
-use meaning::Counts;
-use meaning::MAX_EDITS;
-use meaning::MAX_RECORDS;
-use meaning::MAX_ROWS;
+use types::Counts;
+use types::MAX_EDITS;
+use types::MAX_RECORDS;
+use types::MAX_ROWS;
 
 // The layout: every width and offset has its name here and nowhere else; specs/Layout has the same names.
 pub const HEADER: usize = 8;

@@ -1,5 +1,5 @@
 // Rows, records and slots by value, and the steps along a chain. Each equals a part of the decoded store, on any words
-// with these counts. Rests on lib.rt and on the crates `meaning` and `chains`.
+// with these counts. Rests on lib.rt and on the crates `types` and `chains`.
 ghost use mathlib.Core.Path.{_≡_};
 ghost use Prim.Native.Nat.{suc, _<_};
 ghost use Rattle.chains.specs.Table.{headOf, link, field};
@@ -32,11 +32,11 @@ use crate::record_table;
 use crate::slot_table;
 use crate::version_heads;
 use crate::version_table;
-use meaning::Access;
-use meaning::Counts;
-use meaning::Lock;
-use meaning::Value;
-use meaning::Version;
+use types::Access;
+use types::Counts;
+use types::Lock;
+use types::Value;
+use types::Version;
 
 // Words of rows: word o of record r, of slot k, of a row.
 

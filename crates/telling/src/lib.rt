@@ -1,18 +1,18 @@
 // What a caller from another language hears of a reply that hands something out: its number and the lent numbers after
-// it, by meaning's number and values of its case. Rests on the crates `meaning` and `codes`.
+// it, by meaning's number and values of its case. Rests on the crates `types` and `codes`.
 ghost use mathlib.Core.List.{[], _∷_};
-ghost use Rattle.meaning.specs.Replies.{ofPoint, ofBegin, ofLock, ofRead, ofCommit, ofPurge, ofView};
+ghost use Rattle.types.specs.Replies.{ofPoint, ofBegin, ofLock, ofRead, ofCommit, ofPurge, ofView};
 ghost use Rattle.codes.specs.Codes.{Tells};
 use codes::bits;
 use codes::mark;
 use codes::refusal;
-use meaning::BeginReply;
-use meaning::CommitReply;
-use meaning::LockReply;
-use meaning::PointReply;
-use meaning::PurgeReply;
-use meaning::ReadReply;
-use meaning::ViewReply;
+use types::BeginReply;
+use types::CommitReply;
+use types::LockReply;
+use types::PointReply;
+use types::PurgeReply;
+use types::ReadReply;
+use types::ViewReply;
 
 // The number of `nopoint`, which is above those of the refusals and below codes' CODES.
 const NOPOINT: u64 = 31;
@@ -30,7 +30,7 @@ pub fn point(r: PointReply, point: &mut u64) -> u64
 {
     match r {
         PointReply::Made(p) => {
-            *point = meaning::word_of_point(p);
+            *point = types::word_of_point(p);
             0
         }
         PointReply::Refused(x) => refusal(x),
@@ -42,7 +42,7 @@ pub fn begin(r: BeginReply, handle: &mut u64) -> u64
 {
     match r {
         BeginReply::Edit(h) => {
-            *handle = meaning::word_of_handle(h);
+            *handle = types::word_of_handle(h);
             0
         }
         BeginReply::Refused(x) => refusal(x),
@@ -58,8 +58,8 @@ pub fn lock(r: LockReply, low: &mut u64, high: &mut u64) -> u64
 {
     match r {
         LockReply::Locked(first, last) => {
-            *low = meaning::word_of_point(first);
-            *high = meaning::word_of_point(last);
+            *low = types::word_of_point(first);
+            *high = types::word_of_point(last);
             0
         }
         LockReply::Refused(x) => refusal(x),
@@ -83,8 +83,8 @@ pub fn read(
     match r {
         ReadReply::Read(from, to, v) => {
             *kind = NEW;
-            *tr = meaning::word_of_point(from);
-            *end = meaning::word_of_point(to);
+            *tr = types::word_of_point(from);
+            *end = types::word_of_point(to);
             *written = mark(v);
             *value = bits(v);
             0
@@ -99,7 +99,7 @@ pub fn read(
         }
         ReadReply::Again(from, v) => {
             *kind = AGAIN;
-            *tr = meaning::word_of_point(from);
+            *tr = types::word_of_point(from);
             *end = 0;
             *written = mark(v);
             *value = bits(v);
@@ -114,7 +114,7 @@ pub fn commit(r: CommitReply, point: &mut u64) -> u64
 {
     match r {
         CommitReply::Commit(t) => {
-            *point = meaning::word_of_point(t);
+            *point = types::word_of_point(t);
             0
         }
         CommitReply::NoPoint => NOPOINT,
@@ -148,7 +148,7 @@ pub fn view(r: ViewReply, point: &mut u64, written: &mut u64, value: &mut u64) -
 {
     match r {
         ViewReply::At(at, v) => {
-            *point = meaning::word_of_point(at);
+            *point = types::word_of_point(at);
             *written = mark(v);
             *value = bits(v);
             0

@@ -5,7 +5,7 @@ use mathlib.Core.Path.{_≡_, refl, sym, _∙_, ap}
 use mathlib.Core.List.{List, [], _∷_, _++_, append-assoc, append-nil}
 use native.Mathlib.Omega.{arith}
 use native.Mathlib.Numerals.{add-one}
-use lib.ListN.{length, take, set, getD, length-append, length-set, length-take}
+use lib.ListN.{length, take, set, getD, length-append, length-set}
 use lib.Seq.{take-all, take-suc, take-suc-set}
 use Rattle.texts.specs.Parts.{Appended}
 

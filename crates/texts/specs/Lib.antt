@@ -1,3 +1,3 @@
--- The bytes of words, numbers and values. Rests on the crate `meaning`.
+-- The bytes of words, numbers and values. Rests on the crate `types`.
 pub mod Text
 pub mod Parts

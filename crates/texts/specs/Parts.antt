@@ -6,8 +6,8 @@ use mathlib.Core.Bool.{cond}
 use mathlib.Core.List.{List, [], _∷_, _++_}
 use lib.ListN.{length, take}
 use lib.Dec.{ltb}
-use Rattle.meaning.specs.declared.Value.{Value}
-use Rattle.meaning.specs.declared.Value.the-variants.{Never, Written}
+use Rattle.types.specs.declared.Value.{Value}
+use Rattle.types.specs.declared.Value.the-variants.{Never, Written}
 use Rattle.texts.specs.Text.{SPACE, text}
 
 -- the decimal digits of n, in k steps at most

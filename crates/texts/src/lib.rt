@@ -1,12 +1,11 @@
 // Words, numbers and values written into a lent buffer. Each function answers where the bytes that it wrote end, and is
-// proved against specs/. Rests on the crate `meaning`.
-ghost use mathlib.Core.Path.{_≡_};
+// proved against specs/. Rests on the crate `types`.
 ghost use mathlib.Core.List.{[], _∷_};
 ghost use Prim.Native.Nat.{_+_, _≤_, _<_};
 ghost use lib.ListN.{length};
 ghost use Rattle.texts.specs.Parts.{Appended, decimal, valueText, one as one·of, two as two·of, oneValue};
 ghost use Rattle.texts.specs.Parts.{twoValue};
-use meaning::Value;
+use types::Value;
 
 // The byte between fields.
 pub const SPACE: u8 = 32;

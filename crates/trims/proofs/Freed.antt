@@ -9,9 +9,9 @@ use Rattle.chains.specs.declared.Table.{Table}
 use Rattle.chains.specs.declared.Heads.{Heads}
 use Rattle.chains.specs.Table.{rowsOf}
 use Rattle.meaning.specs.Store.{Rec, Store, recAt, withLocks}
-use Rattle.meaning.specs.declared.Lock.{Lock}
-use Rattle.meaning.specs.declared.Version.{Version}
-use Rattle.meaning.specs.declared.Counts.{Counts}
+use Rattle.types.specs.declared.Lock.{Lock}
+use Rattle.types.specs.declared.Version.{Version}
+use Rattle.types.specs.declared.Counts.{Counts}
 use Rattle.tables.specs.Layout.{lockTable, lockHeads, versionTable, versionHeads}
 use Rattle.tables.specs.Decode.{lockAt, lockRows, locksOf, versionAt, versionRows, versionsOf, decodeAt}
 use Rattle.changes.specs.Becomes.{Becomes, withVersions, onVersions, onLocks}

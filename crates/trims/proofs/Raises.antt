@@ -20,11 +20,11 @@ use Rattle.chains.proofs.Words.{on-chain, on-once, on-one}
 use Rattle.chains.proofs.Cells.{field-same, field-other, head-place, lies}
 use Rattle.chains.proofs.Frames.{OnlyTable, only-put, only-trans, same-chains}
 use Rattle.chains.proofs.Entries.{entries-kept}
-use Rattle.meaning.specs.Limits.{SETTLED}
+use Rattle.types.specs.Limits.{SETTLED}
 use Rattle.meaning.specs.Store.{withRec, withLocks, recAt}
 use Rattle.meaning.specs.Points.{isOwned, trimmed}
-use Rattle.meaning.specs.declared.Lock.{Lock}
-use Rattle.meaning.specs.declared.Counts.{Counts}
+use Rattle.types.specs.declared.Lock.{Lock}
+use Rattle.types.specs.declared.Counts.{Counts}
 use Rattle.tables.specs.Layout.{lockTable, lockHeads, Fits, LOCK, L-LOW, L-HIGH, L-MODE, L-RECORD, L-NEXT}
 use Rattle.tables.specs.Decode.{lockAt, lockRows, locksOf, decodeAt}
 use Rattle.tables.specs.Words.{Well, namesRecord}

@@ -19,11 +19,11 @@ use Rattle.chains.proofs.Frames.{put-same, only-put, only-elsewhere}
 use Rattle.chains.proofs.Turns.{TurnInv, turn-start, turn-ready, turn-again, turn-count, turn-link, turn-put, turn-end}
 use Rattle.chains.proofs.Walks.{more-out}
 use Rattle.chains.proofs.Words.{on-short}
-use Rattle.meaning.specs.Limits.{MAX-ROWS, SETTLED}
+use Rattle.types.specs.Limits.{MAX-ROWS, SETTLED}
 use Rattle.meaning.specs.Store.{withLocks, recAt}
 use Rattle.meaning.specs.Points.{emptied, trimmed, trimTo}
-use Rattle.meaning.specs.declared.Lock.{Lock}
-use Rattle.meaning.specs.declared.Counts.{Counts}
+use Rattle.types.specs.declared.Lock.{Lock}
+use Rattle.types.specs.declared.Counts.{Counts}
 use Rattle.tables.specs.Layout.{lockTable, lockHeads, Fits, L-LOW, L-NEXT}
 use Rattle.tables.specs.Decode.{lockAt, lockRows, decodeAt}
 use Rattle.tables.specs.Words.{Well}

@@ -16,9 +16,9 @@ use Rattle.chains.proofs.Frames.{only-elsewhere, field-kept}
 use Rattle.chains.proofs.Walks.{more-out}
 use Rattle.chains.proofs.Turns.{TurnInv, turn-start, turn-ready, turn-again, turn-count, turn-end}
 use Rattle.chains.proofs.Words.{on-short}
-use Rattle.meaning.specs.Limits.{MAX-ROWS}
-use Rattle.meaning.specs.declared.Version.{Version}
-use Rattle.meaning.specs.declared.Counts.{Counts}
+use Rattle.types.specs.Limits.{MAX-ROWS}
+use Rattle.types.specs.declared.Version.{Version}
+use Rattle.types.specs.declared.Counts.{Counts}
 use Rattle.tables.specs.Layout.{versionTable, versionHeads, Fits, V-POINT, V-VALUE, V-SPARE}
 use Rattle.tables.specs.Decode.{versionAt}
 use Rattle.tables.specs.Words.{Well}

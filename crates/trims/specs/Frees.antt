@@ -7,9 +7,9 @@ use mathlib.Core.List.{List}
 use lib.ListN.{length, set}
 use Rattle.meaning.specs.Store.{Store, recAt}
 use Rattle.meaning.specs.Points.{emptied, trimmed}
-use Rattle.meaning.specs.declared.Lock.{Lock}
-use Rattle.meaning.specs.declared.Version.{Version}
-use Rattle.meaning.specs.declared.Counts.{Counts}
+use Rattle.types.specs.declared.Lock.{Lock}
+use Rattle.types.specs.declared.Version.{Version}
+use Rattle.types.specs.declared.Counts.{Counts}
 use Rattle.chains.specs.Table.{place}
 use Rattle.tables.specs.Layout.{lockTable, L-LOW}
 use Rattle.tables.specs.Decode.{lockAt, decodeAt}

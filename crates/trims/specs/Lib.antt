@@ -1,2 +1,2 @@
--- What Purge makes of well-formed words. Rests on the crates `meaning`, `tables` and `changes`.
+-- What Purge makes of well-formed words. Rests on the crates `types`, `meaning`, `tables` and `changes`.
 pub mod Frees

@@ -1,12 +1,13 @@
 // What Purge changes of a record: its floor, its settled locks and its versions. Each leaves the words well formed and
 // equals a function of the decoded store; the callers prove that the words are well formed (`Well`) and that records
-// and points are in range. Rests on the crates `meaning`, `chains`, `updates`, `tables`, `writes` and `changes`.
+// and points are in range. Rests on the crates `types`, `meaning`, `chains`, `updates`, `tables`, `writes` and
+// `changes`.
 ghost use mathlib.Core.Path.{_≡_};
 ghost use mathlib.Core.Bool.{cond};
 ghost use Prim.Native.Nat.{suc, _+_, _≤_, _<_};
 ghost use Rattle.chains.specs.Walk.{IsRow};
 ghost use Rattle.chains.specs.Change.{Ready, Follows, Turned};
-ghost use Rattle.meaning.specs.Limits.{MAX-ROWS, LAST};
+ghost use Rattle.types.specs.Limits.{MAX-ROWS, LAST};
 ghost use Rattle.meaning.specs.Store.{withRec, recAt};
 ghost use Rattle.meaning.specs.Points.{emptied, trimmed, trimTo};
 ghost use Rattle.meaning.specs.Lists.{keep};
@@ -16,9 +17,9 @@ ghost use Rattle.tables.specs.Decode.{versionAt, decodeAt};
 ghost use Rattle.tables.specs.Words.{Well};
 ghost use Rattle.changes.specs.Becomes.{Becomes, withFloor};
 ghost use Rattle.trims.specs.Frees.{FreesVersions, FreesLocks, TrimsRow};
-use meaning::Counts;
-use meaning::Lock;
-use meaning::SETTLED;
+use types::Counts;
+use types::Lock;
+use types::SETTLED;
 
 // The record's floor.
 pub fn set_floor(w: &mut [u64], c: Counts, r: usize, v: u64)

@@ -1,22 +1,22 @@
 // The line of the reply of each call that answers values, by meaning's number and values of its case. Rests on the
-// crates `meaning` and `replies`.
+// crates `types` and `replies`.
 ghost use mathlib.Core.Path.{_≡_};
-ghost use Rattle.meaning.specs.Replies.{ofBegin, ofLock, ofRead, ofCommit, ofPurge, ofView};
+ghost use Rattle.types.specs.Replies.{ofBegin, ofLock, ofRead, ofCommit, ofPurge, ofView};
 ghost use Rattle.replies.specs.Lines.{lineOf};
-use meaning::BeginReply;
-use meaning::CommitReply;
-use meaning::LockReply;
-use meaning::PurgeReply;
-use meaning::ReadReply;
-use meaning::ViewReply;
 use replies::Line;
 use replies::line_of_refusal;
+use types::BeginReply;
+use types::CommitReply;
+use types::LockReply;
+use types::PurgeReply;
+use types::ReadReply;
+use types::ViewReply;
 
 pub fn line_of_begin(r: BeginReply) -> Line
     ensures { λ l. ⌜ l ≡ lineOf (ofBegin r) ⌝ }
 {
     match r {
-        BeginReply::Edit(h) => Line::Edit(meaning::word_of_handle(h)),
+        BeginReply::Edit(h) => Line::Edit(types::word_of_handle(h)),
         BeginReply::Refused(x) => line_of_refusal(x),
     }
 }
@@ -26,8 +26,8 @@ pub fn line_of_lock(r: LockReply) -> Line
 {
     match r {
         LockReply::Locked(low, high) => Line::Locked(
-            meaning::word_of_point(low),
-            meaning::word_of_point(high),
+            types::word_of_point(low),
+            types::word_of_point(high),
         ),
         LockReply::Refused(x) => line_of_refusal(x),
     }
@@ -38,12 +38,12 @@ pub fn line_of_read(r: ReadReply) -> Line
 {
     match r {
         ReadReply::Read(tr, end, v) => Line::Read(
-            meaning::word_of_point(tr),
-            meaning::word_of_point(end),
+            types::word_of_point(tr),
+            types::word_of_point(end),
             v,
         ),
         ReadReply::Own(v) => Line::Own(v),
-        ReadReply::Again(tr, v) => Line::Again(meaning::word_of_point(tr), v),
+        ReadReply::Again(tr, v) => Line::Again(types::word_of_point(tr), v),
         ReadReply::Refused(x) => line_of_refusal(x),
     }
 }
@@ -52,7 +52,7 @@ pub fn line_of_commit(r: CommitReply) -> Line
     ensures { λ l. ⌜ l ≡ lineOf (ofCommit r) ⌝ }
 {
     match r {
-        CommitReply::Commit(p) => Line::Commit(meaning::word_of_point(p)),
+        CommitReply::Commit(p) => Line::Commit(types::word_of_point(p)),
         CommitReply::NoPoint => Line::NoPoint,
         CommitReply::Refused(x) => line_of_refusal(x),
     }
@@ -71,7 +71,7 @@ pub fn line_of_view(r: ViewReply) -> Line
     ensures { λ l. ⌜ l ≡ lineOf (ofView r) ⌝ }
 {
     match r {
-        ViewReply::At(p, v) => Line::At(meaning::word_of_point(p), v),
+        ViewReply::At(p, v) => Line::At(types::word_of_point(p), v),
         ViewReply::Refused(x) => line_of_refusal(x),
     }
 }

@@ -1,13 +1,13 @@
 // What a caller from another language hears of a reply that is `ok` or a refusal: a number alone, 0 or that of the
-// refusal. Rests on the crates `meaning` and `codes`.
+// refusal. Rests on the crates `types` and `codes`.
 ghost use mathlib.Core.List.{[]};
-ghost use Rattle.meaning.specs.Replies.{ofFormat, ofWrite, ofAbort, ofSettle};
+ghost use Rattle.types.specs.Replies.{ofFormat, ofWrite, ofAbort, ofSettle};
 ghost use Rattle.codes.specs.Codes.{Tells};
 use codes::refusal;
-use meaning::AbortReply;
-use meaning::FormatReply;
-use meaning::SettleReply;
-use meaning::WriteReply;
+use types::AbortReply;
+use types::FormatReply;
+use types::SettleReply;
+use types::WriteReply;
 
 pub fn format(r: FormatReply) -> u64
     ensures { λ n. ⌜ Tells (ofFormat r) n [] [] ⌝ }

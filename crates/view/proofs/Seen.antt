@@ -1,11 +1,10 @@
 -- A reader's answer, by the flag and the header, and that it is the reply of View where the flag is the check's. Rests
 -- on Words of `tables`.
 use Prim.Native.Nat.{ℕ}
-use mathlib.Core.Path.{_≡_, refl, sym, ap, _∙_}
+use mathlib.Core.Path.{_≡_, refl, ap, _∙_}
 use mathlib.Core.Bool.{Bool, true, false, _&&_, cond}
 use mathlib.Core.List.{List, []}
-use Rattle.meaning.specs.Replies.{Reply, refusing}
-use Rattle.meaning.specs.Outcomes.{Outcome}
+use Rattle.types.specs.Replies.{Reply, refusing}
 use Rattle.meaning.specs.Records.{viewing}
 use Rattle.meaning.specs.Sound.{soundStore}
 use Rattle.tables.specs.Layout.{countsOf, headerOk}

@@ -1,2 +1,2 @@
--- What a chart reader answers. Rests on the crates `meaning` and `tables`.
+-- What a chart reader answers. Rests on the crates `types`, `meaning` and `tables`.
 pub mod Seen

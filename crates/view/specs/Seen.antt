@@ -3,7 +3,7 @@
 use Prim.Native.Nat.{ℕ}
 use mathlib.Core.Bool.{Bool, _&&_, cond}
 use mathlib.Core.List.{List, []}
-use Rattle.meaning.specs.Replies.{Reply, refusing}
+use Rattle.types.specs.Replies.{Reply, refusing}
 use Rattle.meaning.specs.Records.{viewing}
 use Rattle.meaning.specs.Contract as contract
 use Rattle.tables.specs.Layout.{headerOk}

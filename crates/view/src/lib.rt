@@ -1,15 +1,13 @@
 // The chart reader: a struct that holds the lent store and answers from it. It is made once, with the one check of the
 // words, and asked many times; an ask costs one record's version chain. Nobody outside this file can make a reader
-// whose flag is not the check's verdict. Rests on the crates `meaning`, `tables`, `soundness` and `calls`.
+// whose flag is not the check's verdict. Rests on the crates `types`, `meaning`, `tables`, `soundness` and `calls`.
 ghost use mathlib.Core.Path.{_≡_};
-ghost use mathlib.Core.Bool.{Bool};
-ghost use Rattle.meaning.specs.Replies.{ofView};
-ghost use Rattle.meaning.specs.Records.{viewing};
+ghost use Rattle.types.specs.Replies.{ofView};
 ghost use Rattle.tables.specs.Words.{lent, soundWords};
 ghost use Rattle.view.specs.Seen.{Viewed, answered};
-use meaning::Point;
-use meaning::Refusal;
-use meaning::ViewReply;
+use types::Point;
+use types::Refusal;
+use types::ViewReply;
 
 // A reader of a lent store, and whether the store is sound.
 pub struct Chart<'a> {

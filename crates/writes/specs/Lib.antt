@@ -1,2 +1,2 @@
--- What a row is filled with. Rests on the crates `meaning` and `tables`.
+-- What a row is filled with. Rests on the crates `types` and `tables`.
 pub mod Rows

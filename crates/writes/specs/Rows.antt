@@ -1,12 +1,12 @@
 -- The words that a row is filled with, all but its link. Rests on Layout of `tables`.
-use Prim.Native.Nat.{ℕ, suc, _+_, _*_}
-use mathlib.Core.Bool.{Bool, true, false, cond}
+use Prim.Native.Nat.{ℕ, _+_, _*_}
+use mathlib.Core.Bool.{Bool, cond}
 use mathlib.Core.List.{List}
 use lib.ListN.{set}
 use Rattle.chains.specs.Table.{place}
-use Rattle.meaning.specs.declared.Lock.{Lock}
-use Rattle.meaning.specs.declared.Access.{Access}
-use Rattle.meaning.specs.declared.Counts.{Counts}
+use Rattle.types.specs.declared.Lock.{Lock}
+use Rattle.types.specs.declared.Access.{Access}
+use Rattle.types.specs.declared.Counts.{Counts}
 use Rattle.tables.specs.Layout
 
 -- "mode (1 read, 2 write) + 4 × owner slot"

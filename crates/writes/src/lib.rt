@@ -1,20 +1,17 @@
 // Stores of words and rows. Each promises the exact words after it; what changes make of the decoded store is the crate
 // `changes`. A caller proves that the words have these counts (`Fits`), so the functions have `requires`. Rests on the
-// crates `meaning`, `chains`, `updates` and `tables`, which alone names the layout.
+// crates `types`, `chains`, `updates` and `tables`, which alone names the layout.
 ghost use mathlib.Core.Path.{_≡_};
 ghost use Prim.Native.Nat.{suc, _≤_, _<_};
 ghost use lib.ListN.{set};
 ghost use Rattle.chains.specs.Table.{place};
 ghost use Rattle.chains.specs.Walk.{IsRow};
 ghost use Rattle.chains.specs.Change.{Ready, Taken, InsertedSorted};
-ghost use Rattle.meaning.specs.Limits.{MAX-EDITS};
+ghost use Rattle.types.specs.Limits.{MAX-EDITS};
 ghost use Rattle.tables.specs.Layout.{SLOT, VERSION, LOCK, ACCESS, recordTable, slotTable, versionTable};
 ghost use Rattle.tables.specs.Layout.{lockTable, accessTable, versionHeads, Fits, V-POINT, MODES, R-FLOOR};
 ghost use Rattle.tables.specs.Layout.{S-STATE, S-GENERATION, S-POINT, L-LOW};
 ghost use Rattle.writes.specs.Rows.{lockTag, writtenMark, versionStored, lockStored, accessStored};
-use meaning::Access;
-use meaning::Counts;
-use meaning::Lock;
 use tables::A_FROM;
 use tables::A_RECORD;
 use tables::A_VALUE;
@@ -37,6 +34,9 @@ use tables::record_table;
 use tables::slot_table;
 use tables::version_heads;
 use tables::version_table;
+use types::Access;
+use types::Counts;
+use types::Lock;
 
 // Stores of one word.
 

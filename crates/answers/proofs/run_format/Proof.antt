@@ -1,9 +1,9 @@
 -- `answers::run_format` meets its contract: Format is lent the words that the counts ask for, or none.
 -- Assumes nothing.
-use mathlib.Core.Path.{sym, ap, refl, _∙_}
+use mathlib.Core.Path.{sym, ap, _∙_}
 use lib.ListN.{length}
 use lib.Seq.{length-take-le}
-use Rattle.meaning.specs.Replies.{refused, ofFormat}
+use Rattle.types.specs.Replies.{refused, ofFormat}
 use Rattle.replies.specs.Lines.{lineOf}
 use Rattle.answers.proofs.Saying.{words-inside, done-answers, refused-answers}
 use borrow.Author.Needs.{needs}

@@ -1,7 +1,7 @@
 -- `answer` meets its contract: the call on sound words, and refusal 1 on others. Assumes nothing.
 use mathlib.Core.Path.{refl, _∙_}
 use mathlib.Core.List.{[]}
-use Rattle.meaning.specs.Replies.{refusing}
+use Rattle.types.specs.Replies.{refusing}
 use Rattle.encoding.specs.Encoding.{NUMBERS}
 use Rattle.encoding.proofs.Rows.{told-row}
 use Rattle.store.proofs.Doing.{does-unsound}

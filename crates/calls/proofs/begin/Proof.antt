@@ -1,5 +1,5 @@
 -- `calls::begin` meets its contract: no free slot, or the lowest one opened. Rests on Beginning.
-use Rattle.calls.proofs.Acting.{has-header, ready, generation-fits}
+use Rattle.calls.proofs.Acting.{has-header, ready}
 use Rattle.calls.proofs.Beginning.{begin-refused, begin-opens, begin-asks, begin-acts}
 use borrow.Author.Needs.{needs}
 use Rattle.calls.proofs.begin.Statement.{statement}

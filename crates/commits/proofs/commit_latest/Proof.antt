@@ -1,5 +1,5 @@
 -- `commits::commit_latest` meets its contract. Rests on CommitActs.
-use Rattle.meaning.specs.Replies.{nopoint}
+use Rattle.types.specs.Replies.{nopoint}
 use Rattle.commits.proofs.CommitActs.{search-needs, latest-none, latest-common, latest-some}
 use borrow.Author.Needs.{needs}
 use Rattle.commits.proofs.commit_latest.Statement.{statement}

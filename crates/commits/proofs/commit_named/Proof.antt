@@ -1,5 +1,4 @@
 -- `commits::commit_named` meets its contract. Rests on CommitActs.
-use mathlib.Core.Path.{sym, _∙_}
 use Rattle.commits.proofs.CommitActs.{search-needs, named-common, named-in, named-none, named-out}
 use borrow.Author.Needs.{needs}
 use Rattle.commits.proofs.commit_named.Statement.{statement}

@@ -1,7 +1,7 @@
 -- `endings::leave_ended` meets its contract. Rests on nothing.
 use borrow.Author.Tests.{ne-eqb}
 use mathlib.Core.Path.{refl}
-use Rattle.meaning.specs.Limits.{COMMITTED}
+use Rattle.types.specs.Limits.{COMMITTED}
 use Rattle.endings.specs.Steps.{leftBy}
 use borrow.Author.Needs.{needs}
 use Rattle.endings.proofs.leave_ended.Statement.{statement}

@@ -1,5 +1,4 @@
 -- `starts_read` meets its contract. Assumes nothing.
-use native.Mathlib.Decide.{ℕ-discrete}
 use Rattle.meaning.proofs.Values.{reads-other, reads-write, reads-own}
 use borrow.Author.Needs.{needs}
 use Rattle.locks.proofs.starts_read.Statement.{statement}

@@ -9,9 +9,9 @@ use Rattle.chains.specs.Table.{link}
 use Rattle.chains.proofs.Walks.{row-of, fuel-of}
 use Rattle.chains.proofs.Loops.{Walk}
 use Rattle.meaning.specs.Lists.{any}
-use Rattle.meaning.specs.Limits.{SETTLED}
+use Rattle.types.specs.Limits.{SETTLED}
 use Rattle.meaning.specs.Points.{isOwned}
-use Rattle.meaning.specs.declared.Lock.{Lock}
+use Rattle.types.specs.declared.Lock.{Lock}
 use Rattle.tables.specs.Layout.{lockTable}
 use Rattle.tables.specs.Decode.{recordAt, lockAt}
 use Rattle.tables.proofs.Loops.{locks-start, any-on, any-out, any-done}

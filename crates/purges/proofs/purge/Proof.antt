@@ -1,5 +1,4 @@
 -- `purges::purge` meets its contract. Rests on PurgeActs, on Acting of `calls`.
-use mathlib.Core.Path.{refl}
 use borrow.Author.Tests.{not-true, not-false}
 use Rattle.calls.proofs.Acting.{has-header, ready}
 use Rattle.purges.proofs.PurgeActs.{purge-refused, purge-bad-point, purge-row, purge-needs, purge-acts}

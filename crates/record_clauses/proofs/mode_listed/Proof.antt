@@ -1,7 +1,7 @@
 -- `record_clauses::mode_listed` meets its contract. Rests on Steps.
 use mathlib.Core.Path.{refl}
 use borrow.Author.Tests.{eq-eqb, ne-eqb}
-use Rattle.meaning.specs.Limits.{READ}
+use Rattle.types.specs.Limits.{READ}
 use Rattle.clauses.proofs.Steps.{or-yes, or-on}
 use Rattle.record_clauses.proofs.mode_listed.Statement.{statement}
 use Rattle.record_clauses.proofs.mode_listed.Tie as tie

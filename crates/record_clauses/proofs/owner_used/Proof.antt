@@ -1,6 +1,6 @@
 -- `record_clauses::owner_used` meets its contract. Rests on Steps.
 use borrow.Author.Tests.{eq-eqb, ne-eqb}
-use Rattle.meaning.specs.Limits.{SETTLED}
+use Rattle.types.specs.Limits.{SETTLED}
 use Rattle.clauses.proofs.Steps.{or-yes, or-on}
 use borrow.Author.Needs.{needs}
 use Rattle.record_clauses.proofs.owner_used.Statement.{statement}

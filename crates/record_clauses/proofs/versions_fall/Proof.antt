@@ -9,7 +9,7 @@ use borrow.Author.Tests.{not-true, not-false}
 use Rattle.chains.specs.Table.{link}
 use Rattle.chains.proofs.Walks.{row-of, fuel-of}
 use Rattle.chains.proofs.Loops.{Walk}
-use Rattle.meaning.specs.Limits.{LAST}
+use Rattle.types.specs.Limits.{LAST}
 use Rattle.tables.specs.Layout.{versionTable}
 use Rattle.tables.specs.Decode.{versionAt, recordAt}
 use Rattle.tables.proofs.Loops.{versions-start}

@@ -1,6 +1,6 @@
 -- `record_clauses::versions_sound` meets its contract. Rests on Steps and Counting.
 use native.Mathlib.Omega.{arith}
-use Rattle.meaning.specs.Limits.{LAST}
+use Rattle.types.specs.Limits.{LAST}
 use Rattle.clauses.specs.Clauses.{versionsSound}
 use Rattle.clauses.proofs.Steps.{and-no, and-on}
 use Rattle.clauses.proofs.Counting.{most-yes, most-no}

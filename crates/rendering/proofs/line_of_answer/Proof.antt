@@ -1,7 +1,7 @@
 -- `rendering::line_of_answer` meets its contract: each case of the answer is the line of its call's reply.
 -- Assumes nothing.
 use mathlib.Core.Path.{sym, ap, _∙_}
-use Rattle.meaning.specs.Replies.{ofAnswer}
+use Rattle.types.specs.Replies.{ofAnswer}
 use Rattle.replies.specs.Lines.{lineOf}
 use borrow.Author.Needs.{needs}
 use Rattle.rendering.proofs.line_of_answer.Statement.{statement}

@@ -2,7 +2,7 @@
 -- Assumes nothing.
 use borrow.Author.Needs.{needs}
 use mathlib.Core.Path.{sym, ap}
-use Rattle.meaning.specs.Replies.{ofRefusal}
+use Rattle.types.specs.Replies.{ofRefusal}
 use Rattle.replies.specs.Lines.{lineOf}
 use Rattle.replies.proofs.line_of_refusal.Statement.{statement}
 use Rattle.replies.proofs.line_of_refusal.Tie as tie

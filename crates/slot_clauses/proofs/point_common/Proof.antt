@@ -3,7 +3,7 @@ use mathlib.Core.Path.{ap, sym, _∙_}
 use mathlib.Core.Bool.{not}
 use denote.Ref.{now}
 use borrow.Author.Tests.{eq-eqb, ne-eqb}
-use Rattle.meaning.specs.Limits.{COMMITTED}
+use Rattle.types.specs.Limits.{COMMITTED}
 use Rattle.meaning.specs.Points.{inCommon}
 use Rattle.meaning.specs.Sound.{pointCommon}
 use Rattle.tables.specs.Decode.{recordsOf, slotAt}

@@ -1,7 +1,7 @@
 -- `slot_clauses::point_listed` meets its contract. Rests on Steps.
 use mathlib.Core.Path.{refl}
 use borrow.Author.Tests.{eq-eqb, ne-eqb}
-use Rattle.meaning.specs.Limits.{COMMITTED}
+use Rattle.types.specs.Limits.{COMMITTED}
 use Rattle.clauses.proofs.Steps.{or-yes, or-on}
 use Rattle.slot_clauses.proofs.point_listed.Statement.{statement}
 use Rattle.slot_clauses.proofs.point_listed.Tie as tie

@@ -2,7 +2,7 @@
 use mathlib.Core.Path.{sym, _∙_}
 use native.Mathlib.Omega.{arith}
 use borrow.Author.Tests.{not-true, not-false}
-use Rattle.meaning.specs.Limits.{ABORTED, GENERATIONS}
+use Rattle.types.specs.Limits.{ABORTED, GENERATIONS}
 use Rattle.meaning.specs.Sound.{stateListed, generationListed, pointListed}
 use Rattle.clauses.specs.Clauses.{slotListed}
 use Rattle.clauses.proofs.Steps.{and-no, and-on}

@@ -1,7 +1,7 @@
 -- `slots::open_slot` meets its contract. Rests on OneWord.
 use mathlib.Core.Path.{ap, _∙_}
 use native.Mathlib.Omega.{arith}
-use Rattle.meaning.specs.Store.{nextGeneration}
+use Rattle.types.specs.Numbers.{nextGeneration}
 use Rattle.changes.proofs.OneWord.{generation-is, open-slot-law}
 use borrow.Author.Needs.{needs}
 use Rattle.slots.proofs.open_slot.Statement.{statement}

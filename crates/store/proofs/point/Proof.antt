@@ -1,4 +1,4 @@
--- `store::point` meets its contract: it is the contract of `meaning::make_point`. Assumes nothing.
+-- `store::point` meets its contract: it is the contract of `types::make_point`. Assumes nothing.
 use borrow.Author.Needs.{needs}
 use Rattle.store.proofs.point.Statement.{statement}
 use Rattle.store.proofs.point.Tie as tie

@@ -2,7 +2,6 @@
 use mathlib.Core.Path.{refl}
 use native.Mathlib.Omega.{arith}
 use Rattle.tables.specs.Layout.{accessTable, accessBase}
-use borrow.Author.Needs.{needs}
 use Rattle.tables.proofs.access_table.Statement.{statement}
 use Rattle.tables.proofs.access_table.Tie as tie
 

@@ -1,8 +1,5 @@
 -- `tables::header_ok` meets its contract. Rests on Header.
-use mathlib.Core.Path.{sym, refl, ap, _∙_}
-use native.Mathlib.Omega.{arith}
-use lib.ListN.{length}
-use lib.Dec.{eqb}
+use mathlib.Core.Path.{sym, _∙_}
 use borrow.Author.Tests.{not-true, not-false}
 use Rattle.tables.proofs.Header.{header-short, header-bad, header-size, good-ranged}
 use borrow.Author.Needs.{needs}

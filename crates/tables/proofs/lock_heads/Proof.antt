@@ -2,7 +2,6 @@
 use mathlib.Core.Path.{refl}
 use native.Mathlib.Omega.{arith}
 use Rattle.tables.specs.Layout.{lockHeads}
-use borrow.Author.Needs.{needs}
 use Rattle.tables.proofs.lock_heads.Statement.{statement}
 use Rattle.tables.proofs.lock_heads.Tie as tie
 

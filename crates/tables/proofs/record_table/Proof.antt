@@ -1,6 +1,5 @@
 -- `tables::record_table` meets its contract. Rests on nothing.
 use mathlib.Core.Path.{refl}
-use native.Mathlib.Omega.{arith}
 use Rattle.tables.specs.Layout.{recordTable}
 use Rattle.tables.proofs.record_table.Statement.{statement}
 use Rattle.tables.proofs.record_table.Tie as tie

@@ -2,7 +2,6 @@
 use mathlib.Core.Path.{refl}
 use Rattle.tables.specs.Layout.{sizeOf}
 use native.Mathlib.Omega.{arith}
-use borrow.Author.Needs.{needs}
 use Rattle.tables.proofs.size_of.Statement.{statement}
 use Rattle.tables.proofs.size_of.Tie as tie
 

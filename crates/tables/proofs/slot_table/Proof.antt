@@ -2,7 +2,6 @@
 use mathlib.Core.Path.{refl}
 use native.Mathlib.Omega.{arith}
 use Rattle.tables.specs.Layout.{slotTable, slotBase}
-use borrow.Author.Needs.{needs}
 use Rattle.tables.proofs.slot_table.Statement.{statement}
 use Rattle.tables.proofs.slot_table.Tie as tie
 

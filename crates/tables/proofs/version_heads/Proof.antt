@@ -2,7 +2,6 @@
 use mathlib.Core.Path.{refl}
 use native.Mathlib.Omega.{arith}
 use Rattle.tables.specs.Layout.{versionHeads}
-use borrow.Author.Needs.{needs}
 use Rattle.tables.proofs.version_heads.Statement.{statement}
 use Rattle.tables.proofs.version_heads.Tie as tie
 

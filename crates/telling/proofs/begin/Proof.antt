@@ -1,7 +1,7 @@
 -- `telling::begin` meets its contract: each case of the answer is told by its number and values. Assumes nothing.
 use borrow.Author.Needs.{needs}
 use mathlib.Core.Path.{refl}
-use Rattle.meaning.specs.Replies.{ofBegin}
+use Rattle.types.specs.Replies.{ofBegin}
 use Rattle.codes.proofs.Telling.{telling}
 use Rattle.telling.proofs.begin.Statement.{statement}
 use Rattle.telling.proofs.begin.Tie as tie

@@ -1,7 +1,7 @@
 -- `telling::commit` meets its contract: each case of the answer is told by its number and values. Assumes nothing.
 use borrow.Author.Needs.{needs}
 use mathlib.Core.Path.{refl}
-use Rattle.meaning.specs.Replies.{ofCommit}
+use Rattle.types.specs.Replies.{ofCommit}
 use Rattle.codes.proofs.Telling.{telling}
 use Rattle.telling.proofs.commit.Statement.{statement}
 use Rattle.telling.proofs.commit.Tie as tie

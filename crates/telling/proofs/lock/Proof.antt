@@ -1,7 +1,7 @@
 -- `telling::lock` meets its contract: each case of the answer is told by its number and values. Assumes nothing.
 use borrow.Author.Needs.{needs}
 use mathlib.Core.Path.{refl}
-use Rattle.meaning.specs.Replies.{ofLock}
+use Rattle.types.specs.Replies.{ofLock}
 use Rattle.codes.proofs.Telling.{telling}
 use Rattle.telling.proofs.lock.Statement.{statement}
 use Rattle.telling.proofs.lock.Tie as tie

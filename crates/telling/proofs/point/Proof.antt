@@ -1,7 +1,7 @@
 -- `telling::point` meets its contract: each case of the answer is told by its number and values. Assumes nothing.
 use borrow.Author.Needs.{needs}
 use mathlib.Core.Path.{refl}
-use Rattle.meaning.specs.Replies.{ofPoint}
+use Rattle.types.specs.Replies.{ofPoint}
 use Rattle.codes.proofs.Telling.{telling}
 use Rattle.telling.proofs.point.Statement.{statement}
 use Rattle.telling.proofs.point.Tie as tie

@@ -1,7 +1,7 @@
 -- `telling::purge` meets its contract: each case of the answer is told by its number and values. Assumes nothing.
 use borrow.Author.Needs.{needs}
 use mathlib.Core.Path.{refl}
-use Rattle.meaning.specs.Replies.{ofPurge}
+use Rattle.types.specs.Replies.{ofPurge}
 use Rattle.codes.proofs.Telling.{telling}
 use Rattle.telling.proofs.purge.Statement.{statement}
 use Rattle.telling.proofs.purge.Tie as tie

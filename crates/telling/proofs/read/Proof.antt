@@ -1,7 +1,7 @@
 -- `telling::read` meets its contract: each case of the answer is told by its number and values. Assumes nothing.
 use borrow.Author.Needs.{needs}
 use mathlib.Core.Path.{refl}
-use Rattle.meaning.specs.Replies.{ofRead}
+use Rattle.types.specs.Replies.{ofRead}
 use Rattle.codes.proofs.Telling.{telling}
 use Rattle.telling.proofs.read.Statement.{statement}
 use Rattle.telling.proofs.read.Tie as tie

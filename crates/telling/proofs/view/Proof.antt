@@ -1,7 +1,7 @@
 -- `telling::view` meets its contract: each case of the answer is told by its number and values. Assumes nothing.
 use borrow.Author.Needs.{needs}
 use mathlib.Core.Path.{refl}
-use Rattle.meaning.specs.Replies.{ofView}
+use Rattle.types.specs.Replies.{ofView}
 use Rattle.codes.proofs.Telling.{telling}
 use Rattle.telling.proofs.view.Statement.{statement}
 use Rattle.telling.proofs.view.Tie as tie

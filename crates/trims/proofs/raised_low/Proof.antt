@@ -1,5 +1,5 @@
 -- `trims::raised_low` meets its contract. Rests on Raises.
-use mathlib.Core.Path.{sym, _∙_}
+use mathlib.Core.Path.{sym}
 use native.Mathlib.Numerals.{add-one}
 use Rattle.trims.proofs.Raises.{low-other, low-above, low-raised}
 use borrow.Author.Needs.{needs}

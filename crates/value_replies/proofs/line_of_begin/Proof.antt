@@ -2,7 +2,7 @@
 -- Assumes nothing.
 use borrow.Author.Needs.{needs}
 use mathlib.Core.Path.{sym, ap}
-use Rattle.meaning.specs.Replies.{ofBegin}
+use Rattle.types.specs.Replies.{ofBegin}
 use Rattle.replies.specs.Lines.{lineOf}
 use Rattle.value_replies.proofs.line_of_begin.Statement.{statement}
 use Rattle.value_replies.proofs.line_of_begin.Tie as tie

@@ -2,7 +2,7 @@
 -- Assumes nothing.
 use borrow.Author.Needs.{needs}
 use mathlib.Core.Path.{sym, ap}
-use Rattle.meaning.specs.Replies.{ofLock}
+use Rattle.types.specs.Replies.{ofLock}
 use Rattle.replies.specs.Lines.{lineOf}
 use Rattle.value_replies.proofs.line_of_lock.Statement.{statement}
 use Rattle.value_replies.proofs.line_of_lock.Tie as tie

@@ -1,7 +1,7 @@
 -- `verdicts::abort` meets its contract: each case of the answer is told by its number and values. Assumes nothing.
 use borrow.Author.Needs.{needs}
 use mathlib.Core.Path.{refl}
-use Rattle.meaning.specs.Replies.{ofAbort}
+use Rattle.types.specs.Replies.{ofAbort}
 use Rattle.codes.proofs.Telling.{telling}
 use Rattle.verdicts.proofs.abort.Statement.{statement}
 use Rattle.verdicts.proofs.abort.Tie as tie

@@ -1,7 +1,7 @@
 -- `verdicts::format` meets its contract: each case of the answer is told by its number and values. Assumes nothing.
 use borrow.Author.Needs.{needs}
 use mathlib.Core.Path.{refl}
-use Rattle.meaning.specs.Replies.{ofFormat}
+use Rattle.types.specs.Replies.{ofFormat}
 use Rattle.codes.proofs.Telling.{telling}
 use Rattle.verdicts.proofs.format.Statement.{statement}
 use Rattle.verdicts.proofs.format.Tie as tie

@@ -1,7 +1,7 @@
 -- `verdicts::settle` meets its contract: each case of the answer is told by its number and values. Assumes nothing.
 use borrow.Author.Needs.{needs}
 use mathlib.Core.Path.{refl}
-use Rattle.meaning.specs.Replies.{ofSettle}
+use Rattle.types.specs.Replies.{ofSettle}
 use Rattle.codes.proofs.Telling.{telling}
 use Rattle.verdicts.proofs.settle.Statement.{statement}
 use Rattle.verdicts.proofs.settle.Tie as tie

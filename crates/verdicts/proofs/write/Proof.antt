@@ -1,7 +1,7 @@
 -- `verdicts::write` meets its contract: each case of the answer is told by its number and values. Assumes nothing.
 use borrow.Author.Needs.{needs}
 use mathlib.Core.Path.{refl}
-use Rattle.meaning.specs.Replies.{ofWrite}
+use Rattle.types.specs.Replies.{ofWrite}
 use Rattle.codes.proofs.Telling.{telling}
 use Rattle.verdicts.proofs.write.Statement.{statement}
 use Rattle.verdicts.proofs.write.Tie as tie

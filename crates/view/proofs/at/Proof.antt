@@ -46,17 +46,17 @@ use denote.Triple.Table.{entered, cited}
 use denote.Triple.Walked.{says, Stays, stay-none, walkOf, goes-none, Walks, ends-at, walked, walk-meets}
 use denote.Exit.{yes}
 use denote.Triple.Clauses.{ensured, lasts}
-use Rattle.meaning.specs.Replies.{ofView}
+use Rattle.types.specs.Replies.{ofView}
 use Rattle.view.specs.Seen.{answered}
 use Rattle.view.specs.declared.Chart.{Chart}
-use Rattle.meaning.specs.declared.Point.{Point}
-use Rattle.meaning.specs.declared.ViewReply.{ViewReply}
+use Rattle.types.specs.declared.Point.{Point}
+use Rattle.types.specs.declared.ViewReply.{ViewReply}
 use Rattle.view.proofs.Chart as T
 use Rattle.view.proofs.Chart.Laws as T′
-use Rattle.meaning.proofs.Point as P
-use Rattle.meaning.proofs.Point.Laws as P′
-use Rattle.meaning.proofs.ViewReply as S
-use Rattle.meaning.proofs.ViewReply.Laws as S′
+use Rattle.types.proofs.Point as P
+use Rattle.types.proofs.Point.Laws as P′
+use Rattle.types.proofs.ViewReply as S
+use Rattle.types.proofs.ViewReply.Laws as S′
 use Rattle.view.proofs.ask as ask
 use Rattle.view.proofs.ask.Symbol as ask-def
 use Rattle.view.proofs.ask.Symbol.{name as #view·ask}

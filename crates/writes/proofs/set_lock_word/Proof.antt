@@ -1,5 +1,4 @@
 -- `writes::set_lock_word` meets its contract. Rests on Places of `tables` and Cells of `chains`.
-use native.Mathlib.Omega.{arith}
 use Rattle.chains.proofs.Cells.{lies}
 use Rattle.tables.specs.Layout.{lockTable}
 use Rattle.tables.proofs.Places

@@ -1,5 +1,4 @@
 -- `writes::set_slot_word` meets its contract. Rests on Places of `tables`.
-use native.Mathlib.Omega.{arith}
 use Rattle.tables.specs.Layout.{slotTable}
 use Rattle.tables.proofs.Places
 use borrow.Author.Needs.{needs}

@@ -3,7 +3,7 @@ use Prim.Native.Nat.{min, max}
 use mathlib.Core.Path.{refl, ap, _∙_}
 use native.Mathlib.Omega.{arith}
 use borrow.Author.Tests.{le-leb, lt-leb}
-use Rattle.meaning.specs.Limits.{LAST}
+use Rattle.types.specs.Limits.{LAST}
 use borrow.Author.Tests.{not-true, not-false}
 use Rattle.blocking.proofs.Extremes.{turn-other, turn-off, turn-on}
 use borrow.Author.Needs.{needs}

@@ -1,7 +1,7 @@
 -- `common::lifting::lift` meets its contract: passes until none moves the point. Rests on Lifts.
 use Prim.Native.Nat.{suc, _-_}
 use native.Mathlib.Omega.{arith}
-use Rattle.meaning.specs.Limits.{LAST}
+use Rattle.types.specs.Limits.{LAST}
 use Rattle.meaning.specs.Lists.{all}
 use Rattle.meaning.specs.Points.{allows}
 use Rattle.tables.specs.Decode.{recordsOf}

@@ -9,7 +9,7 @@ use Rattle.chains.proofs.Walks.{row-of, fuel-of}
 use Rattle.chains.proofs.Loops.{Walk}
 use Rattle.meaning.specs.Lists.{greatest}
 use Rattle.meaning.specs.Points.{own, writes}
-use Rattle.meaning.specs.declared.Lock.{Lock}
+use Rattle.types.specs.declared.Lock.{Lock}
 use Rattle.tables.specs.Layout.{lockTable}
 use Rattle.tables.specs.Decode.{recordAt, lockAt}
 use Rattle.tables.proofs.Loops.{locks-start}

@@ -2,7 +2,7 @@
 -- one ends in `Malformed`. Assumes nothing.
 use borrow.Author.Needs.{needs}
 use mathlib.Core.Path.{sym, ap, _∙_}
-use Rattle.meaning.specs.declared.Call.the-variants as C
+use Rattle.types.specs.declared.Call.the-variants as C
 use Rattle.fields.specs.declared.Parsed.the-variants as P
 use Rattle.lines.specs.Calls.{settling}
 use Rattle.fields.proofs.Found.{number-at, number-off, done-past, done-within, handle-is}

@@ -3,7 +3,6 @@ use mathlib.Core.Path.{_∙_}
 use native.Mathlib.Omega.{arith}
 use denote.Ref.{now}
 use Rattle.lookups.proofs.Found.{access-none, access-found}
-use borrow.Author.Needs.{needs}
 use Rattle.lookups.proofs.accesses.access_in.Statement.{statement}
 use Rattle.lookups.proofs.accesses.access_in.Tie as tie
 

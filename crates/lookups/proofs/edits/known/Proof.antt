@@ -5,7 +5,6 @@ use Rattle.lookups.proofs.Slots.{used-row, known-no, known-is}
 use borrow.Author.Needs.{needs}
 use Rattle.lookups.proofs.edits.known.Statement.{statement}
 use Rattle.lookups.proofs.edits.known.Tie as tie
-use Rattle.tables.proofs.generation_of.Reads as generation-of-reads′
 
 slot-of-requires : tie.Need-slot-of-requires
 slot-of-requires c κs = search needs

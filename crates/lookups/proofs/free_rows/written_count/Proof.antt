@@ -9,7 +9,7 @@ use Rattle.chains.proofs.Walks.{row-of, fuel-of}
 use Rattle.chains.proofs.Loops.{Walk}
 use Rattle.meaning.specs.Lists.{keep}
 use Rattle.meaning.specs.Store.{writtenOf}
-use Rattle.meaning.specs.declared.Access.{Access}
+use Rattle.types.specs.declared.Access.{Access}
 use Rattle.tables.specs.Layout.{accessTable}
 use Rattle.tables.specs.Decode.{slotAt, accessAt}
 use Rattle.lookups.proofs.Rooms.{count-start, count-on, count-done, count-bound}

@@ -10,7 +10,7 @@ use Rattle.chains.proofs.Walks.{row-of, fuel-of}
 use Rattle.chains.proofs.Loops.{Walk}
 use Rattle.meaning.specs.Lists.{find}
 use Rattle.meaning.specs.Store.{first, versionOn}
-use Rattle.meaning.specs.declared.Version.{Version}
+use Rattle.types.specs.declared.Version.{Version}
 use Rattle.tables.specs.Layout.{versionTable}
 use Rattle.tables.specs.Decode.{recordAt, versionAt}
 use Rattle.tables.proofs.Loops.{versions-start, find-on, find-out, find-done}

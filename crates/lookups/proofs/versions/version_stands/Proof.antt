@@ -8,7 +8,7 @@ use Rattle.chains.specs.Table.{link}
 use Rattle.chains.proofs.Walks.{row-of, fuel-of}
 use Rattle.chains.proofs.Loops.{Walk}
 use Rattle.meaning.specs.Lists.{any}
-use Rattle.meaning.specs.declared.Version.{Version}
+use Rattle.types.specs.declared.Version.{Version}
 use Rattle.tables.specs.Layout.{versionTable}
 use Rattle.tables.specs.Decode.{recordAt, versionAt}
 use Rattle.tables.proofs.Loops.{versions-start, any-on, any-out, any-done}

@@ -1,5 +1,4 @@
 -- `tables::reads::first_access` meets its contract. Rests on Places, on Cells of `chains`.
-use native.Mathlib.Omega.{arith}
 use Rattle.chains.proofs.Cells.{heads-lie}
 use Rattle.tables.specs.Layout.{accessHeads}
 use Rattle.tables.proofs.Places

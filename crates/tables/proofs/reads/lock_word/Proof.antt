@@ -1,6 +1,5 @@
 -- `tables::reads::lock_word` meets its contract. Rests on Places, on Cells of `chains`.
 use mathlib.Core.Path.{_∙_}
-use native.Mathlib.Omega.{arith}
 use Rattle.chains.proofs.Cells.{lies}
 use Rattle.tables.specs.Layout.{lockTable}
 use Rattle.tables.proofs.Places

@@ -1,5 +1,4 @@
 -- `tables::reads::next_version` meets its contract. Rests on Places, on Cells of `chains`.
-use native.Mathlib.Omega.{arith}
 use Rattle.chains.proofs.Cells.{lies}
 use Rattle.tables.specs.Layout.{versionTable}
 use Rattle.tables.proofs.Places

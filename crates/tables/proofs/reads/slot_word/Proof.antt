@@ -1,6 +1,5 @@
 -- `tables::reads::slot_word` meets its contract. Rests on Places.
 use mathlib.Core.Path.{_∙_}
-use native.Mathlib.Omega.{arith}
 use Rattle.tables.specs.Layout.{slotTable}
 use Rattle.tables.proofs.Places
 use borrow.Author.Needs.{needs}

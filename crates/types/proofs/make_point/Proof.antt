@@ -1,9 +1,9 @@
 -- `make_point` meets its contract: the tests passed at each return say which case of `pointing` holds. Assumes nothing.
 use native.Mathlib.Omega.{arith}
 use borrow.Author.Needs.{needs}
-use Rattle.meaning.proofs.Values.{reading-large, seat-large, point-made}
-use Rattle.meaning.proofs.make_point.Statement.{statement}
-use Rattle.meaning.proofs.make_point.Tie as tie
+use Rattle.types.proofs.Making.{reading-large, seat-large, point-made}
+use Rattle.types.proofs.make_point.Statement.{statement}
+use Rattle.types.proofs.make_point.Tie as tie
 
 returns : tie.Need-returns
 returns c = reading-large (c .before .args .reading .0) (c .before .args .seat .0) (omega (arith, c .if1 .taken))

@@ -3,37 +3,35 @@
 use Prim.Native.Nat.{ℕ}
 use mathlib.Core.Bool.{Bool, true, false}
 use mathlib.Core.List.{List, [], _∷_}
-use Rattle.meaning.specs.Store.{Val, Value}
-use Rattle.meaning.specs.declared.Point.{Point}
-use Rattle.meaning.specs.declared.Handle.{Handle}
-use Rattle.meaning.specs.declared.Refusal.{Refusal}
-use Rattle.meaning.specs.declared.Refusal.the-variants.{Unsound, NoEdit, EditEnded, EditOpen, NoRecord, BadPoint}
-use Rattle.meaning.specs.declared.Refusal.the-variants.{BelowFloor, Held, Frozen, NoAccessRow, NoLockRow}
-use Rattle.meaning.specs.declared.Refusal.the-variants.{NoVersionRow, NoSlot, NotCommon, LockedBelow, BadFormat}
-use Rattle.meaning.specs.declared.PointReply.{PointReply}
-use Rattle.meaning.specs.declared.PointReply.the-variants as Pt
-use Rattle.meaning.specs.declared.FormatReply.{FormatReply}
-use Rattle.meaning.specs.declared.FormatReply.the-variants as Fm
-use Rattle.meaning.specs.declared.BeginReply.{BeginReply}
-use Rattle.meaning.specs.declared.BeginReply.the-variants as Bg
-use Rattle.meaning.specs.declared.WriteReply.{WriteReply}
-use Rattle.meaning.specs.declared.WriteReply.the-variants as Wr
-use Rattle.meaning.specs.declared.LockReply.{LockReply}
-use Rattle.meaning.specs.declared.LockReply.the-variants as Lk
-use Rattle.meaning.specs.declared.ReadReply.{ReadReply}
-use Rattle.meaning.specs.declared.ReadReply.the-variants as Rd
-use Rattle.meaning.specs.declared.CommitReply.{CommitReply}
-use Rattle.meaning.specs.declared.CommitReply.the-variants as Cm
-use Rattle.meaning.specs.declared.AbortReply.{AbortReply}
-use Rattle.meaning.specs.declared.AbortReply.the-variants as Ab
-use Rattle.meaning.specs.declared.SettleReply.{SettleReply}
-use Rattle.meaning.specs.declared.SettleReply.the-variants as St
-use Rattle.meaning.specs.declared.PurgeReply.{PurgeReply}
-use Rattle.meaning.specs.declared.PurgeReply.the-variants as Pg
-use Rattle.meaning.specs.declared.ViewReply.{ViewReply}
-use Rattle.meaning.specs.declared.ViewReply.the-variants as Vw
-use Rattle.meaning.specs.declared.Answer.{Answer}
-use Rattle.meaning.specs.declared.Answer.the-variants as An
+use Rattle.types.specs.Values.{Val, Value}
+use Rattle.types.specs.declared.Refusal.{Refusal}
+use Rattle.types.specs.declared.Refusal.the-variants.{Unsound, NoEdit, EditEnded, EditOpen, NoRecord, BadPoint}
+use Rattle.types.specs.declared.Refusal.the-variants.{BelowFloor, Held, Frozen, NoAccessRow, NoLockRow}
+use Rattle.types.specs.declared.Refusal.the-variants.{NoVersionRow, NoSlot, NotCommon, LockedBelow, BadFormat}
+use Rattle.types.specs.declared.PointReply.{PointReply}
+use Rattle.types.specs.declared.PointReply.the-variants as Pt
+use Rattle.types.specs.declared.FormatReply.{FormatReply}
+use Rattle.types.specs.declared.FormatReply.the-variants as Fm
+use Rattle.types.specs.declared.BeginReply.{BeginReply}
+use Rattle.types.specs.declared.BeginReply.the-variants as Bg
+use Rattle.types.specs.declared.WriteReply.{WriteReply}
+use Rattle.types.specs.declared.WriteReply.the-variants as Wr
+use Rattle.types.specs.declared.LockReply.{LockReply}
+use Rattle.types.specs.declared.LockReply.the-variants as Lk
+use Rattle.types.specs.declared.ReadReply.{ReadReply}
+use Rattle.types.specs.declared.ReadReply.the-variants as Rd
+use Rattle.types.specs.declared.CommitReply.{CommitReply}
+use Rattle.types.specs.declared.CommitReply.the-variants as Cm
+use Rattle.types.specs.declared.AbortReply.{AbortReply}
+use Rattle.types.specs.declared.AbortReply.the-variants as Ab
+use Rattle.types.specs.declared.SettleReply.{SettleReply}
+use Rattle.types.specs.declared.SettleReply.the-variants as St
+use Rattle.types.specs.declared.PurgeReply.{PurgeReply}
+use Rattle.types.specs.declared.PurgeReply.the-variants as Pg
+use Rattle.types.specs.declared.ViewReply.{ViewReply}
+use Rattle.types.specs.declared.ViewReply.the-variants as Vw
+use Rattle.types.specs.declared.Answer.{Answer}
+use Rattle.types.specs.declared.Answer.the-variants as An
 
 -- "Replies: `ok`; `edit` handle; `locked` low high; `read` tr end value; `own` value; `again` tr value; `commit` point;
 -- `nopoint`; `purged` versions locks; `at` point value; `no` number (8: then the handle)." A refusal carries its number
