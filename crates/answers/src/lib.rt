@@ -1,6 +1,6 @@
 // A line run on the store, by the public calls. The store is the part of the words that is in use; before the first
 // Format that succeeds it is empty, and no empty slice is a sound store. Rests on the crates `types`, `meaning`,
-// `format`, `format_room`, `store`, `replies`, `rendering`, `fields` and `lines`.
+// `tables`, `format`, `format_room`, `store`, `replies`, `fields`, `lines` and `rendering`.
 ghost use Prim.Native.Nat.{_≤_};
 ghost use lib.ListN.{length, take};
 ghost use Rattle.lines.specs.Calls.{parsed};

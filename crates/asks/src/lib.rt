@@ -1,6 +1,6 @@
 // Many views after one check of the words: a lent list of asks and a lent area for their replies. An ask is a row of
 // ASK_WORDS words, a record and a point; its reply a row of VIEW_WORDS words. Rests on the crates `types`, `meaning`,
-// `tables`, `soundness`, `calls`, `telling` and `encoding`.
+// `tables`, `soundness`, `calls`, `codes`, `telling` and `encoding`.
 ghost use Prim.Native.Nat.{_+_, _*_, _≤_};
 ghost use mathlib.Core.Path.{_≡_};
 ghost use lib.ListN.{length};

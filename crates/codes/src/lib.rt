@@ -1,5 +1,5 @@
 // What a caller from another language says and hears as numbers: the flags of a call, the number of a refusal, and a
-// value. The crates `verdicts` and `telling` tell whole replies by them. Rests on `meaning`.
+// value. The crates `verdicts` and `telling` tell whole replies by them. Rests on the crates `types` and `meaning`.
 ghost use mathlib.Core.Path.{_≡_};
 ghost use Rattle.types.specs.Replies.{ofRefusal};
 ghost use Rattle.codes.specs.Codes.{codeOf, markOf, bitsOf, extentOf, finishOf};

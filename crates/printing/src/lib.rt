@@ -1,4 +1,4 @@
-// A line written into a lent buffer. Nothing here knows a store. Rests on the crates `meaning`, `replies` and `texts`.
+// A line written into a lent buffer. Nothing here knows a store. Rests on the crates `types`, `replies` and `texts`.
 ghost use Rattle.printing.specs.Shown.{Printed};
 use replies::Line;
 use texts::put_one;

@@ -1,5 +1,5 @@
-// What is to be written, collected in a buffer, so that one write takes many lines. Rests on the crates `printing`,
-// `io` and `libc`.
+// What is to be written, collected in a buffer, so that one write takes many lines. Rests on the crates `io`, `libc`,
+// `replies` and `printing`.
 ghost use Prim.Native.Nat.{_+_, _≤_};
 ghost use lib.ListN.{length};
 ghost use Rattle.printing.specs.Shown.{WIDTH};
