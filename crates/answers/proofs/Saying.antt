@@ -24,6 +24,7 @@ use Rattle.replies.specs.Lines.{lineOf}
 use Rattle.replies.specs.declared.Line.{Line}
 use Rattle.replies.specs.declared.Line.the-variants as L
 use Rattle.fields.specs.declared.Parsed.{Parsed}
+use Rattle.meaning.proofs.Lists.{and-left, and-right}
 use Rattle.answers.specs.Script.{Has, nothing, one, Stands, Said, Says, Answers, called, kept, formatted, said}
 use Rattle.format_room.specs.Room.{roomFor, wordsFor}
 
@@ -64,14 +65,6 @@ within : (b : Bool) (n room : ℕ) → (b ≡ true → n ≤ room) → cond b n 
 within true n room h = h refl
 within false n room h = search needs
 
-first : (a b : Bool) → (a && b) ≡ true → a ≡ true
-first true b h = refl
-first false b h = h
-
-last : (a b : Bool) → (a && b) ≡ true → b ≡ true
-last true b h = h
-last false b h = absurd (false≢true h)
-
 spoilt : (a b : Bool) → b ≡ false → (a && b) ≡ false
 spoilt true b h = h
 spoilt false b h = refl
@@ -81,13 +74,13 @@ unfolding wordsFor roomFor
 words-inside room c {n} e =
     subst (λ (k : ℕ). k ≤ room) (sym e)
     (within (roomFor room c) (sizeOf c) room
-    (λ h. leb-true (sizeOf c) room (last (goodCounts c) (leb (sizeOf c) room) h)))
+    (λ h. leb-true (sizeOf c) room (and-right (goodCounts c) (leb (sizeOf c) room) h)))
 
 -- whether Format takes the words that it is lent
 module _ (c : Counts) (room : ℕ) where
   good : roomFor room c ≡ true → goodCounts c ≡ true
   unfolding roomFor
-  good h = first (goodCounts c) (leb (sizeOf c) room) h
+  good h = and-left (goodCounts c) (leb (sizeOf c) room) h
 
   all-lent : roomFor room c ≡ true → wordsFor room c ≡ sizeOf c
   unfolding wordsFor

@@ -22,14 +22,12 @@ use Rattle.meaning.proofs.Spans.{firstCovered-low}
 use Rattle.meaning.proofs.Tests.{Meeting, covers-out, covers-in, meets-out, meets-in, blockers-out, blockers-in}
 use Rattle.tables.specs.Decode.{recordAt, decodeAt}
 use Rattle.tables.proofs.Decoded.{rec-at}
+use Rattle.meaning.proofs.Lists.{both}
 use Rattle.blocking.specs.declared.Blocked.{Blocked}
 use Rattle.blocking.specs.Search.{nearest, nobody, blockedBy, firstJudged}
 use Rattle.blocking.proofs.Near.{startsAt, starters, near-point, near-by}
 
 -- tests that agree on a list keep the same of it
-either-way : (a b : Bool) → (a ≡ true → b ≡ true) → (b ≡ true → a ≡ true) → a ≡ b
-either-way true b f g = sym (f refl)
-either-way false b f g = sym (false-in b (λ e. not-both (g e) refl))
 
 module _ {A : Type 0} (p q : A → Bool) where
   keep-as : (xs : List A) → ((x : A) → x ∈ xs → p x ≡ q x) → keep p xs ≡ keep q xs
@@ -72,7 +70,7 @@ module _ (mode k low high : ℕ) (x : Rec) (order : low ≤ high) where
   starters-hold proper inside =
       ap (λ (ls : List Lock). least SLOTS (map (λ (l : Lock). l .owner) ls))
       (keep-as begins (covers first) (blockers mode k x)
-      (λ l m. either-way (begins l) (covers first l) (λ e. out l m (begins-out l e)) (back l m)))
+      (λ l m. both (begins l) (covers first l) (λ e. out l m (begins-out l e)) (back l m)))
     where
       out : (l : Lock) → l ∈ blockers mode k x → Meeting low high l × (max low (l .low) ≡ first) → covers first l ≡ true
       out l m b =

@@ -161,7 +161,7 @@ unfolding withEdit setEdit
 edit-twice s zero a b = refl
 edit-twice s (suc k) a b = rw (set-set (s .edits) k a b) refl
 
-rec-twice : (s : Store) (r : ℕ) (a b : Rec) → withRec (withRec s r a) r b ≡ withRec s r b
+pub rec-twice : (s : Store) (r : ℕ) (a b : Rec) → withRec (withRec s r a) r b ≡ withRec s r b
 unfolding withRecords
 rec-twice s r a b = rw (set-set (s .records) r a b) refl
 

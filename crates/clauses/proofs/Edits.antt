@@ -18,8 +18,8 @@ use Rattle.meaning.specs.Sound.{stateListed, generationListed, pointListed, nam
 use Rattle.meaning.specs.Sound.{readsPresent, startsRead, readsLocked, pointCommon, freeIdle, soundEdit}
 use Rattle.types.specs.declared.Access.{Access}
 use Rattle.meaning.proofs.Lists.{and-in, and-left, and-right, implies-out, implies-in, all-in, all-out, every-at}
+use Rattle.meaning.proofs.Lists.{both}
 use Rattle.clauses.specs.Clauses.{readSound, accessesSound, slotListed, Stamps}
-use Rattle.clauses.proofs.Steps.{both}
 
 pub stamps-up : {k : ℕ} {m : List ℕ} → Stamps (k - 1) m → Stamps k m
 stamps-up {k} {m} s = record { size = s .size; upto = λ i. omega (arith, s .upto i) }

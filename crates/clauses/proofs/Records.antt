@@ -9,8 +9,8 @@ use Rattle.meaning.specs.Store.{Rec, Edit}
 use Rattle.meaning.specs.Sound.{modesListed, versionsFall, versionsLie, versionsEnd, noneAtZero, locksLie, ownersInUse}
 use Rattle.meaning.specs.Sound.{writesApart, versionsBacked, soundRec}
 use Rattle.meaning.proofs.Lists.{and-in, and-left, and-right, all-in, all-out, every-at}
+use Rattle.meaning.proofs.Lists.{both}
 use Rattle.clauses.specs.Clauses.{modeListed, spanLies, ownerUsed, lockSound, versionsSound}
-use Rattle.clauses.proofs.Steps.{both}
 use Rattle.clauses.proofs.Versions.{versions-out, versions-in}
 
 -- locks

@@ -1,6 +1,6 @@
 -- One test after the other, as code with early exits makes them: what a conjunction or a disjunction is once its first
 -- test is known. Rests on nothing.
-use mathlib.Core.Path.{_≡_, refl, sym, _∙_}
+use mathlib.Core.Path.{_≡_, refl, _∙_}
 use mathlib.Core.Bool.{Bool, true, false, _&&_, _||_}
 
 pub and-no : {a : Bool} (b : Bool) → a ≡ false → false ≡ (a && b)
@@ -14,12 +14,6 @@ or-yes b e = rw e refl
 
 pub or-on : {a b q : Bool} → a ≡ false → q ≡ b → q ≡ (a || b)
 or-on p e = rw p e
-
--- two tests that imply each other are equal
-pub both : (a b : Bool) → (a ≡ true → b ≡ true) → (b ≡ true → a ≡ true) → a ≡ b
-both true b f g = sym (f refl)
-both false true f g = g refl
-both false false f g = refl
 
 pub and-last : {b q : Bool} → q ≡ b → q ≡ (b && true)
 and-last {b} e = e ∙ go b

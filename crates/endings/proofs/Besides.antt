@@ -6,7 +6,6 @@ use mathlib.Core.Path.{_≡_, refl, ap, _∙_}
 use mathlib.Core.Bool.{Bool, true, false}
 use mathlib.Core.List.{List, [], _∷_, List·Memᴰ·head}
 use lib.ListN.{length, set}
-use lib.Seq.{set-set}
 use Rattle.types.specs.Limits.{READ, WRITE}
 use Rattle.types.specs.declared.Access.{Access}
 use Rattle.types.specs.declared.Counts.{Counts}
@@ -17,8 +16,9 @@ use Rattle.meaning.proofs.StoresMore.{locks-set}
 use Rattle.tables.specs.Layout.{MODES}
 use Rattle.tables.specs.Decode.{accessAt, decodeAt}
 use Rattle.tables.specs.Words.{Well}
-use Rattle.tables.proofs.Decoded.{decoded-records, records-length}
 use Rattle.changes.specs.Becomes.{AccessesKept, Beside, onLocks}
+use Rattle.changes.proofs.OneWord.{rec-twice}
+use Rattle.calls.proofs.Acting.{records-counted}
 use Rattle.endings.specs.Steps.{changed, leftRec, mark, LeaveNeed}
 use Rattle.endings.proofs.Folds.{rec-again}
 use Rattle.endings.proofs.Leaving.{leave-length}
@@ -44,14 +44,6 @@ module _ (c : Counts) (w : List ℕ) where
   unfolding decodeAt
   version-rows = refl
 
-  pub records-count : length (decodeAt c w .records) ≡ c .records
-  records-count = rw decoded-records (records-length c w)
-
--- one record changed twice
-pub rec-twice : (s : Store) (r : ℕ) (x y : Rec) → withRec (withRec s r x) r y ≡ withRec s r y
-unfolding withRecords
-rec-twice s r x y = rw (set-set (s .records) r x y) refl
-
 pub rec-changed : (s : Store) (r : ℕ) (x : Rec) → r < length (s .records) → recAt (withRec s r x) r ≡ x
 unfolding withRecords
 rec-changed s r x h = rec-same (s .records) r x h
@@ -75,7 +67,7 @@ module _ (c : Counts) (w w₁ : List ℕ) (a : Access) (r t : ℕ) (e : r ≡ a 
   x = withLocks (recAt s r) (leaveSettled (hasRead a) READ (a .from) t (recAt s r .locks))
 
   inside : r < length (s .records)
-  inside = omega (arith, records-count c w)
+  inside = omega (arith, records-counted c w)
 
   pub left-room : locksUsed s + (mark (hasRead a) + mark (a .written)) ≤ c .locks
       → locksUsed (decodeAt c w₁) + mark (a .written) ≤ c .locks
@@ -116,7 +108,7 @@ module _ (c : Counts) (w : List ℕ) (i : ℕ) (a : Access) (r t : ℕ) (W : Wel
   need = rw ea n
 
   row-here : r < c .records
-  row-here = omega (arith, need .existing a (List·Memᴰ·head refl), records-count c w, er)
+  row-here = omega (arith, need .existing a (List·Memᴰ·head refl), records-counted c w, er)
 
   row-room : locksUsed (decodeAt c w) + (mark (hasRead a) + mark (a .written)) ≤ c .locks
   row-room = omega (arith, need .room, lock-rows c w)

@@ -10,9 +10,9 @@ use Rattle.meaning.specs.Points.{dropOwner}
 use Rattle.tables.specs.Decode.{decodeAt}
 use Rattle.tables.specs.Words.{Well}
 use Rattle.changes.specs.Becomes.{Becomes, onLocks}
+use Rattle.calls.proofs.Acting.{records-counted}
 use Rattle.endings.specs.Steps.{freedRec, freedAt, freedBelow, freedAll}
 use Rattle.endings.proofs.Folds.{freed-all}
-use Rattle.endings.proofs.Besides.{records-count}
 
 pub record Freeing (k : ℕ) (c : Counts) (answer : Store) (w : List ℕ) (r : ℕ) : Type 0 where
   pub well : Well c w
@@ -24,7 +24,7 @@ module _ (k : ℕ) (c : Counts) where
   free-start w W =
       record {
         well = W;
-        same = ap (λ r. freedBelow k r (decodeAt c w)) (sym (records-count c w)) ∙ freed-all k (decodeAt c w);
+        same = ap (λ r. freedBelow k r (decodeAt c w)) (sym (records-counted c w)) ∙ freed-all k (decodeAt c w);
         within = omega arith;
       }
 

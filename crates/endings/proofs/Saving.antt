@@ -22,9 +22,10 @@ use Rattle.types.specs.declared.Counts.{Counts}
 use Rattle.tables.specs.Decode.{accessAt, decodeAt}
 use Rattle.tables.specs.Words.{Well}
 use Rattle.changes.specs.Becomes.{Beside, onVersions, versionOf}
+use Rattle.calls.proofs.Acting.{records-counted}
 use Rattle.endings.specs.Steps.{changed, along, savedRec, wroteOf, SaveNeed}
 use Rattle.endings.proofs.Folds.{rec-again, along-all, existing-rest}
-use Rattle.endings.proofs.Besides.{records-count, version-rows, beside-none}
+use Rattle.endings.proofs.Besides.{version-rows, beside-none}
 
 idle : (t r : ℕ) (x : Rec) → savedRec t (noAccess r) x ≡ x
 unfolding savedRec
@@ -95,7 +96,7 @@ module _ (c : Counts) (w : List ℕ) (i : ℕ) (a : Access) (t : ℕ) (W : Well 
       → Well c w × (r < c .records) × (1 ≤ t) × (versionsUsed (decodeAt c w) < c .versions)
   version-needs r er p e = (
     W,
-    omega (arith, save-record a [] (decodeAt c w) need, records-count c w, er),
+    omega (arith, save-record a [] (decodeAt c w) need, records-counted c w, er),
     p,
     omega (arith, save-free a [] (decodeAt c w) need e, version-rows c w),
   )

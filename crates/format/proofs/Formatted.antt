@@ -26,9 +26,10 @@ use Rattle.tables.specs.Words.{Well, namesRecord, marked, decode, soundWords}
 use Rattle.tables.proofs.Bridge.{well-in}
 use Rattle.tables.proofs.Header.{good-ranged}
 use Rattle.tables.proofs.Places
+use Rattle.tables.proofs.Header.{size-least}
 use Rattle.format.specs.Format.{headerWords, blankWords, nextFree, linked, formattedWords, FormattedIsSound}
 use Rattle.format.specs.Format.{FormattedIsFresh}
-use Rattle.format.proofs.Laying.{size-least, next-in, linked-size, versions-lie, locks-lie, accesses-lie}
+use Rattle.format.proofs.Laying.{next-in, linked-size, versions-lie, locks-lie, accesses-lie}
 use Rattle.format.proofs.Links.{linked-below, linked-link, free-parted, free-rows}
 
 -- the blank words: the header, then zeros

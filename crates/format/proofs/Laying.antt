@@ -17,6 +17,7 @@ use Rattle.meaning.proofs.Lists.{and-left, and-right}
 use Rattle.tables.proofs.Header.{good-ranged}
 use Rattle.tables.specs.Layout.{HEADER, Ranged, sizeOf, versionBase, lockBase, accessBase, versionTable, lockTable}
 use Rattle.tables.specs.Layout.{accessTable}
+use Rattle.tables.proofs.Header.{size-least}
 use Rattle.format.specs.Format.{headerWords, blankWords, nextFree, linkedTo, linked, formatFits}
 
 -- the first i words are 0
@@ -60,10 +61,6 @@ pub blank-is : (c : Counts) (n : ℕ) → HEADER ≤ n
 blank-is c n l =
     let e : n ≡ suc (suc (suc (suc (suc (suc (suc (suc (n - HEADER)))))))) = omega arith in
     ap (λ k. sets (replicate k 0) 0 (headerWords c)) e ∙ blank-at c (n - HEADER)
-
-pub size-least : (c : Counts) → HEADER ≤ sizeOf c
-unfolding sizeOf
-size-least c = omega arith
 
 pub blank-words : (c : Counts) (n : ℕ) → n ≡ sizeOf c → sets (replicate n 0) 0 (headerWords c) ≡ blankWords c
 unfolding blankWords

@@ -7,22 +7,16 @@ use mathlib.Core.Bool.{Bool, true}
 use mathlib.Core.List.{List, [], _∷_}
 use Rattle.meaning.specs.Store.{Store, fresh}
 use Rattle.types.specs.Replies.{Reply}
-use Rattle.meaning.specs.Outcomes.{replies}
-use Rattle.meaning.specs.Records.{viewChecks, viewing}
+use Rattle.meaning.specs.Records.{viewing}
 use Rattle.meaning.specs.Calls.{act, run, after}
 use Rattle.meaning.specs.Sound.{soundStore}
 use Rattle.types.specs.declared.Call.{Call}
 use Rattle.types.specs.declared.Call.the-variants as C
 use Rattle.meaning.proofs.Lists.{not-both}
-use Rattle.meaning.proofs.Verdicts.{unless-keeps}
 use Rattle.meaning.proofs.Laws.{fresh-is-sound, calls-keep-sound, refusal-changes-nothing}
 use Rattle.meaning.specs.Contract.{Does, Shows}
+use Rattle.meaning.proofs.Verdicts.{view-same}
 use Rattle.history.specs.Words.{EnsuresDoes, Calls, done, then, EveryListListed}
-
--- a View changes nothing, so that its reply is its whole contract
-pub view-same : (r p : ℕ) (s : Store) → viewing r p s .store ≡ s
-unfolding viewing
-view-same r p s = unless-keeps (λ (t : Store). t ≡ s) s (viewChecks s r p) (replies s _) refl (λ e. refl)
 
 module _ (Lent : Type 0) (decode : Lent → Store) (soundLent : Lent → Bool) where
   pub view-does : (r p : ℕ) {w : Lent} {q : Reply} → Shows Lent decode soundLent (viewing r p) w q

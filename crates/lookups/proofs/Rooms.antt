@@ -7,7 +7,7 @@ use mathlib.Core.Bool.{Bool, true, false, cond}
 use mathlib.Core.List.{List, [], _∷_, map}
 use native.Mathlib.Omega.{arith}
 use lib.Dec.{leb, ltb, eqb}
-use lib.ListN.{length, length-map}
+use lib.ListN.{length}
 use borrow.Author.Tests.{le-leb, lt-leb, ltb-true, ltb-false, eqb-true, eqb-false}
 use Rattle.chains.specs.declared.Table.{Table}
 use Rattle.chains.specs.declared.Heads.{Heads}
@@ -15,7 +15,6 @@ use Rattle.chains.specs.Lists.{firstOf}
 use Rattle.chains.specs.Walk.{among, more, rows, ends}
 use Rattle.chains.specs.Table.{link, chain, ended, headOf, rowsOf, endedOf}
 use Rattle.chains.specs.Partition.{partition, used}
-use Rattle.chains.proofs.Bounded.{sum-ext}
 use Rattle.chains.proofs.Chains.{lengths}
 use Rattle.chains.proofs.Walks.{among-zero, step, stop}
 use Rattle.chains.proofs.Words.{rep-of, rep-rows}
@@ -26,11 +25,12 @@ use Rattle.meaning.specs.Outcomes.{lockRoom, accessRoom, versionRoom}
 use Rattle.types.specs.declared.Counts.{Counts}
 use Rattle.meaning.proofs.Lists.{test}
 use Rattle.tables.specs.Layout.{lockTable, lockHeads, versionTable, versionHeads, accessTable, accessHeads}
-use Rattle.tables.specs.Decode.{versionAt, lockAt, accessAt, versionRows, lockRows, accessRows, versionsOf, locksOf}
-use Rattle.tables.specs.Decode.{accessesOf, recordAt, slotAt, recordsOf, editsOf, decodeAt}
-use Rattle.tables.proofs.Builds.{sum-head, total-build}
+use Rattle.tables.specs.Decode.{accessAt, versionRows, lockRows, accessRows}
+use Rattle.tables.specs.Decode.{accessesOf, slotAt, decodeAt}
+use Rattle.tables.proofs.Builds.{sum-head}
 use Rattle.tables.proofs.Decoded.{edit-at}
 use Rattle.tables.proofs.Loops.{accesses-start}
+use Rattle.tables.proofs.Rooms.{versions-used, locks-used, accesses-used}
 use Rattle.lookups.proofs.Found.{first-zero, first-some}
 use Rattle.chains.specs.Walk.{IsRow}
 
@@ -103,29 +103,8 @@ module _ (t : Table) (h : Heads) (w : List ℕ) (p : partition t h w ≡ true) w
       → eqb left 0 ≡ leb (used t h w + most) (t .count)
   counting-says x i d e = counting-here (rw x at i) d e
 
--- the rows in use of the decoded store
+-- the rows in use of the decoded store, counted
 module _ (c : Counts) (w : List ℕ) where
-  locks-used : locksUsed (decodeAt c w) ≡ used (lockTable c) (lockHeads c) w
-  unfolding locksUsed decodeAt recordsOf used lockHeads recordAt locksOf lockRows
-  locks-used =
-      total-build (c .records) (recordAt c w) (λ x. length (x .locks))
-      ∙ sum-ext (λ r. length (map (lockAt c w) (lockRows c w r))) (λ r. length (lockRows c w r)) (c .records)
-      (λ r l. length-map (lockRows c w r) (lockAt c w))
-
-  versions-used : versionsUsed (decodeAt c w) ≡ used (versionTable c) (versionHeads c) w
-  unfolding versionsUsed decodeAt recordsOf used versionHeads recordAt versionsOf versionRows
-  versions-used =
-      total-build (c .records) (recordAt c w) (λ x. length (x .versions))
-      ∙ sum-ext (λ r. length (map (versionAt c w) (versionRows c w r))) (λ r. length (versionRows c w r)) (c .records)
-      (λ r l. length-map (versionRows c w r) (versionAt c w))
-
-  accesses-used : accessesUsed (decodeAt c w) ≡ used (accessTable c) (accessHeads c) w
-  unfolding accessesUsed decodeAt editsOf used accessHeads slotAt accessesOf accessRows
-  accesses-used =
-      total-build (c .edits) (λ i. slotAt c w (suc i)) (λ e. length (e .accesses))
-      ∙ sum-ext (λ i. length (map (accessAt c w) (accessRows c w (suc i)))) (λ i. length (accessRows c w (suc i)))
-      (c .edits) (λ i l. length-map (accessRows c w (suc i)) (accessAt c w))
-
   less-one : (a b : ℕ) → leb (a + 1) b ≡ ltb a b
   less-one a b = go (test (ltb a b))
     where
@@ -136,7 +115,7 @@ module _ (c : Counts) (w : List ℕ) where
   lock-sized : ltb (used (lockTable c) (lockHeads c) w) (lockTable c .count)
       ≡ ltb (locksUsed (decodeAt c w)) (decodeAt c w .lockRows)
   unfolding lockTable decodeAt
-  lock-sized = ap (λ n. ltb n (c .locks)) (sym locks-used)
+  lock-sized = ap (λ n. ltb n (c .locks)) (sym (locks-used c w))
 
   pub lock-room-is : {q : Bool} → q ≡ leb (used (lockTable c) (lockHeads c) w + 1) (lockTable c .count)
       → q ≡ lockRoom (decodeAt c w)
@@ -147,7 +126,7 @@ module _ (c : Counts) (w : List ℕ) where
       → leb (used (versionTable c) (versionHeads c) w + m) (versionTable c .count)
       ≡ leb (versionsUsed (decodeAt c w) + m) (decodeAt c w .versionRows)
   unfolding versionTable decodeAt
-  version-sized m = ap (λ n. leb (n + m) (c .versions)) (sym versions-used)
+  version-sized m = ap (λ n. leb (n + m) (c .versions)) (sym (versions-used c w))
 
   pub version-room-is : {q : Bool} {m : ℕ} (k : ℕ) → IsRow (c .edits) k → m ≡ length (writtenOf (slotAt c w k))
       → q ≡ leb (used (versionTable c) (versionHeads c) w + m) (versionTable c .count)
@@ -161,7 +140,7 @@ module _ (c : Counts) (w : List ℕ) where
   unfolding accessTable decodeAt
   access-sized =
       less-one (used (accessTable c) (accessHeads c) w) (c .accesses)
-      ∙ ap (λ n. ltb n (c .accesses)) (sym accesses-used)
+      ∙ ap (λ n. ltb n (c .accesses)) (sym (accesses-used c w))
 
   module _ (k r : ℕ) (l : IsRow (c .edits) k) {i : ℕ}
       (d : i ≡ firstOf (λ j. isOf r (accessAt c w j)) (accessRows c w k)) where

@@ -18,6 +18,12 @@ use Rattle.meaning.specs.Lists.{greatest}
 pub and-in : {a b : Bool} → a ≡ true → b ≡ true → (a && b) ≡ true
 and-in p q = rw (p, q)
 
+-- two tests that imply each other are equal
+pub both : (a b : Bool) → (a ≡ true → b ≡ true) → (b ≡ true → a ≡ true) → a ≡ b
+both true b f g = sym (f refl)
+both false true f g = g refl
+both false false f g = refl
+
 pub and-left : (a b : Bool) → (a && b) ≡ true → a ≡ true
 and-left true b e = refl
 and-left false b e = e

@@ -9,10 +9,11 @@ use lib.Dec.{eqb}
 use lib.ListN.{length}
 use borrow.Author.Tests.{eqb-true, ltb-true}
 use Rattle.types.specs.Limits.{FREE, OPEN}
+use Rattle.meaning.specs.Records.{viewing, viewChecks}
 use Rattle.meaning.specs.Store.{Store, slotOf, generationOf, editAt, recAt, inUse, locksUsed}
 use Rattle.meaning.specs.Points.{frozen, holder}
-use Rattle.meaning.specs.Outcomes.{Outcome, Verdict, pass, refuse, orElse, needs, unless, knows, isOpen, forOpen}
-use Rattle.meaning.specs.Outcomes.{judge, handleAt, hasRecord, lockRoom}
+use Rattle.meaning.specs.Outcomes.{Outcome, replies, Verdict, pass, refuse, orElse, needs, unless, knows, isOpen}
+use Rattle.meaning.specs.Outcomes.{forOpen, judge, handleAt, hasRecord, lockRoom}
 use Rattle.meaning.proofs.Lists.{and-left, and-right}
 use Rattle.meaning.proofs.Stores.{InRange, used-out, used-range}
 
@@ -85,3 +86,8 @@ hasRecord-out s r e = ltb-true r (length (s .records)) e
 pub lockRoom-out : (s : Store) → lockRoom s ≡ true → locksUsed s < s .lockRows
 unfolding lockRoom
 lockRoom-out s e = ltb-true (locksUsed s) (s .lockRows) e
+
+-- a view leaves the store as it is
+pub view-same : (r p : ℕ) (s : Store) → viewing r p s .store ≡ s
+unfolding viewing
+view-same r p s = unless-keeps (λ (t : Store). t ≡ s) s (viewChecks s r p) (replies s _) refl (λ e. refl)

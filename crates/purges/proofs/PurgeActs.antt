@@ -29,7 +29,7 @@ use Rattle.changes.proofs.OneWord.{rec-there, then-rec}
 use Rattle.calls.specs.Contract.{Acts, Makes}
 use Rattle.calls.proofs.Acting.{ready, makes-refused, makes-done, makes-as, acts}
 use Rattle.endings.specs.Parts.{lockedBelow, purgedTo, purgeAll}
-use Rattle.endings.proofs.Besides.{records-count}
+use Rattle.calls.proofs.Acting.{records-counted}
 use Rattle.purges.proofs.PurgeExits
 use Rattle.endings.proofs.EndActs.{acts-refused}
 
@@ -105,7 +105,7 @@ module _ (w : List ℕ) (c : Counts) (P : soundWords (lent w) ≡ true) (E : c �
     (eq : q ≡ ltb rec (c .records)) where
   has-is : (b : Bool) → q ≡ b → hasRecord (decodeAt c w) rec ≡ b
   unfolding hasRecord
-  has-is b z = rw (records-count c w) (sym eq ∙ z)
+  has-is b z = rw (records-counted c w) (sym eq ∙ z)
 
   pub purge-refused : (b : ℕ) → q ≡ false → Acts (purging rec b) (lent w) (lent w) (refusing 5 [])
   purge-refused b z =

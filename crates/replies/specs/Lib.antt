@@ -1,2 +1,2 @@
--- What a line is.
+-- What a line is. Rests on the crate `types`.
 pub mod Lines

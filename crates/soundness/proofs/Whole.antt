@@ -22,7 +22,7 @@ use Rattle.meaning.specs.Sound.{rowsFit, soundRec, soundEdit, soundStore}
 use Rattle.types.specs.declared.Counts.{Counts}
 use Rattle.meaning.proofs.Lists.{and-in, and-left, and-right, every-at}
 use Rattle.tables.specs.Layout as Layout
-use Rattle.tables.specs.Layout.{HEADER, sizeOf, headerOk, Fits, versionTable, lockTable, accessTable, versionHeads}
+use Rattle.tables.specs.Layout.{HEADER, headerOk, Fits, versionTable, lockTable, accessTable, versionHeads}
 use Rattle.tables.specs.Layout.{lockHeads, accessHeads}
 use Rattle.tables.specs.Decode.{recordAt, slotAt, recordsOf, editsOf, decodeAt, versionRows, lockRows, accessRows}
 use Rattle.tables.specs.Decode.{versionsOf, locksOf, accessesOf}
@@ -33,7 +33,9 @@ use Rattle.tables.proofs.Bridge.{well-at}
 use Rattle.tables.proofs.Decoded.{records-length, edits-length}
 use Rattle.tables.proofs.Header.{ranged-good, header-fits}
 use Rattle.clauses.specs.Clauses.{recordsSound, slotsSound}
-use Rattle.clauses.proofs.Steps.{both, and-no, and-on}
+use Rattle.clauses.proofs.Steps.{and-no, and-on}
+use Rattle.tables.proofs.Header.{size-least}
+use Rattle.meaning.proofs.Lists.{both}
 
 length-map : {A : Type 0} (g : ℕ → A) (rs : List ℕ) → length (map g rs) ≡ length rs
 length-map g [] = refl
@@ -127,10 +129,6 @@ module _ (w : List ℕ) {h : Bool} (e : h ≡ headerOk w) (z : h ≡ true) where
     checked o =
         and-on (formed-is ∙ o)
         (store-checked c w (well-at c w (fits-read p) (sym eb ∙ o)) ∙ ap (λ d. soundStore (decodeAt d w)) p)
-
-size-least : (c : Counts) → HEADER ≤ sizeOf c
-unfolding sizeOf
-size-least c = omega arith
 
 pub header-long : (w : List ℕ) {h : Bool} → h ≡ headerOk w → h ≡ true → HEADER ≤ length w
 header-long w e z = omega (arith, header-fits w (sym e ∙ z) .size, size-least (Layout.countsOf w))

@@ -4,10 +4,11 @@ use mathlib.Core.Path.{_≡_, refl, sym, _∙_}
 use mathlib.Core.List.{List}
 use Rattle.meaning.specs.Store.{Store}
 use Rattle.types.specs.Replies.{Reply}
-use Rattle.meaning.specs.Outcomes.{Outcome, replies, Verdict, pass, refuse, unless}
-use Rattle.meaning.specs.Records.{viewing, viewChecks}
+use Rattle.meaning.specs.Outcomes.{Outcome}
+use Rattle.meaning.specs.Records.{viewing}
 use Rattle.meaning.specs.Calls.{act}
 use Rattle.types.specs.declared.Call.{Call}
+use Rattle.meaning.proofs.Verdicts.{view-same}
 use Rattle.store.specs.Answers.{Does, Shows}
 
 -- the same outcome of every store
@@ -25,15 +26,6 @@ does-same e d =
 -- the call that was matched
 pub does-matched : {c d : Call} {w w′ : List ℕ} {r : Reply} → c ≡ d → Does (act d) w w′ r → Does (act c) w w′ r
 does-matched e x = rw e x
-
--- a view leaves the store as it is
-unless-same : (s : Store) (v : Verdict) (x : Reply) → unless s v (replies s x) .store ≡ s
-unless-same s pass x = refl
-unless-same s (refuse n more) x = refl
-
-pub view-same : (r p : ℕ) (s : Store) → viewing r p s .store ≡ s
-unfolding viewing
-view-same r p s = unless-same s (viewChecks s r p) _
 
 pub shows-does : (r p : ℕ) {w : List ℕ} {q : Reply} → Shows (viewing r p) w q → Does (viewing r p) w w q
 shows-does r p v =

@@ -68,7 +68,8 @@ ranged-good c g =
       in-range (c .accesses) MAX-ROWS (g .accesses-low) (g .accesses-high),
     ) refl
 
-size-least : (c : Counts) → HEADER ≤ sizeOf c
+-- a store is longer than its header
+pub size-least : (c : Counts) → HEADER ≤ sizeOf c
 unfolding sizeOf
 size-least c = omega arith
 

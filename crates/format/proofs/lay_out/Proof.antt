@@ -1,8 +1,9 @@
 -- `format::lay_out` meets its contract: its steps are those of `formattedWords`. Rests on Laying.
 use mathlib.Core.Path.{_∙_}
 use native.Mathlib.Omega.{arith}
+use Rattle.tables.proofs.Header.{size-least}
 use Rattle.format.specs.Format.{formattedWords}
-use Rattle.format.proofs.Laying.{size-least, blank-words, versions-lie, locks-lie, accesses-lie}
+use Rattle.format.proofs.Laying.{blank-words, versions-lie, locks-lie, accesses-lie}
 use borrow.Author.Needs.{needs}
 use Rattle.format.proofs.lay_out.Statement.{statement}
 use Rattle.format.proofs.lay_out.Tie as tie
