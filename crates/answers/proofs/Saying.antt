@@ -19,7 +19,7 @@ use Rattle.tables.specs.Layout.{sizeOf, headerOk, countsOf}
 use Rattle.tables.specs.Words.{lent, decode, soundWords, formed}
 use Rattle.format.specs.Format.{formatFits, formattedWords, Formats}
 use Rattle.format.proofs.Formatted.{formatted-sound, formatted-fresh}
-use Rattle.store.specs.Answers.{Does}
+use Rattle.store.specs.Promises.{Does}
 use Rattle.replies.specs.Lines.{lineOf}
 use Rattle.replies.specs.declared.Line.{Line}
 use Rattle.replies.specs.declared.Line.the-variants as L

@@ -14,7 +14,7 @@ use Rattle.types.specs.declared.Call.{Call}
 use Rattle.meaning.specs.Contract as contract
 use Rattle.tables.specs.Words.{Lent, lent, decode, soundWords}
 use Rattle.history.specs.Words.{Calls, done, then}
-use Rattle.store.specs.Answers.{Does}
+use Rattle.store.specs.Promises.{Does}
 use Rattle.encoding.specs.Encoding.{CALL-WORDS, NUMBERS, REPLY-WORDS, callAt, callsOf}
 use Rattle.batch.specs.Runs.{Answers, Steps, Runs, fitting}
 use Rattle.encoding.proofs.Rows.{Told, told-none, told-more}

@@ -11,7 +11,7 @@ use Rattle.meaning.specs.Calls.{act}
 use Rattle.types.specs.declared.Call.{Call}
 use Rattle.tables.specs.Words.{Lent, lent, decode, soundWords}
 use Rattle.history.specs.Words.{Calls}
-use Rattle.store.specs.Answers.{Does}
+use Rattle.store.specs.Promises.{Does}
 use Rattle.encoding.specs.Encoding.{CALL-WORDS, NUMBERS, REPLY-WORDS, callAt, callsOf, rowOf, rowsOf}
 
 -- one call: its contract, and its reply as a row of words

@@ -15,7 +15,8 @@ use Rattle.chains.proofs.Segments.{Seg}
 use Rattle.chains.proofs.Chains
 use Rattle.chains.proofs.Words.{rep-of, head-first}
 
-sum-first : (f : ℕ → ℕ) (m : ℕ) → sumTo (suc m) f ≡ f 0 + sumTo m (λ k. f (suc k))
+-- a sum from 0 on, its first term apart
+pub sum-first : (f : ℕ → ℕ) (m : ℕ) → sumTo (suc m) f ≡ f 0 + sumTo m (λ k. f (suc k))
 unfolding sumTo
 sum-first f zero = omega arith
 sum-first f (suc m) = omega (arith, sum-first f m)

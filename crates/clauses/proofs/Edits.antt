@@ -1,6 +1,6 @@
 -- The clauses of a slot, in the order in which the check tests them, are those of `soundEdit`: with no stamp k at
--- first, a record is named at most once exactly if it never bears the stamp k when it is met. Rests on Steps and on
--- Lists of the crate `meaning`.
+-- first, a record is named at most once exactly if it never bears the stamp k when it is met. Rests on Lists of
+-- the crate `meaning`.
 use Prim.Native.Nat.{ℕ, _-_, _≤_, _<_}
 use mathlib.Core.Path.{_≡_, refl, sym, ap, _∙_}
 use mathlib.Core.Logic.{_⊎_, inl, inr}

@@ -1,5 +1,5 @@
 -- The clauses of a record, in the order in which the check tests them, are those of `soundRec`. Rests on Versions and
--- Steps.
+-- on Lists of the crate `meaning`.
 use Prim.Native.Nat.{ℕ}
 use mathlib.Core.Path.{_≡_, refl}
 use mathlib.Core.Bool.{Bool, true, _&&_}

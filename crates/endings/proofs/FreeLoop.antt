@@ -1,5 +1,5 @@
 -- Settle's loop over the records, which takes slot k's locks from each: what is left to do makes the answer of the
--- present store. Rests on Folds and Besides.
+-- present store. Rests on Folds and on Acting of `calls`.
 use Prim.Native.Nat.{ℕ, zero, suc, _-_, _≤_, _<_}
 use native.Mathlib.Omega.{arith}
 use mathlib.Core.Path.{_≡_, sym, ap, _∙_}

@@ -11,7 +11,7 @@ ghost use Rattle.meaning.specs.Records.{purging, viewing};
 ghost use Rattle.types.specs.Numbers.{pointing};
 ghost use Rattle.types.specs.declared.Pick.the-variants.{Earliest, Latest};
 ghost use Rattle.format.specs.Format.{Formats};
-ghost use Rattle.store.specs.Answers.{Does, Shows};
+ghost use Rattle.store.specs.Promises.{Does, Shows};
 ghost use Rattle.codes.specs.Codes.{Answers, extentOf, finishOf, named, counts};
 ghost use Rattle.batch.specs.Runs.{Runs};
 ghost use Rattle.asks.specs.Views.{Views};

@@ -16,9 +16,9 @@ use Rattle.chains.specs.Table.{Lies, link, linkCell, headOf, rowsOf}
 use Rattle.chains.specs.Partition.{partition}
 use Rattle.chains.proofs.Cells.{base-le, field-same, field-other}
 use Rattle.chains.proofs.Occurs.{occ-nil, occ-same, occ-other}
+use Rattle.chains.proofs.Rooms.{sum-first}
 use Rattle.chains.proofs.Segments.{Seg}
 use Rattle.chains.proofs.Words.{WordsRep, rep-rows, rep-part}
-use Rattle.tables.proofs.Builds.{sum-head}
 use Rattle.format.specs.Format.{nextFree, linkedTo}
 use Rattle.format.proofs.Laying.{linked-size, next-in, next-end}
 
@@ -110,7 +110,7 @@ module _ (t : Table) (h : Heads) (w : List ℕ)
       once i l =
           omega (
             arith,
-            sum-head (h .owners) (λ k. occ (suc i) (freeChains (t .count) k)),
+            sum-first (λ k. occ (suc i) (freeChains (t .count) k)) (h .owners),
             none (h .owners) (suc i),
             rising-once (suc i) 1 (t .count) (omega arith) (omega arith),
           )

@@ -1,5 +1,5 @@
 -- Room left: every row is on exactly one chain, so the rows in use and the free ones make the table. Rests on the
--- partition laws of `chains`.
+-- partition laws of `chains` and on Rooms of `tables`.
 use Prim.Native.Nat.{ℕ, zero, suc, _+_, _-_, _≤_, min}
 use mathlib.Core.Path.{_≡_, refl, sym, ap, _∙_}
 use mathlib.Core.Logic.{_⊎_, inl, inr}
@@ -15,7 +15,7 @@ use Rattle.chains.specs.Lists.{firstOf}
 use Rattle.chains.specs.Walk.{among, more, rows, ends}
 use Rattle.chains.specs.Table.{link, chain, ended, headOf, rowsOf, endedOf}
 use Rattle.chains.specs.Partition.{partition, used}
-use Rattle.chains.proofs.Chains.{lengths}
+use Rattle.chains.proofs.Rooms.{free-used}
 use Rattle.chains.proofs.Walks.{among-zero, step, stop}
 use Rattle.chains.proofs.Words.{rep-of, rep-rows}
 use Rattle.chains.proofs.Loops.{Walk, walk-again, walk-end}
@@ -27,7 +27,6 @@ use Rattle.meaning.proofs.Lists.{test}
 use Rattle.tables.specs.Layout.{lockTable, lockHeads, versionTable, versionHeads, accessTable, accessHeads}
 use Rattle.tables.specs.Decode.{accessAt, versionRows, lockRows, accessRows}
 use Rattle.tables.specs.Decode.{accessesOf, slotAt, decodeAt}
-use Rattle.tables.proofs.Builds.{sum-head}
 use Rattle.tables.proofs.Decoded.{edit-at}
 use Rattle.tables.proofs.Loops.{accesses-start}
 use Rattle.tables.proofs.Rooms.{versions-used, locks-used, accesses-used}
@@ -73,9 +72,8 @@ module _ {nx : ℕ → ℕ} {n h₀ most cur left : ℕ} (i : Counting nx n h₀
 
 -- rows in use and free rows
 module _ (t : Table) (h : Heads) (w : List ℕ) (p : partition t h w ≡ true) where
-  used-free : used t h w + length (rowsOf t h w 0) ≡ t .count
-  unfolding used
-  used-free = omega (arith, lengths (rep-of t h w p), sum-head (h .owners) (λ k. length (rowsOf t h w k)))
+  free-all : length (rowsOf t h w 0) + used t h w ≡ t .count
+  free-all = free-used t h w p
 
   free-ends : endedOf t h w 0 ≡ true
   free-ends = rep-rows t h w (rep-of t h w p) 0 (omega arith) .1
@@ -94,9 +92,9 @@ module _ (t : Table) (h : Heads) (w : List ℕ) (p : partition t h w ≡ true) w
           → (eqb left 0 ≡ true) ⊎ (eqb left 0 ≡ false)
           → eqb left 0 ≡ leb (used t h w + most) (t .count)
       go f g (inl z) =
-          z ∙ sym (le-leb (used t h w + most) (t .count) (omega (arith, used-free, eqb-true left 0 z, i .fuel)))
+          z ∙ sym (le-leb (used t h w + most) (t .count) (omega (arith, free-all, eqb-true left 0 z, i .fuel)))
       go f g (inr z) =
-          z ∙ sym (lt-leb (used t h w + most) (t .count) (omega (arith, used-free, eqb-false left 0 z, i .fuel)))
+          z ∙ sym (lt-leb (used t h w + most) (t .count) (omega (arith, free-all, eqb-false left 0 z, i .fuel)))
 
   pub counting-says : {head most cur left : ℕ} {q : Bool} → head ≡ headOf h w 0
       → Counting (link t w) (t .count) head most cur left → q ≡ more (t .count) left cur → q ≡ false

@@ -5,7 +5,7 @@ ghost use mathlib.Core.Bool.{true};
 ghost use Rattle.types.specs.Replies.{ofAnswer};
 ghost use Rattle.meaning.specs.Calls.{act};
 ghost use Rattle.tables.specs.Words.{lent, soundWords};
-ghost use Rattle.store.specs.Answers.{Does};
+ghost use Rattle.store.specs.Promises.{Does};
 use types::Answer;
 use types::Call;
 

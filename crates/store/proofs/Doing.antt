@@ -9,7 +9,7 @@ use Rattle.types.specs.Replies.{Reply, refusing}
 use Rattle.meaning.specs.Outcomes.{Outcome}
 use Rattle.tables.specs.Words.{lent, decode, soundWords}
 use Rattle.calls.specs.Contract.{Acts}
-use Rattle.store.specs.Answers.{Does, Shows}
+use Rattle.store.specs.Promises.{Does, Shows}
 
 never : {b : Bool} {A : Type 0} → b ≡ true → b ≡ false → A
 never p q = absurd (false≢true (sym q ∙ p))

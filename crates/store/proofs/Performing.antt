@@ -1,4 +1,4 @@
--- A call of any kind is the call of its kind. Rests on Doing.
+-- A call of any kind is the call of its kind. Rests on Verdicts of `meaning`.
 use Prim.Native.Nat.{ℕ}
 use mathlib.Core.Path.{_≡_, refl, sym, _∙_}
 use mathlib.Core.List.{List}
@@ -9,7 +9,7 @@ use Rattle.meaning.specs.Records.{viewing}
 use Rattle.meaning.specs.Calls.{act}
 use Rattle.types.specs.declared.Call.{Call}
 use Rattle.meaning.proofs.Verdicts.{view-same}
-use Rattle.store.specs.Answers.{Does, Shows}
+use Rattle.store.specs.Promises.{Does, Shows}
 
 -- the same outcome of every store
 pub does-same : {f g : Store → Outcome} {w w′ : List ℕ} {r : Reply} → ((s : Store) → f s ≡ g s) → Does g w w′ r

@@ -1,2 +1,2 @@
 -- What the public calls of the store promise of the words that they are lent. Rests on Contract of the crate `meaning`.
-pub mod Answers
+pub mod Promises

@@ -12,7 +12,7 @@ ghost use Rattle.meaning.specs.Records.{purging, viewing};
 ghost use Rattle.types.specs.Numbers.{pointing};
 ghost use Rattle.format.specs.Format.{Formats};
 ghost use Rattle.meaning.specs.Calls.{act};
-ghost use Rattle.store.specs.Answers.{Does, Shows};
+ghost use Rattle.store.specs.Promises.{Does, Shows};
 use types::AbortReply;
 use types::Answer;
 use types::BeginReply;

@@ -7,6 +7,7 @@ use mathlib.Core.List.{List, [], _∷_, map}
 use native.Mathlib.Omega.{arith}
 use lib.ListN.{length, getD, set}
 use Rattle.chains.specs.Lists.{sumTo, allTo, allOf}
+use Rattle.chains.proofs.Rooms.{sum-first}
 use Rattle.meaning.specs.Lists.{all, total, allFrom}
 use Rattle.tables.specs.Decode.{build}
 
@@ -43,12 +44,6 @@ module _ {A : Type 0} where
             (λ i q k. h (suc i) (omega arith) (λ e. k (omega arith))),
       )
 
--- sums
-pub sum-head : (m : ℕ) (k : ℕ → ℕ) → sumTo (suc m) k ≡ k 0 + sumTo m (λ i. k (suc i))
-unfolding sumTo
-sum-head zero k = omega arith
-sum-head (suc m) k = omega (arith, sum-head m k)
-
 sum-zero : (k : ℕ → ℕ) → sumTo 0 k ≡ 0
 unfolding sumTo
 sum-zero k = refl
@@ -56,7 +51,7 @@ sum-zero k = refl
 pub total-build : {A : Type 0} (n : ℕ) (f : ℕ → A) (g : A → ℕ) → total g (build n f) ≡ sumTo n (λ i. g (f i))
 unfolding build
 total-build zero f g = sym (sum-zero (λ i. g (f i)))
-total-build (suc n) f g = omega (arith, total-build n (λ i. f (suc i)) g, sum-head n (λ i. g (f i)))
+total-build (suc n) f g = omega (arith, total-build n (λ i. f (suc i)) g, sum-first (λ i. g (f i)) n)
 
 -- tests
 and-assoc : (a b c : Bool) → ((a && b) && c) ≡ (a && (b && c))

@@ -1,5 +1,5 @@
--- The replies of document 01, and which of them each case of the code's answers is. Rests on Store and the types of
--- src/lib.rt.
+-- The replies of document 01, and which of them each case of the code's answers is. Rests on Values and the types
+-- of src/lib.rt.
 use Prim.Native.Nat.{ℕ}
 use mathlib.Core.Bool.{Bool, true, false}
 use mathlib.Core.List.{List, [], _∷_}
