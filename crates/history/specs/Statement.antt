@@ -1,7 +1,7 @@
 -- Demand 3 of document 01, "The plain, serial run", for the calls of the crate meaning: "one claim about the whole
 -- list, not one for each call". CommitOrder, PlainFits and plainEnd are the crate serial's; the theorems are in
--- proofs/Theorem, under the same names. Rests on Heard, on Limits, Store, Replies, Records and Calls of `meaning`, on
--- Serializable of `serial`.
+-- proofs/Theorem, under the same names. Rests on Heard, on Limits and Replies of `types`, on Store, Records and Calls
+-- of `meaning`, on Serializable of `serial`.
 use Prim.Native.Nat.{ℕ, _<_}
 use mathlib.Core.Path.{_≡_}
 use mathlib.Core.Bool.{true}

@@ -1,5 +1,4 @@
--- What the code's tests on readings, seats and locks come to, one law for each way that a test returns. Rests on
--- nothing.
+-- What the code's tests on locks come to, one law for each way that a test returns. Rests on the definitions alone.
 use Prim.Native.Nat.{ℕ, _≤_, _<_}
 use native.Mathlib.Omega.{arith}
 use native.Mathlib.Decide.{decLe}

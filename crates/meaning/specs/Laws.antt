@@ -1,7 +1,7 @@
 -- The laws of the meaning, as statements: each computed definition is what document 01 says point by point, every call
 -- keeps a sound store sound, and a call is refused only for the cause that the table names. The theorem of each is in
--- proofs/Laws, under the same name. Rests on Lists, Limits, Store, Points, Replies, Locking, Ending, Records, Calls,
--- Sound, SoundFacts, Pointwise, Causes and Order.
+-- proofs/Laws, under the same name. Rests on Limits, Replies and Numbers of `types` and on Lists, Store, Points,
+-- Locking, Ending, Records, Calls, Sound, SoundFacts, Pointwise, Causes and Order.
 use Prim.Native.Nat.{ℕ, suc, _+_, _*_, _≤_, _<_}
 use mathlib.Core.Path.{_≡_}
 use mathlib.Core.Logic.{_⊎_, _↔_}

@@ -1,5 +1,5 @@
 -- The meaning of document 01 over an abstract store: what each call replies and makes of it, what a sound store is, and
--- the same point by point, with the laws that tie the two. Rests on nothing.
+-- the same point by point, with the laws that tie the two. Rests on the crate `types`.
 pub mod Lists
 pub mod Store
 pub mod Points

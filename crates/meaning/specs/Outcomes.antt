@@ -1,5 +1,5 @@
 -- What a call comes to: a reply and the store after it; how its checks stand in order; the tests behind the refusals.
--- Rests on Store, Points and Replies.
+-- Rests on Store and Points and on Replies of `types`.
 use Prim.Native.Nat.{ℕ, _+_}
 use mathlib.Core.Bool.{Bool, true, false, cond, _&&_, _||_}
 use mathlib.Core.List.{List, [], _∷_}

@@ -1,4 +1,4 @@
--- The calls Purge and View on a record, and Format and Point, which need no sound store. Rests on Outcomes.
+-- The calls Purge and View on a record, and Format, which needs no sound store. Rests on Outcomes.
 use Prim.Native.Nat.{ℕ, _-_}
 use mathlib.Core.Bool.{Bool, not, cond, _&&_}
 use mathlib.Core.List.{[], _∷_}

@@ -1,5 +1,5 @@
 -- The abstract store: what the words of a sound slice mean. Row numbers, chains and free rows are left out.
--- Rests on Lists and Limits; Version, Lock, Access, Value and Counts are the types of src/lib.rt.
+-- Rests on Lists and on Limits, Values and Numbers of `types`; Version, Lock, Access, Value and Counts are its types.
 use Prim.Native.Nat.{ℕ, zero, suc}
 use mathlib.Core.Bool.{Bool, false, not}
 use mathlib.Core.List.{List, []}

@@ -1,10 +1,9 @@
 // What callers of the store say and hear: points, handles, values, calls and replies, and the entries of the store's
-// tables. Each function is proved against the definitions in specs/, which say what the store means. Nothing here
-// knows a word's place. Rests on nothing.
+// tables. Each function is proved against the definitions in specs/. What the calls do is said in the crate `meaning`;
+// nothing here knows a store or a word's place. Rests on nothing.
 ghost use mathlib.Core.Path.{_≡_};
 ghost use Rattle.types.specs.Replies.{ofPoint, number};
-ghost use Rattle.types.specs.Numbers.{pointing};
-ghost use Rattle.types.specs.Numbers.{handle, slotOf, generationOf, nextGeneration};
+ghost use Rattle.types.specs.Numbers.{pointing, handle, slotOf, generationOf, nextGeneration};
 
 // The numbers of document 01, each named once for all crates; specs/Limits has the same names.
 pub const READINGS: u64 = 1099511627776;

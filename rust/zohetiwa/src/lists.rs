@@ -60,19 +60,19 @@ impl Call {
 
     /// What the row of words of this call's reply says.
     pub fn reply(self, row: [u64; REPLY_WORDS]) -> Answer<Reply> {
-        let [code, a, b, x, y, z] = row;
+        let [code, first, second, third, fourth, fifth] = row;
         if let (Call::Commit(..), codes::NOPOINT) = (self, code) {
             return Ok(Reply::Commit(Commit::NoPoint));
         }
         codes::told(code, ())?;
         Ok(match self {
-            Call::Begin => Reply::Edit(Handle::of_word(a)),
+            Call::Begin => Reply::Edit(Handle::of_word(first)),
             Call::Write(..) | Call::Abort(..) | Call::Settle(..) => Reply::Done,
-            Call::Lock(..) => Reply::Locked(Locked { first: Point::of_word(a), last: Point::of_word(b) }),
-            Call::Read(..) => Reply::Read(codes::read(a, b, x, codes::value(y, z))),
-            Call::Commit(..) => Reply::Commit(Commit::At(Point::of_word(a))),
-            Call::Purge(..) => Reply::Purged(Purged { versions: a, locks: b }),
-            Call::View(..) => Reply::Shown(Shown { point: Point::of_word(a), value: codes::value(b, x) }),
+            Call::Lock(..) => Reply::Locked(Locked { first: Point::of_word(first), last: Point::of_word(second) }),
+            Call::Read(..) => Reply::Read(codes::read(first, second, third, codes::value(fourth, fifth))),
+            Call::Commit(..) => Reply::Commit(Commit::At(Point::of_word(first))),
+            Call::Purge(..) => Reply::Purged(Purged { versions: first, locks: second }),
+            Call::View(..) => Reply::Shown(Shown { point: Point::of_word(first), value: codes::value(second, third) }),
         })
     }
 }
