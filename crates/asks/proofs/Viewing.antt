@@ -1,5 +1,5 @@
 -- The many views ask by ask: after i turns the first i asks are answered and told. Rests on Rows of `encoding`.
-use Prim.Native.Nat.{ℕ, suc, _+_, _*_, _/_, _≤_, _<_, min}
+use Prim.Native.Nat.{ℕ, _+_, _*_, _/_, _≤_, _<_, min}
 use mathlib.Core.Path.{_≡_, refl, ap, _∙_}
 use mathlib.Core.Bool.{true, false}
 use mathlib.Core.List.{List, [], _∷_, _++_}
@@ -13,7 +13,7 @@ use Rattle.tables.specs.Words.{lent, decode, soundWords}
 use Rattle.codes.specs.Codes.{Tells}
 use Rattle.encoding.specs.Encoding.{rowOf}
 use Rattle.asks.specs.Views.{ASK-WORDS, VIEW-NUMBERS, VIEW-WORDS, asked, askedAt, repliesOf, Views}
-use Rattle.encoding.proofs.Rows.{told-row, Told, told-none, told-more}
+use Rattle.encoding.proofs.Rows.{stores, told-row, Told, told-none, told-more}
 
 -- what View replies on sound words and on others
 pub asked-sound : (r p : ℕ) (w : List ℕ) {q : Reply} → soundWords (lent w) ≡ true
@@ -25,20 +25,11 @@ pub asked-unsound : (r p : ℕ) (w : List ℕ) → soundWords (lent w) ≡ false
 unfolding asked
 asked-unsound r p w s = rw s refl
 
--- four stores
-stores : (w : List ℕ) (at a b c d : ℕ)
-    → set (set (set (set w at a) (at + 1) b) (at + 2) c) (at + 3) d ≡ sets w at (a ∷ b ∷ c ∷ d ∷ [])
-stores w at a b c d =
-    let p1 : at + 1 ≡ suc at = omega arith in
-    let p2 : at + 2 ≡ suc (suc at) = omega arith in
-    let p3 : at + 3 ≡ suc (suc (suc at)) = omega arith in
-    rw (p1, p2, p3) refl
-
 -- a reply told, put at a place
 pub put-told : (w : List ℕ) (at : ℕ) {q : Reply} {code a b c : ℕ} → Tells q code (replicate 3 0) (a ∷ b ∷ c ∷ [])
     → set (set (set (set w at code) (at + 1) a) (at + 2) b) (at + 3) c ≡ sets w at (rowOf VIEW-NUMBERS q)
 put-told w at {code = code} {a = a} {b = b} {c = c} t =
-    stores w at code a b c ∙ ap (sets w at) (told-row VIEW-NUMBERS 3 t refl)
+    stores w at code (a ∷ b ∷ c ∷ []) ∙ ap (sets w at) (told-row VIEW-NUMBERS 3 t refl)
 
 pub record Viewing (words list area₀ : List ℕ) (n i : ℕ) (area : List ℕ) : Type 0 where
   pub upto : i ≤ n

@@ -47,17 +47,22 @@ pub of-case : {a b : Answer} {row : List ℕ} → a ≡ b → row ≡ rowOf NUMB
     → row ≡ rowOf NUMBERS (ofAnswer a)
 of-case e r = r ∙ ap (λ x. rowOf NUMBERS (ofAnswer x)) (sym e)
 
--- six stores
-pub stores : (w : List ℕ) (at a b c d e f : ℕ)
-    → set (set (set (set (set (set w at a) (at + 1) b) (at + 2) c) (at + 3) d) (at + 4) e) (at + 5) f
-    ≡ sets w at (a ∷ b ∷ c ∷ d ∷ e ∷ f ∷ [])
-stores w at a b c d e f =
-    let p1 : at + 1 ≡ suc at = omega arith in
-    let p2 : at + 2 ≡ suc (suc at) = omega arith in
-    let p3 : at + 3 ≡ suc (suc (suc at)) = omega arith in
-    let p4 : at + 4 ≡ suc (suc (suc (suc at))) = omega arith in
-    let p5 : at + 5 ≡ suc (suc (suc (suc (suc at)))) = omega arith in
-    rw (p1, p2, p3, p4, p5) refl
+-- numbers stored one after the other, from at + k on
+abbrev pub storedFrom : List ℕ → ℕ → ℕ → List ℕ → List ℕ
+storedFrom w at k [] = w
+storedFrom w at k (x ∷ xs) = storedFrom (set w (at + k) x) at (suc k) xs
+
+stored-from : (w : List ℕ) (at k : ℕ) (xs : List ℕ) → storedFrom w at k xs ≡ sets w (at + k) xs
+stored-from w at k [] = refl
+stored-from w at k (x ∷ xs) =
+    let e : at + suc k ≡ suc (at + k) = omega arith in
+    stored-from (set w (at + k) x) at (suc k) xs ∙ ap (λ i. sets (set w (at + k) x) i xs) e
+
+-- the stores of a row of any width
+pub stores : (w : List ℕ) (at a : ℕ) (xs : List ℕ) → storedFrom (set w at a) at 1 xs ≡ sets w at (a ∷ xs)
+stores w at a xs =
+    let e : at + 1 ≡ suc at = omega arith in
+    stored-from (set w at a) at 1 xs ∙ ap (λ i. sets (set w at a) i xs) e
 
 -- how wide rows are
 padded-wide : (n : ℕ) (xs : List ℕ) → length (padded n xs) ≡ n

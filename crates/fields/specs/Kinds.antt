@@ -1,5 +1,5 @@
 -- The kinds of field that calls have: a handle or a point by its number, the flag A or P, the flag S or K, and where to
--- commit: "E, L or point". Rests on Fields and the types of meaning.
+-- commit: "E, L or point". Rests on Fields and the crate `types`.
 use Prim.Native.Nat.{ℕ}
 use Prim.Native.Char.{code}
 use mathlib.Core.Bool.{cond}

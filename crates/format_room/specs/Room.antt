@@ -1,5 +1,5 @@
--- The room that a Format of a script has: "It lays out at most 8,000 words (more: `no 16`)". Rests on the counts of
--- meaning and the layout of tables.
+-- The room that a Format of a script has: "It lays out at most 8,000 words (more: `no 16`)". Rests on goodCounts of
+-- `meaning` and Layout of `tables`.
 use Prim.Native.Nat.{ℕ}
 use mathlib.Core.Bool.{Bool, cond, _&&_}
 use lib.Dec.{leb}

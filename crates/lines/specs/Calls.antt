@@ -1,7 +1,7 @@
 -- Which call a script line is, by document 01: "F records edits versions locks accesses; B; W handle record value; L
 -- handle record low high flag; R handle record m flag; C handle E, L or point, S or K; A handle S or K; S handle; P
 -- record b; V record p". Any other line, one of more than 200 bytes among them, is malformed. Rests on Fields and Kinds
--- of the crate `fields` and the types of meaning.
+-- of the crate `fields` and the types of `types`.
 use Prim.Native.Nat.{ℕ}
 use Prim.Native.Char.{code}
 use mathlib.Core.Bool.{cond}

@@ -72,9 +72,6 @@ module _ {nx : ℕ → ℕ} {n h₀ most cur left : ℕ} (i : Counting nx n h₀
 
 -- rows in use and free rows
 module _ (t : Table) (h : Heads) (w : List ℕ) (p : partition t h w ≡ true) where
-  free-all : length (rowsOf t h w 0) + used t h w ≡ t .count
-  free-all = free-used t h w p
-
   free-ends : endedOf t h w 0 ≡ true
   free-ends = rep-rows t h w (rep-of t h w p) 0 (omega arith) .1
 
@@ -92,9 +89,11 @@ module _ (t : Table) (h : Heads) (w : List ℕ) (p : partition t h w ≡ true) w
           → (eqb left 0 ≡ true) ⊎ (eqb left 0 ≡ false)
           → eqb left 0 ≡ leb (used t h w + most) (t .count)
       go f g (inl z) =
-          z ∙ sym (le-leb (used t h w + most) (t .count) (omega (arith, free-all, eqb-true left 0 z, i .fuel)))
+          z ∙ sym (le-leb (used t h w + most) (t .count)
+          (omega (arith, free-used t h w p, eqb-true left 0 z, i .fuel)))
       go f g (inr z) =
-          z ∙ sym (lt-leb (used t h w + most) (t .count) (omega (arith, free-all, eqb-false left 0 z, i .fuel)))
+          z ∙ sym (lt-leb (used t h w + most) (t .count)
+          (omega (arith, free-used t h w p, eqb-false left 0 z, i .fuel)))
 
   pub counting-says : {head most cur left : ℕ} {q : Bool} → head ≡ headOf h w 0
       → Counting (link t w) (t .count) head most cur left → q ≡ more (t .count) left cur → q ≡ false

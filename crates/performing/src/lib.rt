@@ -9,6 +9,7 @@ ghost use Rattle.store.specs.Promises.{Does};
 use types::Answer;
 use types::Call;
 
+// The answer of the function of the call's kind; `batch` has checked the words once for all its calls.
 pub fn perform(words: &mut [u64], call: Call) -> Answer
     requires { ⌜ soundWords (lent (now words)) ≡ true ⌝ }
     ensures { λ r. ⌜ Does (act call) (now (words .entry)) (now (words .exit)) (ofAnswer r) ⌝ }

@@ -1,5 +1,6 @@
-// What a line prints, and the line of a refusal and of each call that answers `ok`, by meaning's number and values of
-// its case. `value_replies` has the calls that answer values; `printing` writes a line. Rests on the crate `types`.
+// What a line prints, and the line of a refusal and of each call that answers `ok`, by the number and values that
+// `types` gives its case. `value_replies` has the calls that answer values; `printing` writes a line. Rests on the
+// crate `types`.
 ghost use mathlib.Core.Path.{_≡_};
 ghost use Rattle.types.specs.Replies.{ofRefusal, ofFormat, ofWrite, ofAbort, ofSettle};
 ghost use Rattle.replies.specs.Lines.{lineOf};

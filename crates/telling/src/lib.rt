@@ -1,5 +1,5 @@
 // What a caller from another language hears of a reply that hands something out: its number and the lent numbers after
-// it, by meaning's number and values of its case. Rests on the crates `types` and `codes`.
+// it, by the number and values that `types` gives its case. Rests on the crates `types` and `codes`.
 ghost use mathlib.Core.List.{[], _∷_};
 ghost use Rattle.types.specs.Replies.{ofPoint, ofBegin, ofLock, ofRead, ofCommit, ofPurge, ofView};
 ghost use Rattle.codes.specs.Codes.{Tells};

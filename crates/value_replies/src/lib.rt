@@ -1,5 +1,5 @@
-// The line of the reply of each call that answers values, by meaning's number and values of its case. Rests on the
-// crates `types` and `replies`.
+// The line of the reply of each call that answers values, by the number and values that `types` gives its case. Rests
+// on the crates `types` and `replies`.
 ghost use mathlib.Core.Path.{_≡_};
 ghost use Rattle.types.specs.Replies.{ofBegin, ofLock, ofRead, ofCommit, ofPurge, ofView};
 ghost use Rattle.replies.specs.Lines.{lineOf};

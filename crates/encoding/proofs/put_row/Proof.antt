@@ -1,6 +1,7 @@
 -- `encoding::put_row` meets its contract: six stores. Assumes nothing.
 use Rattle.encoding.proofs.Rows.{stores}
 use native.Mathlib.Omega.{arith}
+use mathlib.Core.List.{[], _∷_}
 use lib.ListN.{length-set}
 use borrow.Author.Needs.{needs}
 use Rattle.encoding.proofs.put_row.Statement.{statement}
@@ -64,7 +65,7 @@ returns : tie.Need-returns
 returns c =
     let a = c .args in
     let r = a .row in
-    stores (a .area .now) (a .at) (r .code) (r .first) (r .second) (r .third) (r .fourth) (r .fifth)
+    stores (a .area .now) (a .at) (r .code) (r .first ∷ r .second ∷ r .third ∷ r .fourth ∷ r .fifth ∷ [])
 
 pub put-row-spec : {M : Type 1} → statement M
 put-row-spec =
