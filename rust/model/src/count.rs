@@ -1,14 +1,30 @@
-//! How often random scripts reach each reply.
+//! How often random scripts reach each reply, and how often their charts were compared.
 
+use crate::charts::Compared;
 use crate::generate;
 use crate::script::Session;
 use std::collections::BTreeMap;
 
-/// Answers by kind, and by the letter of the call and kind.
+/// Answers by kind, and by the letter of the call and kind; comparisons of charts, if these were checked.
 #[derive(Default)]
 pub struct Counted {
     pub kinds: BTreeMap<String, u64>,
     pub by_letter: BTreeMap<String, u64>,
+    pub compared: Compared,
+}
+
+/// How often each comparison of charts has to be made: a check that compared nothing shows nothing.
+const ENOUGH: u64 = 1_000;
+
+impl Counted {
+    pub fn compared_enough(&self) -> Result<(), String> {
+        for (kind, count) in self.compared.counts() {
+            if count < ENOUGH {
+                return Err(format!("compared only {count} times: {kind}"));
+            }
+        }
+        Ok(())
+    }
 }
 
 /// The kind of an answer: its first word, and the number of a refusal.
@@ -38,6 +54,7 @@ pub fn count(seeds: u64, lines: usize, check: bool) -> Result<Counted, String> {
             *counted.kinds.entry(kind).or_default() += 1;
         }
         session.finish().map_err(|e| format!("seed {seed}: {e}"))?;
+        counted.compared.add(session.compared);
     }
     Ok(counted)
 }

@@ -1,9 +1,10 @@
 //! A model of the shared plan store, written from document 01 alone: the calls on a store kept in vectors (`store`),
-//! script lines (`script`), random scripts (`generate`), the plain run (`serial`), and the soundness and the meaning of
-//! lent words (`words`).
+//! script lines (`script`), random scripts (`generate`), the plain run (`serial`), what charts promise (`charts`), and
+//! the soundness and the meaning of lent words (`words`).
 
 #![forbid(unsafe_code)]
 
+pub mod charts;
 pub mod count;
 pub mod generate;
 pub mod record;

@@ -3,6 +3,9 @@
 //!     model run [--check]                  answers the script on standard input
 //!     model gen SEED LINES [--plain]       prints a random script
 //!     model stats SEEDS LINES [--check]    counts the replies to the scripts of seeds 1..SEEDS
+//!
+//! With --check it judges each step and each history; `stats` then also counts the comparisons of charts, and fails if
+//! they are few.
 
 #![forbid(unsafe_code)]
 
@@ -15,7 +18,13 @@ fn stats(seeds: u64, lines: usize, check: bool) -> Result<(), String> {
     for (kind, count) in counted.kinds.iter().chain(&counted.by_letter) {
         println!("{count:>9}  {kind}");
     }
-    Ok(())
+    if !check {
+        return Ok(());
+    }
+    for (kind, count) in counted.compared.counts() {
+        println!("{count:>9}  {kind}");
+    }
+    counted.compared_enough()
 }
 
 fn generate(seed: u64, lines: usize, plain: bool) -> Result<(), String> {

@@ -1,5 +1,6 @@
 //! The script program: bytes in, one line out for each line in.
 
+use crate::charts::{self, Compared, View};
 use crate::reply::{Answer, At, End, Refusal, Reply, Value, Want};
 use crate::serial;
 use crate::sound;
@@ -126,6 +127,10 @@ pub struct Session {
     check: bool,
     /// The calls since the last Format that succeeded. Only kept for the check.
     list: Vec<(Call, Reply)>,
+    /// Views made between these calls. Only kept for the check.
+    charts: Vec<View>,
+    /// How often the check has compared charts.
+    pub compared: Compared,
 }
 
 impl Session {
@@ -134,6 +139,8 @@ impl Session {
             store: None,
             check,
             list: vec![],
+            charts: vec![],
+            compared: Compared::default(),
         }
     }
 
@@ -197,13 +204,17 @@ impl Session {
         if matches!(call, Call::Format(_)) && reply == Reply::Ok {
             self.judge_history(before)?;
             self.list.clear();
+            self.charts.clear();
         } else {
             self.list.push((call, reply));
+            if let (Some(store), true) = (&self.store, charts::is_due(&self.list)) {
+                self.charts.extend(charts::chart(&self.list, store)?);
+            }
         }
         Ok(())
     }
 
-    fn judge_history(&self, store: Option<Store>) -> Result<(), String> {
+    fn judge_history(&mut self, store: Option<Store>) -> Result<(), String> {
         let Some(store) = store else { return Ok(()) };
         let mut newest = vec![];
         for record in 0..store.counts.records {
@@ -212,7 +223,11 @@ impl Session {
                 other => return Err(format!("view of {record} at LAST gives {other:?}")),
             }
         }
-        serial::check(&self.list, &newest)
+        serial::check(&self.list, &newest)?;
+        self.charts.extend(charts::chart(&self.list, &store)?);
+        let compared = charts::check(&self.list, &self.charts)?;
+        self.compared.add(compared);
+        Ok(())
     }
 
     /// The end of the input ends the last history.

@@ -1,8 +1,9 @@
 //! Each list has script lines on the left of `=` and answers on the right. `refusals` has the sixteen numbers, `calls`
-//! the session, the misreadings and the calls together, `scripts` the form of lines and the generator. `words` has lent
-//! words, laid out by hand or from a store (`layout`), and `damages` damaged ones.
+//! the session, the misreadings and the calls together, `charts` what views promise, `scripts` the form of lines and
+//! the generator. `words` has lent words, laid out by hand or from a store (`layout`), and `damages` damaged ones.
 
 mod calls;
+mod charts;
 mod damages;
 mod layout;
 mod refusals;

@@ -77,6 +77,7 @@ fn every_reply_is_reached_often() {
         let reached = counted.kinds.get(&kind).copied().unwrap_or_default();
         assert!(reached >= 50, "{kind}: {reached}");
     }
+    assert_eq!(counted.compared_enough(), Ok(()));
     // Each call with each reply that can concern it.
     for (letter, replies, refusals) in [
         ("F", "ok", "16"),
