@@ -29,7 +29,7 @@ use Rattle.history.specs.ExampleWords.{heardOf, wordsOf, InWords, Serial
 use Rattle.history.specs.ExampleWords.{SessionWordsSerial, equalSteps, EqualOnWords, EqualIn, EqualWordsSerial}
 use Rattle.history.proofs.Examples.{session-good, equal-good}
 use Rattle.history.proofs.OverStore.{store-words-serializable}
-use Rattle.history.proofs.CommitList.{as-listed, reversed, only-orders}
+use Rattle.history.proofs.CommitList.{in-order, only-orders}
 use Rattle.history.proofs.WordSteps.{AllStepped, steps-history, steps-sound}
 
 module _ (c : Counts) (ss : List Step) where
@@ -39,11 +39,11 @@ module _ (c : Counts) (ss : List Step) where
       let h = i .from (wordsOf c ss) (i .size) .0 in
       record { order = order; serial = store-words-serializable c (callsOf ss) (repliesOf ss) (wordsOf c ss) h o order }
 
-  -- the contract of View at LAST on the final words
-  shows : goodCounts c ≡ true → AllStepped (formattedWords c) ss → (r : ℕ) (q : Reply)
-      → q ≡ viewing r LAST (decode (lent (wordsOf c ss))) .reply
-      → Shows Lent decode soundWords (viewing r LAST) (lent (wordsOf c ss)) q
-  shows g a r q e = record { unsound = λ f. absurd (not-both (steps-sound c ss g a) f); reply = λ f. e }
+  -- the contract of View on the final words
+  pub shows : goodCounts c ≡ true → AllStepped (formattedWords c) ss → (r p : ℕ) (q : Reply)
+      → q ≡ viewing r p (decode (lent (wordsOf c ss))) .reply
+      → Shows Lent decode soundWords (viewing r p) (lent (wordsOf c ss)) q
+  shows g a r p q e = record { unsound = λ f. absurd (not-both (steps-sound c ss g a) f); reply = λ f. e }
 
 -- the facts of one step, and those of the steps after it
 infixr 50 _⨾_
@@ -51,7 +51,7 @@ _⨾_ : {A B : Type 0} → A → B → A × B
 _⨾_ a b = (a, b)
 
 -- for each call: its reply, what the words mean after it, their form, and that a refused call changes none
-session-stepped : AllStepped (formattedWords sessionCounts) sessionSteps
+pub session-stepped : AllStepped (formattedWords sessionCounts) sessionSteps
 unfolding opened readable sessionSteps
 session-stepped =
     (refl, refl, refl, refl)
@@ -107,16 +107,16 @@ session-words-serial =
     record {
       commits = session-heard;
       serial = serial-in sessionCounts sessionSteps (session-on-words .words) (ε ▸ 1 ▸ 2)
-          (reversed heard 1 2 6 7 (omega arith) (omega arith) (λ q. omega arith) session-heard (omega arith));
+          (in-order heard (ε ▸ (2, 7) ▸ (1, 6)) (ε ▸ (1, 6) ▸ (2, 7)) session-heard refl);
       only = λ o c. one (only-orders heard 2 1 7 6 (omega arith) (omega arith) (λ q. omega arith) session-heard o c);
       first = record {
         plain = refl;
-        view = shows sessionCounts sessionSteps session-good session-stepped 0 (at 7 (Written 501))
+        view = shows sessionCounts sessionSteps session-good session-stepped 0 LAST (at 7 (Written 501))
             (sym session-first);
       };
       second = record {
         plain = refl;
-        view = shows sessionCounts sessionSteps session-good session-stepped 1 (at 0 Never)
+        view = shows sessionCounts sessionSteps session-good session-stepped 1 LAST (at 0 Never)
             (sym session-second);
       };
     }
@@ -183,16 +183,16 @@ equal-in o order a b c =
       serial = serial-in equalCounts equalSteps (equal-on-words .words) o order;
       first = record {
         plain = a;
-        view = shows equalCounts equalSteps equal-good equal-stepped 0 (at 0 Never) (sym (equal-views .0));
+        view = shows equalCounts equalSteps equal-good equal-stepped 0 LAST (at 0 Never) (sym (equal-views .0));
       };
       second = record {
         plain = b;
-        view = shows equalCounts equalSteps equal-good equal-stepped 1 (at 5 (Written 10))
+        view = shows equalCounts equalSteps equal-good equal-stepped 1 LAST (at 5 (Written 10))
             (sym (equal-views .1));
       };
       third = record {
         plain = c;
-        view = shows equalCounts equalSteps equal-good equal-stepped 2 (at 5 (Written 20))
+        view = shows equalCounts equalSteps equal-good equal-stepped 2 LAST (at 5 (Written 20))
             (sym (equal-views .2));
       };
     }
@@ -204,12 +204,10 @@ equal-words-serial =
       commits = equal-heard;
       as-begun =
           equal-in (ε ▸ 1 ▸ 2)
-          (as-listed heard 1 2 5 5 (omega arith) (omega arith) (λ q. omega arith) equal-heard (omega arith)) refl refl
-          refl;
+          (in-order heard (ε ▸ (1, 5) ▸ (2, 5)) (ε ▸ (1, 5) ▸ (2, 5)) equal-heard refl) refl refl refl;
       reversed =
           equal-in (ε ▸ 2 ▸ 1)
-          (reversed heard 2 1 5 5 (omega arith) (omega arith) (λ q. omega arith) equal-heard (omega arith)) refl refl
-          refl;
+          (in-order heard (ε ▸ (1, 5) ▸ (2, 5)) (ε ▸ (2, 5) ▸ (1, 5)) equal-heard refl) refl refl refl;
       only = λ o c. two (only-orders heard 1 2 5 5 (omega arith) (omega arith) (λ q. omega arith) equal-heard o c);
     }
   where

@@ -1,7 +1,6 @@
 -- The session of document 01 and two edits with one commit point, computed, and what the claim says of them. Rests on
 -- Theorem and CommitList.
 use Prim.Native.Nat.{ℕ}
-use native.Mathlib.Omega.{arith}
 use mathlib.Core.Path.{_≡_, refl}
 use mathlib.Core.Bool.{true}
 use mathlib.Core.List.{List}
@@ -15,7 +14,7 @@ use Rattle.history.specs.Statement.{replied}
 use Rattle.history.specs.Examples.{Serial, sessionCounts, sessionCalls, SessionCommits, SessionSerial}
 use Rattle.history.specs.Examples.{SessionViews, equalCounts, equalCalls, EqualCommits, EqualSerial, EqualEnds}
 use Rattle.history.proofs.Theorem.{store-serializable}
-use Rattle.history.proofs.CommitList.{as-listed, reversed}
+use Rattle.history.proofs.CommitList.{in-order}
 
 serial-in : (counts : Counts) (cs : List Call) → goodCounts counts ≡ true → (o : Seq ℕ)
     → CommitOrder (replied counts cs) o → Serial counts cs o
@@ -33,8 +32,8 @@ pub session-serial : SessionSerial
 unfolding opened session sessionCalls
 session-serial = (
   serial-in sessionCounts sessionCalls session-good (ε ▸ 1 ▸ 2)
-      (reversed (replied sessionCounts sessionCalls) 1 2 6 7 (omega arith) (omega arith) (λ q. omega arith)
-      (session-commits .1) (omega arith)),
+      (in-order (replied sessionCounts sessionCalls) (ε ▸ (2, 7) ▸ (1, 6)) (ε ▸ (1, 6) ▸ (2, 7)) (session-commits .1)
+      refl),
   refl,
   refl,
 )
@@ -54,11 +53,9 @@ equal-commits = refl
 pub equal-serial : EqualSerial
 equal-serial = (
   serial-in equalCounts equalCalls equal-good (ε ▸ 1 ▸ 2)
-      (as-listed (replied equalCounts equalCalls) 1 2 5 5 (omega arith) (omega arith) (λ q. omega arith) equal-commits
-      (omega arith)),
+      (in-order (replied equalCounts equalCalls) (ε ▸ (1, 5) ▸ (2, 5)) (ε ▸ (1, 5) ▸ (2, 5)) equal-commits refl),
   serial-in equalCounts equalCalls equal-good (ε ▸ 2 ▸ 1)
-      (reversed (replied equalCounts equalCalls) 2 1 5 5 (omega arith) (omega arith) (λ q. omega arith) equal-commits
-      (omega arith)),
+      (in-order (replied equalCounts equalCalls) (ε ▸ (1, 5) ▸ (2, 5)) (ε ▸ (2, 5) ▸ (1, 5)) equal-commits refl),
 )
 
 pub equal-ends : EqualEnds (ε ▸ 1 ▸ 2) × EqualEnds (ε ▸ 2 ▸ 1)

@@ -15,8 +15,6 @@ use Rattle.meaning.specs.Contract.{Shows}
 use Rattle.meaning.specs.Session.{sessionReplies}
 use Rattle.types.specs.declared.Value.the-variants.{Never, Written}
 use Rattle.types.specs.declared.Counts.{Counts}
-use Rattle.types.specs.declared.Handle.{Handle}
-use Rattle.types.specs.declared.Point.{Point}
 use Rattle.types.specs.declared.Extent.the-variants.{All, Part}
 use Rattle.types.specs.declared.Pick.the-variants.{Earliest, Latest, Named}
 use Rattle.types.specs.declared.Finish.the-variants.{Settle}
@@ -28,7 +26,7 @@ use Rattle.history.specs.Heard.{shownValue, history}
 use Rattle.history.specs.Words.{SerialWords}
 use Rattle.history.specs.StoreWords.{HistoryOn}
 use Rattle.history.specs.WordSteps.{Step, step, callsOf, repliesOf, endOf}
-use Rattle.history.specs.Examples.{commitsOf, sessionCounts, sessionCalls, equalCounts, equalCalls}
+use Rattle.history.specs.Examples.{commitsOf, sessionCounts, sessionCalls, on, to, equalCounts, equalCalls}
 
 module _ (counts : Counts) (steps : List Step) where
   -- what the plain run hears of the steps, and the words after them
@@ -53,12 +51,6 @@ module _ (counts : Counts) (steps : List Step) where
   pub record EndsWith (o : Seq ℕ) (r : ℕ) (x : Option Val) (p : ℕ) : Type 0 where
     pub plain : plainEnd heardOf o r ≡ x
     pub view : Shows Lent decode soundWords (viewing r LAST) (lent wordsOf) (at p (shownValue x))
-
-abbrev on : ℕ → Handle
-on h = record { 0 = h }
-
-abbrev to : ℕ → Point
-to p = record { 0 = p }
 
 -- the session's calls with their replies and the words that they change: the header from 0, records from 8, slots from
 -- 14, versions from 22, locks from 38, accesses from 78

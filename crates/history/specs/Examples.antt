@@ -65,13 +65,13 @@ abbrev pub SessionViews : Type 0
 SessionViews = (viewing 0 LAST (after sessionCalls (fresh sessionCounts)) .reply ≡ at 7 (Written 501))
     × (viewing 1 LAST (after sessionCalls (fresh sessionCounts)) .reply ≡ at 0 Never)
 
--- two edits read record 0 up to 5, write a record each, and commit at 5
-abbrev named : ℕ → Handle
-named h = record { 0 = h }
+abbrev pub on : ℕ → Handle
+on h = record { 0 = h }
 
-abbrev to : ℕ → Point
+abbrev pub to : ℕ → Point
 to p = record { 0 = p }
 
+-- two edits read record 0 up to 5, write a record each, and commit at 5
 abbrev pub equalCounts : Counts
 equalCounts = record { records = 3; edits = 2; versions = 2; locks = 4; accesses = 4 }
 
@@ -79,14 +79,14 @@ unfoldable pub equalCalls : List Call
 equalCalls =
     C.Begin
     ∷ C.Begin
-    ∷ C.Read (named 65) 0 (to 5) All
-    ∷ C.Read (named 66) 0 (to 5) All
-    ∷ C.Lock (named 65) 1 (to 5) (to 5) All
-    ∷ C.Lock (named 66) 2 (to 5) (to 5) All
-    ∷ C.Write (named 65) 1 10
-    ∷ C.Write (named 66) 2 20
-    ∷ C.Commit (named 65) (Named (to 5)) Settle
-    ∷ C.Commit (named 66) (Named (to 5)) Settle
+    ∷ C.Read (on 65) 0 (to 5) All
+    ∷ C.Read (on 66) 0 (to 5) All
+    ∷ C.Lock (on 65) 1 (to 5) (to 5) All
+    ∷ C.Lock (on 66) 2 (to 5) (to 5) All
+    ∷ C.Write (on 65) 1 10
+    ∷ C.Write (on 66) 2 20
+    ∷ C.Commit (on 65) (Named (to 5)) Settle
+    ∷ C.Commit (on 66) (Named (to 5)) Settle
     ∷ []
 
 abbrev pub EqualCommits : Type 0
