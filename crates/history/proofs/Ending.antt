@@ -45,7 +45,7 @@ use Rattle.meaning.proofs.Committed.{own-lock, committed-sound}
 use Rattle.meaning.proofs.EndingSound.{chosen-common}
 use Rattle.serial.specs.Serializable.{History}
 use Rattle.serial.proofs.Slots.{Used, SoundSlots, SlotStays, Moves, CommitsAt, moves, passes, commits-at, SlotRun, then}
-use Rattle.history.proofs.StoreSlots.{StandsAt, Valued, ReadAt, Wrote, slots, to-held, sound-slots}
+use Rattle.history.proofs.StoreSlots.{StandsAt, ReadAt, Wrote, slots, to-held, sound-slots}
 use Rattle.history.proofs.Changes.{iff, locked-refl, slot-stays, moves-more}
 use Rattle.history.proofs.CallRuns.{Runs, Good, good-facts, Continues, unless-continues, cond-continues}
 use Rattle.history.proofs.CallRuns.{open-slot}
@@ -297,7 +297,7 @@ module _ {l : History Val} (h : Handle) (s : Store) (good : Good s) (run : Runs 
       let facts = aborted-sound s (good-facts good) own (p .state) in
       finish (aborted s own) own facts (λ q. omega (arith, q, ap (λ (d : Edit). d .state) (is-gone s (h .0) p))) f
       (then run (moves (abort-moves s (h .0) p))
-      (sound-slots (aborted s own) facts (aborted-keeps Valued valued-kept s own (good .valued)))) S
+      (sound-slots (aborted s own) facts (aborted-keeps valued-kept s own (good .valued)))) S
 
   pub commit-continues : (pick : Pick) (f : Finish) → SoundSlots (slots (committing (h .0) pick f s .store))
       → Continues l (C.Commit h pick f) (committing (h .0) pick f s)

@@ -47,7 +47,7 @@ formats {c} {w} {w′} f =
       store = ap (λ v. decode (lent v)) e ∙ formatted-fresh c g;
     }
 
-listed : (counts : Counts) (cs : List Call) (qs : List Reply) (end : List ℕ) → HistoryOn counts cs qs end
+pub listed : (counts : Counts) (cs : List Call) (qs : List Reply) (end : List ℕ) → HistoryOn counts cs qs end
     → Listed Lent decode soundWords counts cs qs (lent end)
 listed counts cs qs end h = record { start = lent (h .start); format = formats (h .formats); calls = h .calls }
 

@@ -8,14 +8,12 @@ use mathlib.Core.Bool.{true}
 use mathlib.Core.Option.{Option, some, none}
 use mathlib.Core.List.{List, [], _∷_, List·Memᴰ·not-nil}
 use lib.ListN.{length, replicate, length-replicate}
-use borrow.Author.Tests.{le-leb, lt-ltb}
 use Rattle.meaning.specs.Lists.{_∈_}
 use Rattle.types.specs.Limits.{LAST}
 use Rattle.meaning.specs.Store.{Rec, Edit, Store, fresh, freshRec, freshEdit, editOf, recOf, recAt, newestAt}
 use Rattle.types.specs.Values.{Val}
 use Rattle.types.specs.Replies.{at}
-use Rattle.meaning.specs.Outcomes.{hasRecord}
-use Rattle.meaning.specs.Records.{goodCounts, viewChecks, viewing}
+use Rattle.meaning.specs.Records.{goodCounts, viewing}
 use Rattle.meaning.specs.Calls.{act, run, after}
 use Rattle.meaning.specs.Pointwise.{NewestIs, none, one}
 use Rattle.types.specs.declared.Value.{Value}
@@ -26,18 +24,19 @@ use Rattle.types.specs.declared.Call.the-variants as C
 use Rattle.meaning.proofs.Newest.{newest-at-is, falls-once}
 use Rattle.meaning.proofs.SoundParts.{getD-replicate}
 use Rattle.meaning.proofs.Laws.{fresh-is-sound, calls-keep-sound}
-use Rattle.serial.specs.Serializable.{ε, History, plainEnd, Newest}
+use Rattle.serial.specs.Serializable.{ε, _▸_, History, plainEnd, Newest}
 use Rattle.serial.proofs.Slots.{SoundSlots}
 use Rattle.serial.proofs.Slots as Slots
 use Rattle.serial.proofs.SlotRuns.{byEdit, slot-runs}
 use Rattle.serial.proofs.Serializability.{serializable, point-is-one}
 use Rattle.serial.proofs.Order.{order-exists}
-use Rattle.history.specs.Heard.{shownValue, heardAfter}
+use Rattle.history.specs.Heard.{shownValue, heard, heardAfter}
 use Rattle.history.specs.Statement.{replied, StoreSerializable, StoreOrderExists, StorePointIsOne}
-use Rattle.history.proofs.StoreSlots.{Valued, slots}
+use Rattle.history.proofs.StoreSlots.{slots}
 use Rattle.history.proofs.EveryCall.{call-keeps}
 use Rattle.history.proofs.Valued.{fresh-valued, valued-kept, Records, records-kept}
 use Rattle.history.proofs.CallRuns.{Runs, Good, good-facts, good-slots, Continues}
+use Rattle.history.proofs.Viewing.{view-granted}
 use Rattle.history.proofs.Simple.{begin-continues, write-continues, lock-continues, view-continues}
 use Rattle.history.proofs.Reading.{read-continues}
 use Rattle.history.proofs.Ending.{commit-continues, abort-continues, settle-continues}
@@ -45,7 +44,7 @@ use Rattle.history.proofs.Purging.{purge-continues}
 
 call-good : (c : Call) (s : Store) → Good s → Good (act c s .store)
 call-good c s g =
-    record { holds = calls-keep-sound c s (g .holds); valued = call-keeps Valued valued-kept c s (g .valued) }
+    record { holds = calls-keep-sound c s (g .holds); valued = call-keeps valued-kept c s (λ r b e. tt) (g .valued) }
 
 -- every call goes on with the run
 call-continues : {l : History Val} (c : Call) (s : Store) → Good s → Runs l s → SoundSlots (slots (act c s .store))
@@ -62,25 +61,28 @@ call-continues (C.Purge k b) s g r S = purge-continues k b s r S
 call-continues (C.View k p) s g r S = view-continues k p s r S
 
 -- the store that a list of calls leaves
-record Left (n : ℕ) (l : History Val) (s : Store) : Type 1 where
-  good : Good s
-  count : Records n s
-  runs : Runs l s
+pub record Left (n : ℕ) (l : History Val) (s : Store) : Type 1 where
+  pub good : Good s
+  pub count : Records n s
+  pub runs : Runs l s
+
+pub call-left : {n : ℕ} {l : History Val} (c : Call) (s : Store) → Left n l s
+    → Left n (l ▸ heard c (act c s .reply)) (act c s .store)
+call-left {n} c s g =
+    let h = call-good c s (g .good) in
+    record {
+      good = h;
+      count = call-keeps (records-kept n) c s (λ r b e. tt) (g .count);
+      runs = call-continues c s (g .good) (g .runs) (good-slots h);
+    }
 
 list-left : {n : ℕ} {l : History Val} (cs : List Call) (s : Store) → Left n l s
     → Left n (heardAfter l cs (run cs s)) (after cs s)
 unfolding run after
 list-left [] s g = g
-list-left {n} (c ∷ cs) s g =
-    let h = call-good c s (g .good) in
-    list-left cs (act c s .store)
-    (record {
-      good = h;
-      count = call-keeps (Records n) (records-kept n) c s (g .count);
-      runs = call-continues c s (g .good) (g .runs) (good-slots h);
-    })
+list-left (c ∷ cs) s g = list-left cs (act c s .store) (call-left c s g)
 
-fresh-left : (c : Counts) → goodCounts c ≡ true → Left (c .records) ε (fresh c)
+pub fresh-left : (c : Counts) → goodCounts c ≡ true → Left (c .records) ε (fresh c)
 unfolding recOf editOf
 fresh-left c g =
     record { good = h; count = length-replicate (c .records) freshRec; runs = Slots.fresh free empty (good-slots h) }
@@ -118,8 +120,7 @@ module _ (l : History Val) (s : Store) (good : Good s) (r : ℕ) where
           omega (arith, b .stands, good-facts good .recs r .high (b .version) (b .member))
 
   view-last : r < length (s .records) → viewing r LAST s .reply ≡ at (newest .point) (newest .value)
-  unfolding viewing viewChecks hasRecord
-  view-last h = rw (lt-ltb r (length (s .records)) h, le-leb (recAt s r .floor) LAST floor-below)
+  view-last h = view-granted s r LAST h (omega arith) floor-below
 
   -- the newest value of the core is the value of the newest version
   value-is : (x : Option Val) → Newest (byEdit l (slots s)) r x → NewestIs (recAt s r .versions) (suc LAST) newest

@@ -1,14 +1,12 @@
 -- Every call keeps a store in which each version has a value, since only Commit makes versions, of the values written;
--- and it keeps the number of records. Rests on StoreSlots and EveryCall.
-use Prim.Native.Nat.{ℕ, _<_}
-use native.Mathlib.Omega.{arith}
-use native.Mathlib.Decide.{ℕ-discrete, decLt}
+-- and it keeps the number of records. Rests on StoreSlots, EachRecord and EveryCall.
+use Prim.Native.Nat.{ℕ}
 use mathlib.Core.Path.{_≡_, ap, _∙_}
 use mathlib.Core.Logic.{_⊎_, inl, inr}
 use mathlib.Core.Bool.{Bool, true, false, cond}
 use mathlib.Core.List.{List·Memᴰ·not-nil}
 use lib.Dec.{leb}
-use lib.ListN.{length, set, length-set}
+use lib.ListN.{length, length-set}
 use Rattle.meaning.specs.Lists.{_∈_}
 use Rattle.meaning.specs.Store.{Rec, Store, fresh, freshRec, editAt, recOf, recAt, withEdit, withRecords, withRec}
 use Rattle.types.specs.Values.{Val}
@@ -21,12 +19,11 @@ use Rattle.types.specs.declared.Counts.{Counts}
 use Rattle.types.specs.declared.Version.{Version}
 use Rattle.types.specs.declared.Value.the-variants.{Written}
 use Rattle.meaning.proofs.Lists.{keep-out, length-mapFrom}
-use Rattle.meaning.proofs.Stores.{rec-same, rec-other, rec-past}
-use Rattle.meaning.proofs.Changed.{rec-committed, rec-committed-past, rec-settled, rec-settled-past}
 use Rattle.meaning.proofs.Inserted.{insert-out}
 use Rattle.meaning.proofs.SoundParts.{getD-replicate}
 use Rattle.history.proofs.StoreSlots.{Valued}
-use Rattle.history.proofs.EveryCall.{Kept}
+use Rattle.history.proofs.EachRecord.{rec-keeps, settled-keeps, committed-keeps}
+use Rattle.history.proofs.EveryCall.{Kept, Always}
 
 -- every version of the record has a value
 abbrev Of : Rec → Type 0
@@ -40,16 +37,8 @@ unfolding recOf
 fresh-valued c r = rw (getD-replicate (c .records) r freshRec) of-fresh
 
 module _ (s : Store) (h : Valued s) where
-  -- one record changed
   rec-valued : (r : ℕ) (x : Rec) → Of x → Valued (withRec s r x)
-  unfolding withRecords
-  rec-valued r x f i = go (ℕ-discrete i r) (decLt r (length (s .records)))
-    where
-      go : Dec (i ≡ r) → Dec (r < length (s .records)) → Of (recOf (set (s .records) r x) i)
-      go (no n) d = rw (rec-other (s .records) r i x n) (h i)
-      go (yes q) (yes l) = rw (q, rec-same (s .records) r x l) f
-      go (yes q) (no l) =
-          rw (q, rec-past (set (s .records) r x) r (omega (arith, length-set (s .records) r x))) of-fresh
+  rec-valued r x f i = rec-keeps Of of-fresh i s r x (λ q. f) (h i)
 
   lock-valued : (r mode k low high : ℕ) → Valued (withLock s r mode k low high)
   unfolding withLock
@@ -65,14 +54,10 @@ module _ (s : Store) (h : Valued s) where
       (λ w m. h r w (keep-out (λ u. leb v (u .point)) (recAt s r .versions) m .0))
 
   settled-valued : (k : ℕ) → Valued (settled s k)
-  settled-valued k r = go (decLt r (length (s .records)))
-    where
-      go : Dec (r < length (s .records)) → Of (recAt (settled s k) r)
-      go (yes l) = rw (rec-settled s k r l) (h r)
-      go (no l) = rw (rec-settled-past s k r (omega arith)) of-fresh
+  settled-valued k r = settled-keeps Of of-fresh r s k (h r)
 
   pub committed-valued : (k t : ℕ) → Valued (committed s k t)
-  committed-valued k t r = go (decLt r (length (s .records)))
+  committed-valued k t r = committed-keeps Of of-fresh r s k t (both (accessOf (editAt s k) r .written))
     where
       new : (w : Version) → (w ≡ newVersion (accessOf (editAt s k) r) t) ⊎ (w ∈ recAt s r .versions)
           → (v : Val) × (w .value ≡ Written v)
@@ -85,11 +70,7 @@ module _ (s : Store) (h : Valued s) where
       both true w m = new w (insert-out (newVersion (accessOf (editAt s k) r) t) (recAt s r .versions) m)
       both false w m = h r w m
 
-      go : Dec (r < length (s .records)) → Of (recAt (committed s k t) r)
-      go (yes l) = rw (rec-committed s k t r l) (both (accessOf (editAt s k) r .written))
-      go (no l) = rw (rec-committed-past s k t r (omega arith)) of-fresh
-
-pub valued-kept : Kept Valued
+pub valued-kept : Kept Valued Always
 unfolding withEdit
 valued-kept =
     record {
@@ -97,14 +78,14 @@ valued-kept =
       lock = λ s r mode k low high h. lock-valued s h r mode k low high;
       commits = λ s k t h. committed-valued s h k t;
       settles = λ s k h. settled-valued s h k;
-      purges = λ s r v h. purged-valued s h r v;
+      purges = λ s r v may h. purged-valued s h r v;
     }
 
 -- as many records as n
 abbrev pub Records : ℕ → Store → Type 0
 Records n s = length (s .records) ≡ n
 
-pub records-kept : (n : ℕ) → Kept (Records n)
+pub records-kept : (n : ℕ) → Kept (Records n) Always
 unfolding withEdit withRecords withLock committed settled
 records-kept n =
     record {
@@ -112,5 +93,5 @@ records-kept n =
       lock = λ s r mode k low high h. length-set (s .records) r _ ∙ h;
       commits = λ s k t h. length-mapFrom (committedRec (editAt s k) t) 0 (s .records) ∙ h;
       settles = λ s k h. length-mapFrom (settledRec k (editAt s k)) 0 (s .records) ∙ h;
-      purges = λ s r v h. length-set (s .records) r _ ∙ h;
+      purges = λ s r v may h. length-set (s .records) r _ ∙ h;
     }
