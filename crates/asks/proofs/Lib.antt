@@ -1,3 +1,4 @@
--- The many views ask by ask, and their law. Rests on specs/ and on Rows of the crate `encoding`.
+-- The many views ask by ask, and their laws. Rests on specs/, on Rows of the crate `encoding` and on the charts of
+-- `history`.
 pub mod Viewing
 pub mod Laws

@@ -1,3 +1,4 @@
--- The batch call by call, and its law. Rests on specs/ and on Rows of the crate `encoding`.
+-- The batch call by call, and its laws. Rests on specs/, on Rows of the crate `encoding` and on the charts of
+-- `history`.
 pub mod Running
 pub mod Laws
