@@ -118,7 +118,11 @@ uint64_t zohetiwa_purge(uint64_t *words, size_t length, uint64_t record, uint64_
                         uint64_t *locks);
 
 /* View a record at p: the point and the value of its newest version at or below p; point 0, never written, if there is
- * none. `written` and `value` as for Read. Changes no word. Refusals: 1, 5, 6, 7. */
+ * none. `written` and `value` as for Read. Changes no word. Refusals: 1, 5, 6, 7.
+ * On words that only these calls have changed since Format, the views at one point are one moment of the plan: the
+ * state after exactly the edits that have committed at or below the point. Edits that commit there later may change
+ * such a chart; for one that can be printed again, read its records in an edit and commit that edit: views at its
+ * commit point then show what it read, whatever else commits, until a Purge raises a floor above the point. */
 uint64_t zohetiwa_view(const uint64_t *words, size_t length, uint64_t record, uint64_t p, uint64_t *point,
                        uint64_t *written, uint64_t *value);
 
@@ -145,7 +149,8 @@ uint64_t zohetiwa_view(const uint64_t *words, size_t length, uint64_t record, ui
  * Each call does what its own function does on the words as the one before left them; after a refused one the next are
  * still done. On an array that is no sound store each is refused with ZOHETIWA_UNSOUND. It stops where the list has no
  * whole call more, or `replies` no room for a whole reply: before that call, which is not done. Reply i is that of call
- * i; the words of `replies` after those of the calls done stay as they were. The lengths count words. */
+ * i; the words of `replies` after those of the calls done stay as they were. The lengths count words. Views at one
+ * point are one moment of the plan, if no edit commits at or below that point between them. */
 uint64_t zohetiwa_batch(uint64_t *words, size_t length, const uint64_t *calls, size_t calls_length, uint64_t *replies,
                         size_t replies_length);
 
@@ -155,7 +160,8 @@ uint64_t zohetiwa_batch(uint64_t *words, size_t length, const uint64_t *calls, s
 #define ZOHETIWA_SHOWN_WORDS 4
 
 /* Views: answers the asks of a list in their order as zohetiwa_view does, and returns how many, with one check of the
- * words for all of them. It stops as zohetiwa_batch does. Changes no word of the store. */
+ * words for all of them. Those at one point are one moment of the plan. It stops as zohetiwa_batch does. Changes no
+ * word of the store. */
 uint64_t zohetiwa_views(const uint64_t *words, size_t length, const uint64_t *asks, size_t asks_length,
                         uint64_t *replies, size_t replies_length);
 

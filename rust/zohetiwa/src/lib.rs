@@ -223,6 +223,11 @@ pub fn purge(words: &mut [u64], record: u64, b: Point) -> Answer<Purged> {
 }
 
 /// The newest version of the record at or below p. Refusals: 1, 5, 6, 7.
+///
+/// On words that only these calls have changed since [`format()`], the views at one point are one moment of the plan:
+/// the state after exactly the edits that have committed at or below the point. Edits that commit there later may
+/// change such a chart; for one that can be printed again, [`read`] its records in an edit and commit that edit: views
+/// at its commit point then show what it read, whatever else commits, until a [`purge`] raises a floor above the point.
 pub fn view(words: &[u64], record: u64, p: Point) -> Answer<Shown> {
     let (mut point, mut written, mut value) = (0, 0, 0);
     let (lent, length) = (words.as_ptr(), words.len());
@@ -233,7 +238,8 @@ pub fn view(words: &[u64], record: u64, p: Point) -> Answer<Shown> {
 }
 
 /// Many calls after one check: a call is six words, and so is its reply (include/zohetiwa.h). How many calls were done:
-/// as many as are in the list whole, and have room for their replies.
+/// as many as are in the list whole, and have room for their replies. Views at one point are one moment of the plan, as
+/// those of [`view`], if no edit commits at or below that point between them.
 pub fn batch(words: &mut [u64], calls: &[u64], replies: &mut [u64]) -> u64 {
     let (lent, length) = (words.as_mut_ptr(), words.len());
     let (answers, room) = (replies.as_mut_ptr(), replies.len());
@@ -242,7 +248,8 @@ pub fn batch(words: &mut [u64], calls: &[u64], replies: &mut [u64]) -> u64 {
 }
 
 /// Many views after one check: an ask is two words, its reply four (include/zohetiwa.h). How many were answered: as
-/// many as are in the list whole, and have room for their replies.
+/// many as are in the list whole, and have room for their replies. Those at one point are one moment of the plan, as
+/// those of [`view`], which says how to get a chart that can be printed again.
 pub fn views(words: &[u64], asks: &[u64], replies: &mut [u64]) -> u64 {
     let (answers, room) = (replies.as_mut_ptr(), replies.len());
     // SAFETY: the three slices are lent with their lengths, two of them only to be read.
