@@ -43,3 +43,4 @@ pub mod JudgeRecords
 pub mod ForCause
 pub mod FormatCauses
 pub mod Laws
+pub mod After

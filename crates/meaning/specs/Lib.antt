@@ -15,5 +15,6 @@ pub mod SoundFacts
 pub mod Causes
 pub mod Order
 pub mod Laws
+pub mod After
 pub mod Contract
 pub mod Session
