@@ -1,7 +1,7 @@
 // The public calls of the store, on lent words. Each checks the words first (refusal 1) and then does what its
 // definition says; none has a `requires`. The contract of each settles its reply and what the words mean afterwards,
-// for every slice and argument. Rests on the crates `types`, `meaning`, `tables`, `soundness`, `format`, `calls`,
-// `locking`, `reading`, `endings`, `commits` and `purges`.
+// for every slice and argument. Rests on the crates `types`, `meaning`, `tables`, `soundness`, `format`, `lookups`,
+// `calls`, `locking`, `reading`, `endings`, `commits` and `purges`.
 ghost use Rattle.types.specs.Replies.{ofPoint, ofFormat, ofBegin, ofWrite, ofLock, ofRead, ofCommit, ofAbort};
 ghost use Rattle.types.specs.Replies.{ofSettle, ofPurge, ofView, ofAnswer};
 ghost use Rattle.meaning.specs.Edits.{beginning, writing};
@@ -12,7 +12,7 @@ ghost use Rattle.meaning.specs.Records.{purging, viewing};
 ghost use Rattle.types.specs.Numbers.{pointing};
 ghost use Rattle.format.specs.Format.{Formats};
 ghost use Rattle.meaning.specs.Calls.{act};
-ghost use Rattle.store.specs.Promises.{Does, Shows};
+ghost use Rattle.store.specs.Promises.{Does, Shows, mayBegin, ofSlot};
 use types::AbortReply;
 use types::Answer;
 use types::BeginReply;
@@ -36,6 +36,12 @@ use types::SettleReply;
 use types::ViewReply;
 use types::WriteReply;
 
+// Whether Begin would find a slot: `ok`, or how it would be refused.
+pub enum SlotReply {
+    Free,
+    Refused(Refusal),
+}
+
 // The point of a clock reading and a seat.
 pub fn point(reading: Reading, seat: Seat) -> PointReply
     ensures { λ r. ⌜ ofPoint r ≡ pointing (reading .0) (seat .0) ⌝ }
@@ -57,6 +63,22 @@ pub fn begin(words: &mut [u64]) -> BeginReply
         calls::begin(words)
     } else {
         BeginReply::Refused(Refusal::Unsound)
+    }
+}
+
+// Begin that only looks: what it would be refused with, and nothing is changed.
+pub fn would_begin(words: &[u64]) -> SlotReply
+    ensures { λ r. ⌜ Shows mayBegin (now (words .entry)) (ofSlot r) ⌝ }
+{
+    if soundness::check(words) {
+        let c = tables::counts_of(words);
+        let k = lookups::free_slot(words, c);
+        if c.edits < k {
+            return SlotReply::Refused(Refusal::NoSlot);
+        }
+        SlotReply::Free
+    } else {
+        SlotReply::Refused(Refusal::Unsound)
     }
 }
 
