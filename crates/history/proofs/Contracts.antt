@@ -43,7 +43,7 @@ module _ (Lent : Type 0) (decode : Lent → Store) (soundLent : Lent → Bool) w
   ensures-does (C.View r p) w w′ q (s, e) = rw e (view-does r (p .0) s)
 
 -- the abstract store, lent as it is
-does-act : (c : Call) (s : Store) → soundStore s ≡ true
+pub does-act : (c : Call) (s : Store) → soundStore s ≡ true
     → Does Store (λ t. t) soundStore (act c) s (act c s .store) (act c s .reply)
 does-act c s h =
     record {
