@@ -1,7 +1,7 @@
 // The library that a product links: each call as a C function over lent words and numbers, and many calls as one. A
 // call returns 0 for granted, else the number of the refusal. None has a `requires`; the contract of each is the
 // promise of its call. Rests on the crates `types`, `meaning`, `format`, `store`, `codes`, `verdicts`, `telling`,
-// `batch` and `asks`.
+// `batch`, `asks`, `layers`, `desk` and `sessions`.
 ghost use mathlib.Core.Path.{_≡_};
 ghost use mathlib.Core.List.{[], _∷_};
 ghost use Rattle.meaning.specs.Edits.{beginning, writing};
@@ -15,6 +15,9 @@ ghost use Rattle.store.specs.Promises.{Does, Shows};
 ghost use Rattle.codes.specs.Codes.{Answers, extentOf, finishOf, named, counts};
 ghost use Rattle.batch.specs.Runs.{Runs};
 ghost use Rattle.asks.specs.Views.{Views};
+ghost use Rattle.layers.specs.Serial.{Layer};
+ghost use Rattle.desk.specs.Desk.{deskOpen, deskRead, deskWrite, deskCommit};
+ghost use Rattle.sessions.specs.Sessions.{settingOf, sessionOf, Opens, Reports};
 use types::Counts;
 use types::Pick;
 
@@ -281,4 +284,89 @@ pub extern "C" fn zohetiwa_views(words: &[u64], asks: &[u64], replies: &mut [u64
         ⌝ }
 {
     asks::views(words, asks, replies) as u64
+}
+
+// The planning desk. The session is an array of the caller's, which the crate `sessions` reads and updates. Open: a new
+// edit with the working interval t to t + width.
+#[no_mangle]
+pub extern "C" fn zohetiwa_desk_open(
+    words: &mut [u64],
+    t: u64,
+    width: u64,
+    latest: u64,
+    session: &mut [u64; sessions::WORDS],
+) -> u64
+    ensures { λ code. ⌜
+        Opens (Layer (deskOpen t width (settingOf latest)) (now (words .entry)) (now (words .exit))) code
+        (now (session .entry)) (now (session .exit))
+        ⌝ }
+{
+    let reply = desk::open(
+        words,
+        types::point_of_word(t),
+        width,
+        sessions::setting(latest),
+    );
+    sessions::open(reply, session)
+}
+
+// Read: as `zohetiwa_read`, up to the interval's end, or that nothing of the interval is left.
+#[no_mangle]
+pub extern "C" fn zohetiwa_desk_read(
+    words: &mut [u64],
+    session: &mut [u64; sessions::WORDS],
+    rec: u64,
+    kind: &mut u64,
+    tr: &mut u64,
+    end: &mut u64,
+    written: &mut u64,
+    value: &mut u64,
+) -> u64
+    ensures { λ code. ⌜
+        Reports
+        (Layer (deskRead (sessionOf (now (session .entry))) rec) (now (words .entry)) (now (words .exit))) code
+        (now (kind .entry) ∷ now (tr .entry) ∷ now (end .entry) ∷ now (written .entry) ∷ now (value .entry) ∷ [])
+        (now (kind .exit) ∷ now (tr .exit) ∷ now (end .exit) ∷ now (written .exit) ∷ now (value .exit) ∷ [])
+        (now (session .entry)) (now (session .exit))
+        ⌝ }
+{
+    let step = desk::read_with(words, sessions::session_of(session), rec);
+    sessions::read(step, session, kind, tr, end, written, value)
+}
+
+// Write: locks the interval, then stores the value.
+#[no_mangle]
+pub extern "C" fn zohetiwa_desk_write(
+    words: &mut [u64],
+    session: &mut [u64; sessions::WORDS],
+    rec: u64,
+    value: u64,
+) -> u64
+    ensures { λ code. ⌜
+        Reports
+        (Layer (deskWrite (sessionOf (now (session .entry))) rec value) (now (words .entry)) (now (words .exit))) code
+        [] []
+        (now (session .entry)) (now (session .exit))
+        ⌝ }
+{
+    let step = desk::write_with(words, sessions::session_of(session), rec, value);
+    sessions::write(step, session)
+}
+
+// Commit: at an end of the interval left, by the session's setting; settles.
+#[no_mangle]
+pub extern "C" fn zohetiwa_desk_commit(
+    words: &mut [u64],
+    session: &mut [u64; sessions::WORDS],
+    point: &mut u64,
+) -> u64
+    ensures { λ code. ⌜
+        Reports
+        (Layer (deskCommit (sessionOf (now (session .entry)))) (now (words .entry)) (now (words .exit))) code
+        (now (point .entry) ∷ []) (now (point .exit) ∷ [])
+        (now (session .entry)) (now (session .exit))
+        ⌝ }
+{
+    let step = desk::commit_with(words, sessions::session_of(session));
+    sessions::commit(step, session, point)
 }
