@@ -1,18 +1,20 @@
-/* The shared plan store for C: the calls of document 01 over an array of 64-bit words.
+/* The shared plan store for C: the calls of document 01 over an array of 64-bit words, and planning desks over them.
  *
  * Memory. The store is the array `words` of `length` words that the caller owns and lends for the time of one call. The
  * library keeps no pointer, allocates nothing and has no state of its own: the array is the whole store, and may be
  * copied, saved or sent with its length. It needs no initial content before zohetiwa_format. Every other pointer is to
- * one number of the caller's, or to a list or a reply area of theirs (zohetiwa_batch, zohetiwa_views), lent for the
- * time of the call as well. No pointer may be null (an array of length 0 too wants one, aligned to 8 bytes), and the
- * arrays and the numbers of one call must not overlap. Two calls on one array must not run at once.
+ * one number of the caller's, to a list or a reply area of theirs (zohetiwa_batch, zohetiwa_views), or to their array
+ * of ZOHETIWA_SESSION_WORDS numbers for a desk's session, lent for the time of the call as well. No pointer may be null
+ * (an array of length 0 too wants one, aligned to 8 bytes), and the arrays and the numbers of one call must not
+ * overlap. Two calls on one array must not run at once.
  *
  * Replies. The function of a call returns 0 if the call is granted, and then sets every number it was lent (to 0 where
- * the reply has no such value). Any other number is a refusal, or ZOHETIWA_NOPOINT: the lent numbers then stay as they
- * were, and a refusal also changes no word. zohetiwa_refusal gives the number of a refusal, zohetiwa_holder the
- * holder's handle. Every array and every argument has a defined reply. Each call but Point and Format checks the whole
- * array first: one that is no sound store is refused with ZOHETIWA_UNSOUND. zohetiwa_batch and zohetiwa_views check it
- * once for many calls.
+ * the reply has no such value). Any other number is a refusal, or ZOHETIWA_NOPOINT or ZOHETIWA_EMPTIED: the lent single
+ * numbers then stay as they were, and a refusal also changes no word of the store or of a session, with one exception
+ * that zohetiwa_desk_write names. zohetiwa_refusal gives the number of a refusal, zohetiwa_holder the holder's handle.
+ * Every array and every argument has a defined reply. Each call but Point and Format checks the whole array first: one
+ * that is no sound store is refused with ZOHETIWA_UNSOUND. zohetiwa_batch and zohetiwa_views check it once for many
+ * calls.
  *
  * Names. A record is named by its number from 0, an edit (a transaction) by the handle that Begin gave. A point is
  * clock reading * 64 + seat, at most ZOHETIWA_LAST; zohetiwa_point makes one. A bare clock reading is no point. */
@@ -33,10 +35,10 @@ extern "C" {
  * are answered before 7, and ZOHETIWA_NOPOINT comes before 14. */
 #define ZOHETIWA_UNSOUND 1         /* the array is no sound store */
 #define ZOHETIWA_NO_EDIT 2         /* no such edit: the handle's slot is out of range or free, or had another begin */
-#define ZOHETIWA_EDIT_ENDED 3      /* the edit has committed or aborted */
+#define ZOHETIWA_EDIT_ENDED 3      /* the edit has committed or aborted, or the desk's session has ended */
 #define ZOHETIWA_EDIT_OPEN 4       /* the edit is still open, so it cannot be settled */
 #define ZOHETIWA_NO_RECORD 5       /* no such record */
-#define ZOHETIWA_BAD_POINT 6       /* a reading, seat or point too large; low above high; m or the commit point 0 */
+#define ZOHETIWA_BAD_POINT 6       /* a reading, seat or point too large; low above high; m, t or the commit point 0 */
 #define ZOHETIWA_BELOW_FLOOR 7     /* low or m at or below the record's floor; a view below it */
 #define ZOHETIWA_HELD 8            /* another edit holds a point that is wanted: zohetiwa_holder gives its handle */
 #define ZOHETIWA_FROZEN 9          /* a settled lock or a version stands on a point that is wanted */
@@ -51,6 +53,9 @@ extern "C" {
 /* No refusal: the Commit found no point, and the edit has ended as aborted. */
 #define ZOHETIWA_NOPOINT 31
 
+/* No refusal: a desk's read left no point of its interval; the edit is aborted and settled. */
+#define ZOHETIWA_EMPTIED 30
+
 /* `part` of Lock and Read: 0 wants all points or none (A), any other number takes a part (P). */
 #define ZOHETIWA_ALL UINT64_C(0)
 #define ZOHETIWA_PART UINT64_C(1)
@@ -64,8 +69,8 @@ extern "C" {
 #define ZOHETIWA_OWN 2   /* the edit's own pending value: tr and end are 0 */
 #define ZOHETIWA_AGAIN 3 /* the version that the edit read before: tr is set, end is 0 */
 
-/* What a returned number that is not 0 says: it is the refusal (or ZOHETIWA_NOPOINT), and for ZOHETIWA_HELD the handle
- * of the edit that holds the point * 32 + 8. */
+/* What a returned number that is not 0 says: it is the refusal (or ZOHETIWA_NOPOINT or ZOHETIWA_EMPTIED), and for
+ * ZOHETIWA_HELD the handle of the edit that holds the point * 32 + 8. */
 static inline uint64_t zohetiwa_refusal(uint64_t code) { return code % 32; }
 static inline uint64_t zohetiwa_holder(uint64_t code) { return code / 32; }
 
@@ -164,6 +169,53 @@ uint64_t zohetiwa_batch(uint64_t *words, size_t length, const uint64_t *calls, s
  * word of the store. */
 uint64_t zohetiwa_views(const uint64_t *words, size_t length, const uint64_t *asks, size_t asks_length,
                         uint64_t *replies, size_t replies_length);
+
+/* A planning desk is an edit with a working interval low..high. Its reads and writes ask for points of the interval,
+ * which shrinks to what they were granted, and it commits at the earliest or the latest point that is left. The desk's
+ * session is an array of the caller's, of ZOHETIWA_SESSION_WORDS numbers at these places; it may be copied, saved or
+ * sent. It has ended exactly if high is below low: the call that ends it sets low to 1 and high to 0. Any numbers are a
+ * session: what its handle and interval may do, the store decides.
+ *
+ * A granted zohetiwa_desk_open sets all five numbers. The other three calls set low and high to the interval after the
+ * call and leave the rest; width is not looked at after opening. After a refusal all five are as they were, but for 10
+ * of zohetiwa_desk_write.
+ *
+ * A desk only makes calls of the store: Begin, Read, Lock, Write, Commit and Abort with its handle. So what is said of
+ * lists of calls, that they could have run one edit at a time, and of charts (zohetiwa_view), holds with desks among
+ * them. Its edit is one like all others, which any call may use by its handle; two sessions may have one handle, and
+ * then share the edit: when one of them has ended it, the other's handle is stale, which is 2. */
+#define ZOHETIWA_SESSION_WORDS 5
+#define ZOHETIWA_SESSION_HANDLE 0
+#define ZOHETIWA_SESSION_LOW 1
+#define ZOHETIWA_SESSION_HIGH 2
+#define ZOHETIWA_SESSION_WIDTH 3
+#define ZOHETIWA_SESSION_LATEST 4
+
+/* `latest` of a desk: 0 names the earliest point of the interval, any other number the latest. */
+#define ZOHETIWA_EARLIEST UINT64_C(0)
+#define ZOHETIWA_LATEST UINT64_C(1)
+
+/* Opens a desk: begins an edit, with the interval t..t + width. The session's `latest` becomes 0 or 1.
+ * Refusals: 1, 13, then 6: t is 0, or t + width above ZOHETIWA_LAST. */
+uint64_t zohetiwa_desk_open(uint64_t *words, size_t length, uint64_t t, uint64_t width, uint64_t latest,
+                            uint64_t *session);
+
+/* A desk reads a record: Read up to high, a part, and replies as zohetiwa_read does. After a new read the interval is
+ * what of it lies in tr + 1..end; own and repeated reads leave it. If no point is left the edit is aborted and settled,
+ * the session has ended, and no value is told: ZOHETIWA_EMPTIED.
+ * Refusals: 1, then 3 if the session has ended, then those of Read: 2, 3, 5, 6, 7, 8, 9, 10, 11. */
+uint64_t zohetiwa_desk_read(uint64_t *words, size_t length, uint64_t *session, uint64_t record, uint64_t *kind,
+                            uint64_t *tr, uint64_t *end, uint64_t *written, uint64_t *value);
+
+/* A desk writes a record: Lock low..high, a part, to which the interval shrinks, and then Write.
+ * Refusals: 1, then 3 if the session has ended, then those of Lock: 2, 3, 5, 6, 7, 8, 9, 11; then 10 of Write, after
+ * which the lock and the shrunken interval remain. */
+uint64_t zohetiwa_desk_write(uint64_t *words, size_t length, uint64_t *session, uint64_t record, uint64_t value);
+
+/* A desk commits: Commit at low, or at high if `latest` is not 0, and settles. The session has then ended, also after
+ * ZOHETIWA_NOPOINT.
+ * Refusals: 1, then 3 if the session has ended, then those of Commit at a named point: 2, 3, 6, 12, 14. */
+uint64_t zohetiwa_desk_commit(uint64_t *words, size_t length, uint64_t *session, uint64_t *point);
 
 #ifdef __cplusplus
 }

@@ -2,10 +2,13 @@
 
 #![forbid(unsafe_code)]
 
-use crate::types::{Answer, Extent, Finish, Handle, Point, Read, Refusal, Value};
+use crate::types::{Answer, Commit, Extent, Finish, Handle, Point, Read, Refusal, Value};
 
 /// Returned by a Commit that found no point.
 pub const NOPOINT: u64 = 31;
+
+/// Returned by a desk's read that left no point of its interval.
+pub const EMPTIED: u64 = 30;
 
 /// `reply` if the number says granted, else the refusal.
 pub fn told<T>(code: u64, reply: T) -> Answer<T> {
@@ -68,6 +71,14 @@ pub fn read(kind: u64, tr: u64, end: u64, value: Value) -> Read {
         (3, _) => Read::Again { tr, value },
         _ => panic!("the library linked is not this wrapper's: a Read of kind {kind}"),
     }
+}
+
+/// Which of its two replies a Commit has, or its refusal.
+pub fn commit(code: u64, point: u64) -> Answer<Commit> {
+    if code == NOPOINT {
+        return Ok(Commit::NoPoint);
+    }
+    told(code, Commit::At(Point::of_word(point)))
 }
 
 #[cfg(test)]

@@ -1,8 +1,9 @@
-//! The shared plan store for Rust: the calls of document 01 over a lent slice of words, with typed replies and
-//! refusals. A thin wrapper of the proved C functions (include/zohetiwa.h says what each call does); it keeps no state.
+//! The shared plan store for Rust: the calls of document 01 over a lent slice of words, and planning desks ([`Desk`])
+//! over them, with typed replies and refusals. A thin wrapper of the proved C functions (include/zohetiwa.h says what
+//! each call does); it keeps no state.
 //!
-//! The slice is the whole store and needs no content before [`format`]. Every slice and every argument has a defined
-//! reply; each call but [`point`] and [`format`] first checks the whole slice.
+//! The slice is the whole store and needs no content before [`format()`]. Every slice and every argument has a defined
+//! reply; each call but [`point`] and [`format()`] first checks the whole slice.
 //!
 //! ```
 //! use zohetiwa::*;
@@ -19,14 +20,16 @@
 //! ```
 //!
 //! Safe because: a lent slice is a pointer, not null and aligned, to as many words as its length says; the lent numbers
-//! are locals of the call, so nothing overlaps; and the functions, by their contracts, take every slice and number, and
-//! touch nothing else.
+//! are locals of the call, and a desk's session is five words of its own, so nothing overlaps; and the functions, by
+//! their contracts, take every slice and number, and touch nothing else.
 
 mod codes;
+mod desk;
 mod lists;
 mod types;
 
-pub use codes::NOPOINT;
+pub use codes::{EMPTIED, NOPOINT};
+pub use desk::*;
 pub use lists::*;
 pub use types::*;
 
@@ -99,6 +102,20 @@ extern "C" {
         replies: *mut u64,
         replies_length: usize,
     ) -> u64;
+    fn zohetiwa_desk_open(words: *mut u64, length: usize, t: u64, width: u64, latest: u64, session: *mut u64) -> u64;
+    fn zohetiwa_desk_read(
+        words: *mut u64,
+        length: usize,
+        session: *mut u64,
+        record: u64,
+        kind: *mut u64,
+        tr: *mut u64,
+        end: *mut u64,
+        written: *mut u64,
+        value: *mut u64,
+    ) -> u64;
+    fn zohetiwa_desk_write(words: *mut u64, length: usize, session: *mut u64, record: u64, value: u64) -> u64;
+    fn zohetiwa_desk_commit(words: *mut u64, length: usize, session: *mut u64, point: *mut u64) -> u64;
 }
 
 /// A point of a clock reading (below 2^40) and a seat (below 64). Needs no store. Refusal: 6.
@@ -192,10 +209,7 @@ pub fn commit(words: &mut [u64], handle: Handle, pick: Pick, finish: Finish) -> 
         // SAFETY: as above.
         Pick::Named(at) => unsafe { zohetiwa_commit_at(lent, length, edit, at.word(), keep, &mut point) },
     };
-    if code == codes::NOPOINT {
-        return Ok(Commit::NoPoint);
-    }
-    codes::told(code, Commit::At(Point::of_word(point)))
+    codes::commit(code, point)
 }
 
 /// Ends the edit; none of its values is stored. Refusals: 1, 2, 3.

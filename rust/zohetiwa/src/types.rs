@@ -155,20 +155,21 @@ pub struct Shown {
     pub value: Value,
 }
 
-/// The sixteen ways to say no, in the order of their numbers. A refusal changes no word.
+/// The sixteen ways to say no, in the order of their numbers. A refusal changes no word, but for
+/// [`NoAccessRow`](Refusal::NoAccessRow) after the lock of [`Desk::write`](crate::Desk::write).
 #[derive(Clone, Copy, Debug, PartialEq, Eq)]
 pub enum Refusal {
     /// The array is no sound store.
     Unsound,
     /// No such edit: the handle's slot is out of range or free, or had another begin.
     NoEdit,
-    /// The edit has committed or aborted.
+    /// The edit has committed or aborted, or the desk's session has ended.
     EditEnded,
     /// The edit is still open, so it cannot be settled.
     EditOpen,
     /// No such record.
     NoRecord,
-    /// A reading, seat or point too large; low above high; m or the commit point 0.
+    /// A reading, seat or point too large; low above high; m, a desk's t or the commit point 0.
     BadPoint,
     /// Low or m at or below the record's floor; a view below it.
     BelowFloor,
