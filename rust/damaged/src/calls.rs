@@ -33,7 +33,7 @@ fn value(value: z::Value) -> Option<u64> {
     }
 }
 
-fn refusal(refusal: z::Refusal) -> Refusal {
+pub fn refusal(refusal: z::Refusal) -> Refusal {
     match refusal {
         z::Refusal::Unsound => Refusal::NotSound,
         z::Refusal::NoEdit => Refusal::NoSuchEdit,
@@ -54,7 +54,7 @@ fn refusal(refusal: z::Refusal) -> Refusal {
     }
 }
 
-fn read(read: z::Read) -> Reply {
+pub fn read(read: z::Read) -> Reply {
     match read {
         z::Read::New { tr, end, value: v } => Reply::Read(tr.word(), end.word(), value(v)),
         z::Read::Own(bits) => Reply::Own(bits),
@@ -62,7 +62,7 @@ fn read(read: z::Read) -> Reply {
     }
 }
 
-fn commit(commit: z::Commit) -> Reply {
+pub fn commit(commit: z::Commit) -> Reply {
     match commit {
         z::Commit::At(point) => Reply::Commit(point.word()),
         z::Commit::NoPoint => Reply::NoPoint,

@@ -123,7 +123,7 @@ impl Rows {
 }
 
 /// Where the words of a sound store lie.
-pub struct Tables {
+struct Tables {
     records: Rows,
     edits: Rows,
     versions: Rows,
@@ -132,7 +132,7 @@ pub struct Tables {
 }
 
 impl Tables {
-    pub fn new(words: &[u64]) -> Tables {
+    fn new(words: &[u64]) -> Tables {
         let records = 8;
         let edits = records + 3 * words[0] as usize;
         let versions = edits + 4 * words[1] as usize;
@@ -211,7 +211,7 @@ impl Tables {
     }
 
     /// Changes one word.
-    pub fn change(&self, words: &mut [u64], random: &mut Random) -> Change {
+    fn change(&self, words: &mut [u64], random: &mut Random) -> Change {
         let kind = random.pick(&KINDS);
         let at = self.place(kind, random);
         let old = words[at];
@@ -231,7 +231,7 @@ impl Tables {
     }
 
     /// Moves the first row of a chain to the front of another. `None` if the chains met are empty or the same.
-    pub fn moved(&self, words: &mut [u64], random: &mut Random) -> Option<Change> {
+    fn moved(&self, words: &mut [u64], random: &mut Random) -> Option<Change> {
         let table = random.from(0, 2) as usize;
         let rows = [&self.versions, &self.locks, &self.accesses][table];
         let (from, to) = (self.head(table, random), self.head(table, random));
@@ -247,7 +247,7 @@ impl Tables {
     }
 
     /// Lowers a floor to 0. `None` if the record met has floor 0 or no lock.
-    pub fn lowered(&self, words: &mut [u64], random: &mut Random) -> Option<Change> {
+    fn lowered(&self, words: &mut [u64], random: &mut Random) -> Option<Change> {
         let at = self.records.word(2, random);
         let (floor, lock) = (words[at], words[at - 1]);
         if floor == 0 || lock == 0 {
@@ -261,7 +261,7 @@ impl Tables {
     }
 
     /// Shifts a floor with its version, the last of its chain. `None` if the record met has floor 0.
-    pub fn shifted(&self, words: &mut [u64], random: &mut Random) -> Option<Change> {
+    fn shifted(&self, words: &mut [u64], random: &mut Random) -> Option<Change> {
         let at = self.records.word(2, random);
         let floor = words[at];
         if floor == 0 {
@@ -279,7 +279,7 @@ impl Tables {
 
     /// Shifts the point read of an edit's first access, with the read lock that starts just after it. `None` if the
     /// slot met has no such access.
-    pub fn read_shifted(&self, words: &mut [u64], random: &mut Random) -> Option<Change> {
+    fn read_shifted(&self, words: &mut [u64], random: &mut Random) -> Option<Change> {
         let slot = random.from(1, self.edits.count as u64);
         let access = match words[self.edits.at(slot) + 2] {
             0 => return None,
@@ -299,4 +299,21 @@ impl Tables {
         }
         None
     }
+}
+
+/// Changes so many words: each by itself, or where it is 3 also two or three that belong together.
+pub fn some(words: &mut [u64], many: u64, random: &mut Random) -> Vec<Change> {
+    let tables = Tables::new(words);
+    if many == 3 && random.percent(50) {
+        let together = match random.from(0, 3) {
+            0 => tables.moved(words, random),
+            1 => tables.lowered(words, random),
+            2 => tables.shifted(words, random),
+            _ => tables.read_shifted(words, random),
+        };
+        if let Some(change) = together {
+            return vec![change];
+        }
+    }
+    (0..many).map(|_| tables.change(words, random)).collect()
 }

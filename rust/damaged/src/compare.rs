@@ -1,49 +1,59 @@
 //! One call through the wrapper and in the model, from the same words: verdict, reply and meaning.
 
 use crate::calls;
-use model::reply::{Refusal, Reply};
+use model::reply::Reply;
 use model::script::{Call, Session};
-use model::words::{decode_whole, ordered, Unjudged};
+use model::words::{decode, decode_whole, ordered, Unjudged};
 use std::collections::HashMap;
+use std::fmt::Debug;
 
-/// Does the call on the words and compares; the error says what differs.
+/// Does the call on the words, and compares; the error says what differs.
 pub fn call(words: &mut [u64], call: Call) -> Result<Reply, String> {
+    let mut run = Session::new(false);
+    run.store = decode(words);
+    step(words, &mut run, call)
+}
+
+/// Does the call on the words and in a run of the model that has the store which they mean.
+pub fn step(words: &mut [u64], run: &mut Session, call: Call) -> Result<Reply, String> {
+    let by_wrapper = |words: &mut [u64]| calls::call(words, call);
+    let in_model = |run: &mut Session| run.call(call).map(|reply| (reply, vec![(call, reply)]));
+    let (reply, _) = alike(words, run, by_wrapper, in_model).map_err(|e| format!("{call:?} {e}"))?;
+    Ok(reply)
+}
+
+/// What a call tells, and the store calls that it consists of, with their replies.
+pub type Done<T> = (T, Vec<(Call, Reply)>);
+
+/// Does a call through the wrapper and in the model, from the same store or from words that are no store. Compares what
+/// they tell, and the stores after it; no word changes where each store call is refused or only looks.
+pub fn alike<T: Debug + PartialEq>(
+    words: &mut [u64],
+    run: &mut Session,
+    by_wrapper: impl FnOnce(&mut [u64]) -> T,
+    in_model: impl FnOnce(&mut Session) -> Result<Done<T>, String>,
+) -> Result<Done<T>, String> {
     let before = words.to_vec();
-    let reply = calls::call(words, call);
-    let differs = |expected: Reply| format!("{call:?} replied {reply:?}, in the model {expected:?}");
-    let Some((store, unjudged)) = decode_whole(&before) else {
-        let expected = Reply::No(Refusal::NotSound);
-        return match (reply == expected, *words == *before) {
-            (false, _) => Err(differs(expected)),
-            (_, false) => Err(format!("{call:?} was refused with 1 and changed words")),
-            _ => Ok(reply),
-        };
+    let told = by_wrapper(words);
+    let (expected, calls) = in_model(run)?;
+    if told != expected {
+        return Err(format!("replied {told:?}, in the model {expected:?}"));
+    }
+    if calls.iter().all(|(_, reply)| matches!(reply, Reply::No(_) | Reply::At(..))) {
+        return if *words == *before { Ok((told, calls)) } else { Err(format!("replied {told:?} and changed words")) };
+    }
+    let (Some((_, unjudged)), Some((after, left))) = (decode_whole(&before), decode_whole(words)) else {
+        return Err(format!("replied {told:?}; the words are not sound after it"));
     };
-    let mut session = Session::new(false);
-    session.store = Some(store);
-    let expected = session.call(call)?;
-    if reply != expected {
-        return Err(differs(expected));
+    if Some(ordered(after)) != run.store.clone().map(ordered) {
+        return Err(format!("replied {told:?}; the words mean another store after it"));
     }
-    if matches!(reply, Reply::No(_) | Reply::At(..)) {
-        return if *words == *before {
-            Ok(reply)
-        } else {
-            Err(format!("{call:?} replied {reply:?} and changed words"))
-        };
-    }
-    let Some((after, left)) = decode_whole(words) else {
-        return Err(format!("after {call:?}, {reply:?}, the words are not sound"));
-    };
-    if Some(ordered(after)) != session.store.map(ordered) {
-        return Err(format!("after {call:?}, {reply:?}, the words mean another store"));
-    }
-    let filled = match (call, reply) {
+    let filled = calls.iter().find_map(|&(call, reply)| match (call, reply) {
         (Call::Read(handle, record, ..), Reply::Read(..)) => Some((handle % 64, record as usize)),
         _ => None,
-    };
-    same_unjudged(&unjudged, &left, filled).map_err(|e| format!("after {call:?}, {reply:?}: {e}"))?;
-    Ok(reply)
+    });
+    same_unjudged(&unjudged, &left, filled).map_err(|e| format!("replied {told:?}; {e}"))?;
+    Ok((told, calls))
 }
 
 /// The words that no clause judges: 0 in a row that the call fills (the table's "0 until written"), as they were in the

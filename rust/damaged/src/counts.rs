@@ -1,6 +1,7 @@
 //! How often each kind of change and each reply came, and that none was missed.
 
-use crate::change::{Change, Kind, ALL};
+use damaged::change::{Change, Kind, ALL};
+use model::count;
 use model::reply::Reply;
 use model::script::{show, Call};
 use std::collections::BTreeMap;
@@ -41,12 +42,7 @@ impl Counted {
     }
 
     pub fn reply(&mut self, call: Call, reply: Reply) {
-        let shown = show(reply);
-        let mut words = shown.split(' ');
-        let kind = match (words.next(), words.next()) {
-            (Some("no"), Some(number)) => format!("{} no {number:>2}", letter(call)),
-            (first, _) => format!("{} {}", letter(call), first.unwrap_or_default()),
-        };
+        let kind = format!("{} {}", letter(call), count::kind(&show(reply)));
         *self.replies.entry(kind).or_default() += 1;
     }
 

@@ -6,13 +6,10 @@
 
 #![forbid(unsafe_code)]
 
-mod calls;
-mod change;
-mod compare;
 mod counts;
 
-use change::{Change, Tables};
 use counts::Counted;
+use damaged::{calls, change, compare, program};
 use model::generate::{script, Random};
 use model::script::{parse, Call, Session};
 use model::store::LAST;
@@ -55,29 +52,12 @@ fn step(words: &mut Vec<u64>, session: &mut Session, call: Call) -> Result<(), S
     Ok(())
 }
 
-/// Changes 0 to 3 words: each by itself, or two or three that belong together.
-fn change(words: &mut [u64], random: &mut Random) -> Vec<Change> {
-    let tables = Tables::new(words);
-    let many = random.from(0, 3);
-    if many == 3 && random.percent(50) {
-        let together = match random.from(0, 3) {
-            0 => tables.moved(words, random),
-            1 => tables.lowered(words, random),
-            2 => tables.shifted(words, random),
-            _ => tables.read_shifted(words, random),
-        };
-        if let Some(change) = together {
-            return vec![change];
-        }
-    }
-    (0..many).map(|_| tables.change(words, random)).collect()
-}
-
 /// One damaged copy: how many words are changed, which, and what the next calls do with it.
 fn copy(words: &[u64], calls: &[Call], random: &mut Random, counted: &mut Counted) -> Result<(), (Vec<u64>, String)> {
     let undamaged = words;
     let mut words = words.to_vec();
-    let changes = change(&mut words, random);
+    let many = random.from(0, 3);
+    let changes = change::some(&mut words, many, random);
     let sound = decode(&words).is_some();
     let changed = undamaged.iter().zip(&words).filter(|(old, new)| old != new).count();
     counted.store(changed, &changes, sound);
@@ -121,11 +101,7 @@ fn run(stores: u64, file: &str) -> Result<(), String> {
             break;
         }
         one_script(seed, stores, &mut counted).map_err(|(words, message)| {
-            let text = format!("seed {seed}: {message}\nwords before the call {words:?}\n");
-            match std::fs::write(file, &text) {
-                Ok(()) => format!("seed {seed}: {message}; the words are kept in {file}"),
-                Err(e) => format!("{text}{file}: {e}"),
-            }
+            program::keep(file, format!("seed {seed}: {message}"), format!("words before the call {words:?}"))
         })?;
     }
     counted.print();
@@ -133,16 +109,5 @@ fn run(stores: u64, file: &str) -> Result<(), String> {
 }
 
 fn main() -> ExitCode {
-    let arguments: Vec<String> = std::env::args().skip(1).collect();
-    let result = match &arguments[..] {
-        [stores, file] => stores.parse().map_err(|e| format!("{stores}: {e}")).and_then(|n| run(n, file)),
-        _ => Err("usage: damaged STORES FILE".to_string()),
-    };
-    match result {
-        Ok(()) => ExitCode::SUCCESS,
-        Err(message) => {
-            eprintln!("damaged: {message}");
-            ExitCode::FAILURE
-        }
-    }
+    program::main("damaged", "STORES", run)
 }

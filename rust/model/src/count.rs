@@ -28,7 +28,7 @@ impl Counted {
 }
 
 /// The kind of an answer: its first word, and the number of a refusal.
-fn kind(answer: &str) -> String {
+pub fn kind(answer: &str) -> String {
     let mut words = answer.split(' ');
     let first = words.next().unwrap_or_default();
     match (first, words.next()) {

@@ -1,7 +1,7 @@
-//! Random scripts. Stores and points are small, so that edits meet; the generator follows its
-//! own script with a session, so that it knows which handles are good.
+//! Random scripts and calls. Stores and points are small, so that edits meet; the generator follows its
+//! own script with a session, or is shown the store, so that it knows which handles are good.
 
-use crate::script::Session;
+use crate::script::{self, Call, Session};
 use crate::store::{State, Store, LAST};
 
 /// The splitmix64 numbers of a seed.
@@ -38,7 +38,7 @@ impl Random {
 }
 
 /// Numbers that are too large, or just not.
-const LARGE: [u64; 7] = [
+pub const LARGE: [u64; 7] = [
     LAST - 1,
     LAST,
     LAST + 1,
@@ -48,8 +48,8 @@ const LARGE: [u64; 7] = [
     u64::MAX,
 ];
 
-struct Generator {
-    random: Random,
+pub struct Generator {
+    pub random: Random,
     session: Session,
     /// Handles that a begin gave, good or stale.
     given: Vec<u64>,
@@ -75,6 +75,45 @@ const MOODS: [&[u8]; 6] = [
 ];
 
 impl Generator {
+    pub fn new(seed: u64, malformed: bool) -> Generator {
+        let mut generator = Generator {
+            random: Random::new(seed),
+            session: Session::new(false),
+            given: vec![],
+            base: 0,
+            width: 6,
+            letters: vec![],
+            keeps: 30,
+            malformed,
+        };
+        generator.change_mood();
+        generator
+    }
+
+    /// Shows it a store that others than its own script have changed.
+    pub fn show(&mut self, store: &Store) {
+        self.session.store = Some(store.clone());
+        for handle in self.handles(|state| state == State::Open) {
+            if !self.given.contains(&handle) {
+                self.given.push(handle);
+            }
+        }
+    }
+
+    /// A call on the store; no Format.
+    pub fn call(&mut self) -> Call {
+        let letter = self.likely_letter();
+        let line = self.call_line(letter);
+        script::parse(line.as_bytes()).expect("a line of a call")
+    }
+
+    /// Other calls and other points come more often from here on, now and then.
+    pub fn perhaps_change_mood(&mut self) {
+        if self.random.percent(5) {
+            self.change_mood();
+        }
+    }
+
     fn change_mood(&mut self) {
         self.letters = self.random.pick(&MOODS).to_vec();
         self.keeps = self.random.pick(&[5, 30, 60, 90]);
@@ -129,11 +168,11 @@ impl Generator {
         self.forged_handle()
     }
 
-    fn open_handle(&mut self) -> u64 {
+    pub fn open_handle(&mut self) -> u64 {
         self.handle(|state| state == State::Open)
     }
 
-    fn record(&mut self) -> u64 {
+    pub fn record(&mut self) -> u64 {
         let count = self.store().map_or(2, |s| s.counts.records);
         if self.random.percent(3) {
             let large = self.random.pick(&LARGE);
@@ -142,7 +181,7 @@ impl Generator {
         self.random.from(0, count.min(4) - 1)
     }
 
-    fn point(&mut self) -> u64 {
+    pub fn point(&mut self) -> u64 {
         match self.random.from(0, 99) {
             0..=2 => self.random.pick(&LARGE),
             3..=4 => self.random.from(0, 200),
@@ -165,7 +204,7 @@ impl Generator {
         }
     }
 
-    fn value(&mut self) -> u64 {
+    pub fn value(&mut self) -> u64 {
         match self.random.from(0, 9) {
             0 => 0,
             1 => self.random.pick(&LARGE),
@@ -347,9 +386,7 @@ impl Generator {
 
     /// The next lines: mostly one.
     fn next_lines(&mut self) -> Vec<Vec<u8>> {
-        if self.random.percent(5) {
-            self.change_mood();
-        }
+        self.perhaps_change_mood();
         let begun = self.store().is_some();
         let letter = if !begun && self.random.percent(50) || self.random.percent(1) {
             b'F'
@@ -370,17 +407,7 @@ impl Generator {
 
 /// The lines of a random script. A `plain` one has no malformed lines and begins with an F.
 pub fn script(seed: u64, lines: usize, plain: bool) -> Vec<Vec<u8>> {
-    let mut generator = Generator {
-        random: Random::new(seed),
-        session: Session::new(false),
-        given: vec![],
-        base: 0,
-        width: 6,
-        letters: vec![],
-        keeps: 30,
-        malformed: !plain,
-    };
-    generator.change_mood();
+    let mut generator = Generator::new(seed, !plain);
     let mut script = vec![];
     while script.len() < lines {
         let next = if plain && generator.store().is_none() {

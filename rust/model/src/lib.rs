@@ -1,11 +1,12 @@
-//! A model of the shared plan store, written from document 01 alone: the calls on a store kept in vectors (`store`),
-//! script lines (`script`), random scripts (`generate`), the plain run (`serial`), what charts promise (`charts`), and
-//! the soundness and the meaning of lent words (`words`).
+//! A model of the shared plan store, written from documents 01 and 02 alone: the calls on a store kept in vectors
+//! (`store`), script lines (`script`), random scripts and calls (`generate`), the plain run (`serial`), what charts
+//! promise (`charts`), planning desks (`desk`), and the soundness and the meaning of lent words (`words`).
 
 #![forbid(unsafe_code)]
 
 pub mod charts;
 pub mod count;
+pub mod desk;
 pub mod generate;
 pub mod record;
 pub mod reply;

@@ -1,4 +1,4 @@
-//! A model of the shared plan store, written from document 01 alone.
+//! A model of the shared plan store, written from documents 01 and 02 alone.
 //!
 //!     model run [--check]                  answers the script on standard input
 //!     model gen SEED LINES [--plain]       prints a random script

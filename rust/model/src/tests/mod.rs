@@ -1,10 +1,12 @@
 //! Each list has script lines on the left of `=` and answers on the right. `refusals` has the sixteen numbers, `calls`
-//! the session, the misreadings and the calls together, `charts` what views promise, `scripts` the form of lines and
-//! the generator. `words` has lent words, laid out by hand or from a store (`layout`), and `damages` damaged ones.
+//! the session, the misreadings and the calls together, `charts` what views promise, `desk` planning desks, `scripts`
+//! the form of lines and the generator. `words` has lent words, laid out by hand or from a store (`layout`), and
+//! `damages` damaged ones.
 
 mod calls;
 mod charts;
 mod damages;
+mod desk;
 mod layout;
 mod refusals;
 mod scripts;
@@ -12,19 +14,23 @@ mod words;
 
 use crate::script::{self, Session};
 
-/// Runs a list of "line = answer" with the checks on.
-fn expect(list: &str) {
-    let mut session = Session::new(true);
+/// Answers the lines of a list of "line = answer", and compares.
+fn answers(list: &str, mut line: impl FnMut(&str) -> String) {
     for (i, pair) in list
         .lines()
         .map(str::trim)
         .filter(|l| !l.is_empty())
         .enumerate()
     {
-        let (line, answer) = pair.split_once(" = ").expect("a pair");
-        let got = session.line(line.as_bytes()).expect("sound");
-        assert_eq!(got, answer, "pair {}: {line}", i + 1);
+        let (left, answer) = pair.split_once(" = ").expect("a pair");
+        assert_eq!(line(left), answer, "pair {}: {left}", i + 1);
     }
+}
+
+/// Runs a list of "line = answer" with the checks on.
+fn expect(list: &str) {
+    let mut session = Session::new(true);
+    answers(list, |line| session.line(line.as_bytes()).expect("sound"));
     session.finish().expect("the plain run");
 }
 
