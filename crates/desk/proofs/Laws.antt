@@ -41,6 +41,7 @@ use Rattle.desk.specs.Laws.{NoPointEnds}
 use Rattle.desk.specs.declared.Session.{Session}
 use Rattle.desk.proofs.Cases as cases
 use Rattle.desk.proofs.Cases.{LockedOr, taken, locked-or, ReadOr, new, read-or}
+use Rattle.desk.proofs.Refusals.{true-not-false}
 use Rattle.desk.proofs.Intervals.{just-between, same-between, read-leaves}
 
 -- What the programs come to, where the session has not ended.
@@ -290,9 +291,6 @@ write-stores s rec low high v t m e = rw (write-plays s t m rec v, e) (refl, ref
 
 -- Commit.
 
-no-two : {A : Type 0} → true ≡ false → A
-no-two e = let z : _≡_ {A = ℕ} 0 1 = cc in absurd (omega arith)
-
 names : (s : Session) (p : ℕ) (a : After) → ended s ≡ false → p ≡ named s .0 → a .session ≡ closed s → CommitsAt s p a
 unfolding named ended
 names s p a m e g = go (s .latest) refl
@@ -305,7 +303,7 @@ names s p a m e g = go (s .latest) refl
         let x : p ≡ s .high .0 = rw f at e in
         record {
           point = record { from = omega (arith, some); upto = omega arith };
-          earliest = λ k. no-two (sym f ∙ k);
+          earliest = λ k. true-not-false (sym f ∙ k);
           latest = λ k y h. let u = h .upto in omega arith;
           over = rw g;
         }
@@ -314,7 +312,7 @@ names s p a m e g = go (s .latest) refl
         record {
           point = record { from = omega arith; upto = omega (arith, some) };
           earliest = λ k y h. let u = h .from in omega arith;
-          latest = λ k. no-two (sym k ∙ f);
+          latest = λ k. true-not-false (sym k ∙ f);
           over = rw g;
         }
 
@@ -327,7 +325,7 @@ ends-session s t q k e = go (ended s) refl
     three-not : {A : Type 0} → told (refusing 3 []) ≡ told q → A
     three-not x =
         let y : refusing 3 [] ≡ q = cc in
-        no-two (sym k ∙ ap endsEdit (sym y))
+        true-not-false (sym k ∙ ap endsEdit (sym y))
 
     go : (b : Bool) → ended s ≡ b
         → (m : ended s ≡ false) × (committed s t m ≡ q) × (play (deskCommit s) t .told .session ≡ closed s)

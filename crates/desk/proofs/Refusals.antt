@@ -36,9 +36,8 @@ Done p w w′ a = Did Lent decode soundWords p w w′ a
 abbrev DoesCall : Call → Lent → Lent → Reply → Type 0
 DoesCall c w w′ q = contract.Does Lent decode soundWords (act c) w w′ q
 
--- two answers that differ
-no-one : {A : Type 0} → true ≡ false → A
-no-one e = let z : _≡_ {A = ℕ} 0 1 = cc in absurd (omega arith)
+pub true-not-false : {A : Type 0} → true ≡ false → A
+true-not-false e = let z : _≡_ {A = ℕ} 0 1 = cc in absurd (omega arith)
 
 -- the reply was passed on
 passed-on : {s s′ : Session} {q : Reply} {n : ℕ} {more : List ℕ} → says s q ≡ says s′ (refusing n more)
@@ -87,7 +86,7 @@ module _ (s s′ : Session) (n : ℕ) (more : List ℕ) (w₁ w′ : Lent) where
           omega arith
       go false e =
           let p = passed-on (did-answer Lent decode soundWords e .1) in
-          no-one (sym (ap refused (p .0)) ∙ m)
+          true-not-false (sym (ap refused (p .0)) ∙ m)
 
   read-kept : {q : Reply} → ReadOr q → Refused (onceRead s q) → (refused q ≡ true) × Kept
   read-kept (new tr end v) d = absurd (never-shrunk (read tr end v) refl (within s (suc tr) end) d)

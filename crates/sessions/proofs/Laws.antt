@@ -1,12 +1,12 @@
 -- The laws of the session's numbers. Rests on Laws and Cases of `desk`, and on the laws of `meaning`.
-use Prim.Native.Nat.{ℕ, suc, _≤_}
+use Prim.Native.Nat.{ℕ, suc, _<_}
 use native.Mathlib.Omega.{arith}
 use mathlib.Core.Path.{_≡_, refl, sym, ap, _∙_}
 use mathlib.Core.Bool.{Bool, true, false, cond}
 use mathlib.Core.List.{List, [], _∷_}
-use lib.Dec.{leb}
+use lib.Dec.{ltb}
 use lib.ListN.{length}
-use borrow.Author.Tests.{leb-true}
+use borrow.Author.Tests.{ltb-true}
 use Rattle.types.specs.Replies.{Reply, ok, edit, locked, read, own, again, commit, nopoint, purged, at, point, refusing}
 use Rattle.types.specs.declared.Call.the-variants as C
 use Rattle.types.specs.declared.Extent.{Extent}
@@ -96,14 +96,15 @@ pub same-session-same-numbers : SameSessionSameNumbers
 same-session-same-numbers session n = same-back (is-five session n)
 
 -- 30: the numbers of a read's refusals are below it, and 8 with a handle above it is another
-low-numbers : (h : Handle) (r : ℕ) (m : Point) (w : Extent) → all (λ n. leb n 11) (concerns (C.Read h r m w)) ≡ true
+low-numbers : (h : Handle) (r : ℕ) (m : Point) (w : Extent)
+    → all (λ n. ltb n EMPTIED) (concerns (C.Read h r m w)) ≡ true
 low-numbers h r m w = refl
 
-with-low : (n : ℕ) (more : List ℕ) → n ≤ 11 → codeWith n more ≡ EMPTIED → ⊥
+with-low : (n : ℕ) (more : List ℕ) → n < EMPTIED → codeWith n more ≡ EMPTIED → ⊥
 with-low n [] l e = omega (arith, l, e)
 with-low n (h ∷ more) l e = omega (arith, l, e)
 
-not-emptied : (q : Reply) → ((n : ℕ) → Refuses n q → n ≤ 11) → codeOf q ≡ EMPTIED → ⊥
+not-emptied : (q : Reply) → ((n : ℕ) → Refuses n q → n < EMPTIED) → codeOf q ≡ EMPTIED → ⊥
 not-emptied ok f e = omega (arith, e)
 not-emptied (edit h) f e = omega (arith, e)
 not-emptied (locked low high) f e = omega (arith, e)
@@ -144,10 +145,10 @@ read-alone s rec t e = go (ended s) refl
     q : Reply
     q = reading (s .handle .0) rec (s .high .0) Part t .reply
 
-    low : (n : ℕ) → Refuses n q → n ≤ 11
+    low : (n : ℕ) → Refuses n q → n < EMPTIED
     low n x =
-        leb-true n 11
-        (all-out (λ m. leb m 11) (concerns (C.Read (s .handle) rec (s .high) Part))
+        ltb-true n EMPTIED
+        (all-out (λ m. ltb m EMPTIED) (concerns (C.Read (s .handle) rec (s .high) Part))
         (low-numbers (s .handle) rec (s .high) Part) n (only-own-numbers (C.Read (s .handle) rec (s .high) Part) t n x))
 
     go : (b : Bool) → ended s ≡ b → play (deskRead s rec) t .told .report ≡ emptied
