@@ -1,4 +1,4 @@
--- What a refused call of the desk left: from its list of calls. Rests on Layers of `layers`, on Cases and on
+-- What a refused call of the desk left: from its contract, call by call. Rests on Layers of `layers`, on Cases and on
 -- After of `meaning`.
 use Prim.Native.Nat.{ℕ, suc}
 use native.Mathlib.Omega.{arith}
@@ -18,7 +18,8 @@ use Rattle.meaning.specs.Contract as contract
 use Rattle.meaning.proofs.After.{lock-leaves-open, write-lacks-a-row}
 use Rattle.tables.specs.Words.{Lent, lent, decode, soundWords}
 use Rattle.layers.specs.Programs.{Program, answer}
-use Rattle.layers.proofs.Layers.{Did, layer-did, did-answer, did-ask, did-look}
+use Rattle.layers.specs.Layers as layers
+use Rattle.layers.proofs.Layers.{of-answer, of-ask, of-look}
 use Rattle.desk.specs.Replies.{opened, declined, told, emptied, After, says}
 use Rattle.desk.specs.Cases.{onEdit, endsEdit}
 use Rattle.desk.specs.Desk.{ended, closed, between, within, goodStart, starting, begin, refuseStart}
@@ -31,7 +32,7 @@ use Rattle.desk.proofs.Cases as cases
 use Rattle.desk.proofs.Cases.{EditOr, edited, edit-or, LockedOr, taken, locked-or, ReadOr, new, read-or}
 
 abbrev Done : {A : Type 0} → Program A → Lent → Lent → A → Type 0
-Done p w w′ a = Did Lent decode soundWords p w w′ a
+Done p w w′ a = layers.Layer Lent decode soundWords p w w′ a
 
 abbrev DoesCall : Call → Lent → Lent → Reply → Type 0
 DoesCall c w w′ q = contract.Does Lent decode soundWords (act c) w w′ q
@@ -61,7 +62,7 @@ module _ (s s′ : Session) (n : ℕ) (more : List ℕ) (w₁ w′ : Lent) where
   -- an answer that passes the reply on
   answered : (q : Reply) → Refused (answer (says s q)) → (refused q ≡ true) × Kept
   answered q d =
-      let a = did-answer Lent decode soundWords d in
+      let a = of-answer Lent decode soundWords (d .follows) in
       let p = passed-on (a .1) in
       (ap refused (p .0), (a .0, p .1))
 
@@ -70,7 +71,7 @@ module _ (s s′ : Session) (n : ℕ) (more : List ℕ) (w₁ w′ : Lent) where
   over-or p {A} k f d = go (ended s) d
     where
       go : (b : Bool) → Refused (cond b (refuseEnded s) p) → A
-      go true e = let l = did-look Lent decode soundWords e in k (answered (endedReply (l .0)) (l .1) .1)
+      go true e = let l = of-look Lent decode soundWords (e .follows) in k (answered (endedReply (l .0)) (l .2) .1)
       go false e = f e
 
   -- a shrunk interval is no refusal
@@ -79,13 +80,13 @@ module _ (s s′ : Session) (n : ℕ) (more : List ℕ) (w₁ w′ : Lent) where
     where
       go : (b : Bool) → Refused (cond b (empty s) (answer (says next q))) → ⊥
       go true e =
-          let l = did-ask Lent decode soundWords e in
-          let a = did-answer Lent decode soundWords (l .3) in
+          let l = of-ask Lent decode soundWords (e .follows) in
+          let a = of-answer Lent decode soundWords (l .3 .follows) in
           let r : emptied ≡ told (refusing n more) = ap (λ (x : After). x .report) (a .1) in
           let z : _≡_ {A = ℕ} 0 1 = cc in
           omega arith
       go false e =
-          let p = passed-on (did-answer Lent decode soundWords e .1) in
+          let p = passed-on (of-answer Lent decode soundWords (e .follows) .1) in
           true-not-false (sym (ap refused (p .0)) ∙ m)
 
   read-kept : {q : Reply} → ReadOr q → Refused (onceRead s q) → (refused q ≡ true) × Kept
@@ -94,7 +95,7 @@ module _ (s s′ : Session) (n : ℕ) (more : List ℕ) (w₁ w′ : Lent) where
 
   commit-kept : (q : Reply) → Refused (answer (says (cond (endsEdit q) (closed s) s) q)) → (refused q ≡ true) × Kept
   commit-kept q d =
-      let a = did-answer Lent decode soundWords d in
+      let a = of-answer Lent decode soundWords (d .follows) in
       let p = passed-on (a .1) in
       let f : q ≡ refusing n more = p .0 in
       (ap refused f, (a .0, rw f at (p .1)))
@@ -102,7 +103,7 @@ module _ (s s′ : Session) (n : ℕ) (more : List ℕ) (w₁ w′ : Lent) where
 pub open-refusal-keeps : OpenRefusalKeeps
 unfolding deskOpen
 open-refusal-keeps t width latest w w′ n more l =
-    go (goodStart t width) (layer-did Lent decode soundWords l)
+    go (goodStart t width) l
   where
     refusal : {q : Reply} → EditOr q
         → onEdit q (declined q) (λ h. opened (starting t width latest h)) ≡ declined (refusing n more)
@@ -117,30 +118,30 @@ open-refusal-keeps t width latest w w′ n more l =
         → Done (cond b (begin t width latest) refuseStart) (lent w) (lent w′) (declined (refusing n more))
         → lent w′ ≡ lent w
     go true d =
-        let x = did-ask Lent decode soundWords d in
-        let a = did-answer Lent decode soundWords (x .3) in
+        let x = of-ask Lent decode soundWords (d .follows) in
+        let a = of-answer Lent decode soundWords (x .3 .follows) in
         a .0 ∙ x .2 .unchanged (refusal (edit-or (x .0)) (a .1))
     go false d =
-        let x = did-look Lent decode soundWords d in
-        did-answer Lent decode soundWords (x .1) .0
+        let x = of-look Lent decode soundWords (d .follows) in
+        of-answer Lent decode soundWords (x .2 .follows) .0
 
 pub read-refusal-keeps : ReadRefusalKeeps
 unfolding deskRead
 read-refusal-keeps s s′ rec w w′ n more l =
     over-or s s′ n more (lent w) (lent w′) _ (λ k. k)
     (λ d.
-    let x = did-ask Lent decode soundWords d in
+    let x = of-ask Lent decode soundWords (d .follows) in
     let k = read-kept s s′ n more (x .1) (lent w′) (read-or (x .0)) (x .3) in
-    (k .1 .0 ∙ x .2 .unchanged (k .0), k .1 .1)) (layer-did Lent decode soundWords l)
+    (k .1 .0 ∙ x .2 .unchanged (k .0), k .1 .1)) l
 
 pub commit-refusal-keeps : CommitRefusalKeeps
 unfolding deskCommit
 commit-refusal-keeps s s′ w w′ n more l =
     over-or s s′ n more (lent w) (lent w′) _ (λ k. k)
     (λ d.
-    let x = did-ask Lent decode soundWords d in
+    let x = of-ask Lent decode soundWords (d .follows) in
     let k = commit-kept s s′ n more (x .1) (lent w′) (x .0) (x .3) in
-    (k .1 .0 ∙ x .2 .unchanged (k .0), k .1 .1)) (layer-did Lent decode soundWords l)
+    (k .1 .0 ∙ x .2 .unchanged (k .0), k .1 .1)) l
 
 -- a write: refused before its lock was granted, or after
 module _ (s s′ : Session) (rec : ℕ) (v : Val) (w w′ : List ℕ) (n : ℕ) (more : List ℕ) where
@@ -175,8 +176,8 @@ module _ (s s′ : Session) (rec : ℕ) (v : Val) (w w′ : List ℕ) (n : ℕ) 
       → Done (onceLocked s rec v q) x (lent w′) (says s′ (refusing n more))
       → KeptOr
   lock-kept (taken low high) x d f =
-      let l = did-ask Lent decode soundWords f in
-      let a = did-answer Lent decode soundWords (l .3) in
+      let l = of-ask Lent decode soundWords (f .follows) in
+      let a = of-answer Lent decode soundWords (l .3 .follows) in
       let p = passed-on (a .1) in
       inr (lock-remains x low high d (p .1) (moved writes (a .0) (p .0) (l .2)))
   lock-kept (cases.passed {q} e) x d f =
@@ -188,5 +189,5 @@ unfolding deskWrite
 write-refusal-keeps s s′ rec v w w′ n more l =
     over-or s s′ n more (lent w) (lent w′) _ inl
     (λ d.
-    let x = did-ask Lent decode soundWords d in
-    lock-kept s s′ rec v w w′ n more (locked-or (x .0)) (x .1) (x .2) (x .3)) (layer-did Lent decode soundWords l)
+    let x = of-ask Lent decode soundWords (d .follows) in
+    lock-kept s s′ rec v w w′ n more (locked-or (x .0)) (x .1) (x .2) (x .3)) l

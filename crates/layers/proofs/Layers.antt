@@ -1,5 +1,5 @@
--- What follows a program call by call has the contract of a layer, and a list of calls of the store and of layers is a
--- list of calls of the store. Rests on the contract records, and on Contracts of `history`.
+-- The contract of a layer step by step, from what follows a program and back, and that a list of calls of the store
+-- and of layers is a list of calls of the store. Rests on the contract records, and on Contracts of `history`.
 use mathlib.Core.Path.{_≡_, refl, ap, _∙_}
 use mathlib.Core.Bool.{Bool, true}
 use mathlib.Core.List.{List, [], _∷_, _++_}
@@ -14,28 +14,29 @@ use Rattle.meaning.proofs.Lists.{not-both}
 use Rattle.history.specs.Words.{Calls, done, then}
 use Rattle.history.proofs.Contracts.{does-act}
 use Rattle.layers.specs.Programs as P
-use Rattle.layers.specs.Programs.{Program, Look, shown, play, denied, Plays}
-use Rattle.layers.specs.Layers.{Layer, EveryProgramIsALayer, Steps, none, call, layer}
+use Rattle.layers.specs.Programs.{Program, Look, shown, play, denied}
+use Rattle.layers.specs.Layers.{Follows, ends, asks, looks, Layer, EveryProgramIsALayer, Steps, none, call, layer}
 
 module _ (Lent : Type 0) (decode : Lent → Store) (soundLent : Lent → Bool) where
-  -- a program followed call by call: what a proof of a layer's function builds
-  pub data Follows {A : Type 0} : Program A → Lent → Lent → A → Type 0 where
-    ends : {w : Lent} {a : A} → Follows (P.answer a) w w a
-    asks : {w w₁ w₂ : Lent} {c : Call} {f : Reply → Program A} {q : Reply} {a : A}
-        → Does Lent decode soundLent (act c) w w₁ q
-        → Follows (f q) w₁ w₂ a
-        → Follows (P.ask c f) w w₂ a
-    looks : {w w₂ : Lent} {l : Look} {f : Reply → Program A} {q : Reply} {a : A}
-        → Shows Lent decode soundLent (shown l) w q
-        → Follows (f q) w w₂ a
-        → Follows (P.look l f) w w₂ a
+  -- The contract of an answer, and of a call or a look in front of what follows it.
+  pub by-answer : {A : Type 0} {w : Lent} {a : A} → Layer Lent decode soundLent (P.answer a) w w a
+  unfolding play denied
+  by-answer =
+      record {
+        unsound = λ u. (refl, refl);
+        told = λ s. refl;
+        store = λ s. refl;
+        stays = λ s. s;
+        calls = [];
+        replies = [];
+        follows = ends;
+      }
 
-  -- a call in front of what follows it
-  asked : {A : Type 0} {w w₁ w₂ : Lent} {c : Call} {f : Reply → Program A} {q : Reply} {a : A}
+  pub by-ask : {A : Type 0} {w w₁ w₂ : Lent} {c : Call} {f : Reply → Program A} {q : Reply} {a : A}
       → Does Lent decode soundLent (act c) w w₁ q → Layer Lent decode soundLent (f q) w₁ w₂ a
       → Layer Lent decode soundLent (P.ask c f) w w₂ a
   unfolding play denied
-  asked {A} {w} {w₁} {w₂} {c} {f} {q} {a} d l =
+  by-ask {A} {w} {w₁} {w₂} {c} {f} {q} {a} d l =
       record {
         unsound = λ u.
             let e : q ≡ refusing 1 [] = d .unsound u in
@@ -53,15 +54,14 @@ module _ (Lent : Type 0) (decode : Lent → Store) (soundLent : Lent → Bool) w
         stays = λ s. l .stays (d .stays s);
         calls = c ∷ l .calls;
         replies = q ∷ l .replies;
-        plays = P.asks (l .plays);
-        made = then d (l .made);
+        follows = asks d (l .follows);
       }
 
-  looked : {A : Type 0} {w w₂ : Lent} {k : Look} {f : Reply → Program A} {q : Reply} {a : A}
+  pub by-look : {A : Type 0} {w w₂ : Lent} {k : Look} {f : Reply → Program A} {q : Reply} {a : A}
       → Shows Lent decode soundLent (shown k) w q → Layer Lent decode soundLent (f q) w w₂ a
       → Layer Lent decode soundLent (P.look k f) w w₂ a
   unfolding play denied
-  looked {A} {w} {w₂} {k} {f} {q} {a} d l =
+  by-look {A} {w} {w₂} {k} {f} {q} {a} d l =
       record {
         unsound = λ u.
             let n = l .unsound u in
@@ -71,69 +71,59 @@ module _ (Lent : Type 0) (decode : Lent → Store) (soundLent : Lent → Bool) w
         stays = l .stays;
         calls = l .calls;
         replies = l .replies;
-        plays = P.looks q (l .plays);
-        made = l .made;
+        follows = looks d (l .follows);
       }
 
-  pub follows-layer : {A : Type 0} {p : Program A} {w w′ : Lent} {a : A} → Follows p w w′ a
+  -- what follows a program has its contract
+  pub follows-layer : {A : Type 0} {p : Program A} {w w′ : Lent} {cs : List Call} {qs : List Reply} {a : A}
+      → Follows Lent decode soundLent p w cs qs w′ a
       → Layer Lent decode soundLent p w w′ a
-  unfolding play denied
-  follows-layer ends =
-      record {
-        unsound = λ u. (refl, refl);
-        told = λ s. refl;
-        store = λ s. refl;
-        stays = λ s. s;
-        calls = [];
-        replies = [];
-        plays = P.ends;
-        made = done;
-      }
-  follows-layer (asks d r) = asked d (follows-layer r)
-  follows-layer (looks d r) = looked d (follows-layer r)
+  follows-layer ends = by-answer
+  follows-layer (asks d r) = by-ask d (follows-layer r)
+  follows-layer (looks d r) = by-look d (follows-layer r)
 
-  append : {u v w : Lent} {cs ds : List Call} {qs rs : List Reply} → Calls Lent decode soundLent u cs qs v
-      → Calls Lent decode soundLent v ds rs w → Calls Lent decode soundLent u (cs ++ ds) (qs ++ rs) w
-  append done b = b
-  append (then d a) b = then d (append a b)
+  -- And back, step by step: what a law about a program goes by.
+  pub of-answer : {A : Type 0} {a b : A} {w w′ : Lent} {cs : List Call} {qs : List Reply}
+      → Follows Lent decode soundLent (P.answer a) w cs qs w′ b
+      → (w′ ≡ w) × (a ≡ b)
+  of-answer ends = (refl, refl)
+
+  pub of-ask : {A : Type 0} {c : Call} {f : Reply → Program A} {w w′ : Lent} {cs : List Call} {qs : List Reply} {b : A}
+      → Follows Lent decode soundLent (P.ask c f) w cs qs w′ b
+      → (q : Reply) × (w₁ : Lent) × Does Lent decode soundLent (act c) w w₁ q
+      × Layer Lent decode soundLent (f q) w₁ w′ b
+  of-ask (asks {w₁ = v} {q = q} d r) = (q, v, d, follows-layer r)
+
+  pub of-look : {A : Type 0} {k : Look} {f : Reply → Program A} {w w′ : Lent} {cs : List Call} {qs : List Reply} {b : A}
+      → Follows Lent decode soundLent (P.look k f) w cs qs w′ b
+      → (q : Reply) × Shows Lent decode soundLent (shown k) w q × Layer Lent decode soundLent (f q) w w′ b
+  of-look (looks {q = q} d r) = (q, d, follows-layer r)
+
+  -- the calls made in front of further ones
+  onward : {A : Type 0} {p : Program A} {w w₁ w₂ : Lent} {cs ds : List Call} {qs rs : List Reply} {a : A}
+      → Follows Lent decode soundLent p w cs qs w₁ a → Calls Lent decode soundLent w₁ ds rs w₂
+      → Calls Lent decode soundLent w (cs ++ ds) (qs ++ rs) w₂
+  onward ends b = b
+  onward (asks d r) b = then d (onward r b)
+  onward (looks d r) b = onward r b
 
   pub steps-are-calls : {w w′ : Lent} {cs : List Call} {qs : List Reply} → Steps Lent decode soundLent w cs qs w′
       → Calls Lent decode soundLent w cs qs w′
   steps-are-calls none = done
   steps-are-calls (call d r) = then d (steps-are-calls r)
-  steps-are-calls (layer l r) = append (l .made) (steps-are-calls r)
-
-  -- a layer's calls one by one, from its list: what a law about a program goes by
-  pub data Did {A : Type 0} : Program A → Lent → Lent → A → Type 0 where
-    did : {p : Program A} {w w′ : Lent} {a : A} {cs : List Call} {qs : List Reply} → Plays p cs qs a
-        → Calls Lent decode soundLent w cs qs w′
-        → Did p w w′ a
-
-  pub layer-did : {A : Type 0} {p : Program A} {w w′ : Lent} {a : A} → Layer Lent decode soundLent p w w′ a
-      → Did p w w′ a
-  layer-did l = did (l .plays) (l .made)
-
-  pub did-answer : {A : Type 0} {a b : A} {w w′ : Lent} → Did (P.answer a) w w′ b → (w′ ≡ w) × (a ≡ b)
-  did-answer (did P.ends done) = (refl, refl)
-
-  pub did-ask : {A : Type 0} {c : Call} {f : Reply → Program A} {w w′ : Lent} {b : A} → Did (P.ask c f) w w′ b
-      → (q : Reply) × (w₁ : Lent) × Does Lent decode soundLent (act c) w w₁ q × Did (f q) w₁ w′ b
-  did-ask (did (P.asks r) (then {w₁ = v} {q = q} d m)) = (q, v, d, did r m)
-
-  pub did-look : {A : Type 0} {k : Look} {f : Reply → Program A} {w w′ : Lent} {b : A} → Did (P.look k f) w w′ b
-      → (q : Reply) × Did (f q) w w′ b
-  did-look (did (P.looks q r) m) = (q, did r m)
+  steps-are-calls (layer l r) = onward (l .follows) (steps-are-calls r)
 
 -- the abstract store keeps the contract of every program
-follows-itself : {A : Type 0} (p : Program A) (s : Store) → soundStore s ≡ true
-    → Follows Store (λ t. t) soundStore p s (play p s .store) (play p s .told)
-unfolding play
-follows-itself (P.answer a) s h = ends
-follows-itself (P.ask c f) s h =
-    asks (does-act c s h) (follows-itself (f (act c s .reply)) (act c s .store) (calls-keep-sound c s h))
-follows-itself (P.look l f) s h =
-    looks (record { unsound = λ u. absurd (not-both h u); reply = λ k. refl })
-    (follows-itself (f (shown l s .reply)) s h)
-
 pub every-program-is-a-layer : EveryProgramIsALayer
-every-program-is-a-layer A p s h = follows-layer Store (λ t. t) soundStore (follows-itself p s h)
+unfolding play
+every-program-is-a-layer A p s h = go p s h
+  where
+    go : (p : Program A) (s : Store) → soundStore s ≡ true
+        → Layer Store (λ t. t) soundStore p s (play p s .store) (play p s .told)
+    go (P.answer a) s h = by-answer Store (λ t. t) soundStore
+    go (P.ask c f) s h =
+        by-ask Store (λ t. t) soundStore (does-act c s h)
+        (go (f (act c s .reply)) (act c s .store) (calls-keep-sound c s h))
+    go (P.look l f) s h =
+        by-look Store (λ t. t) soundStore (record { unsound = λ u. absurd (not-both h u); reply = λ k. refl })
+        (go (f (shown l s .reply)) s h)

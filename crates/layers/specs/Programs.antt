@@ -1,8 +1,7 @@
 -- A layer above the store as a program: it answers, or makes a call of the store, or looks, and goes on by the reply.
--- What it comes to on every store follows from that, and so do the calls that it makes. Rests on Calls of `meaning` and
--- Promises of `store`.
+-- What it comes to on every store follows from that. Rests on Calls of `meaning` and Promises of `store`.
 use Prim.Native.Nat.{ℕ}
-use mathlib.Core.List.{List, [], _∷_}
+use mathlib.Core.List.{[]}
 use Rattle.types.specs.Replies.{Reply, refusing}
 use Rattle.types.specs.declared.Call.{Call}
 use Rattle.meaning.specs.Store.{Store}
@@ -42,13 +41,3 @@ unfoldable pub denied : {A : Type 0} → Program A → A
 denied (answer a) = a
 denied (ask c f) = denied (f (refusing 1 []))
 denied (look l f) = denied (f (refusing 1 []))
-
--- the calls that it makes, if these are their replies, and its answer then
-pub data Plays {A : Type 0} : Program A → List Call → List Reply → A → Type 0 where
-  ends : {a : A} → Plays (answer a) [] [] a
-  asks : {c : Call} {f : Reply → Program A} {q : Reply} {cs : List Call} {qs : List Reply} {a : A}
-      → Plays (f q) cs qs a
-      → Plays (ask c f) (c ∷ cs) (q ∷ qs) a
-  looks : {l : Look} {f : Reply → Program A} {cs : List Call} {qs : List Reply} {a : A} (q : Reply)
-      → Plays (f q) cs qs a
-      → Plays (look l f) cs qs a
