@@ -8,4 +8,5 @@ pub mod Cases
 pub mod Refusals
 pub mod Intervals
 pub mod Laws
+pub mod Made
 pub mod Examples

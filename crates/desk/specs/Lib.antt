@@ -3,4 +3,5 @@ pub mod Replies
 pub mod Cases
 pub mod Desk
 pub mod Laws
+pub mod Made
 pub mod Examples

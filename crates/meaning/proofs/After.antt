@@ -4,6 +4,7 @@ use native.Mathlib.Omega.{arith}
 use native.Mathlib.Decide.{decLe}
 use mathlib.Core.Path.{_≡_, refl, sym, ap, _∙_}
 use mathlib.Core.Bool.{Bool, true, false, cond, _&&_}
+use mathlib.Core.Logic.{_⊎_, inl, inr}
 use mathlib.Core.List.{List}
 use lib.Dec.{leb}
 use lib.ListN.{length, length-set}
@@ -27,7 +28,7 @@ use Rattle.meaning.specs.Ending.{aborting, abortChecks, aborted, settled
 use Rattle.meaning.specs.Ending.{committing, commitChecks, commitOpen, commitVerdict, noCommon}
 use Rattle.meaning.specs.Points.{firstBlocked}
 use Rattle.meaning.specs.After.{OpenEdit, LockLeavesOpen, LockIsInside, WriteLacksARow, ReadLeavesOpen}
-use Rattle.meaning.specs.After.{AbortEnds, CommitsWhereNamed}
+use Rattle.meaning.specs.After.{AbortEnds, CommitsWhereNamed, LockGrantsOrRefuses}
 use Rattle.meaning.proofs.Lists.{and-in, and-left}
 use Rattle.meaning.proofs.Points.{lock-takes-run}
 use Rattle.meaning.proofs.Granted.{lock-taken}
@@ -51,6 +52,18 @@ write-lacks-a-row s h r v n more i c e =
     go false f = cc
 
 -- Lock
+pub lock-grants-or-refuses : LockGrantsOrRefuses
+unfolding locking lockWanted
+lock-grants-or-refuses s h r low high w =
+    go (lockChecks s h r low high) (lockVerdict s (slotOf h) r low high w) _ _ _
+  where
+    go : (c v : Verdict) (t : Store) (a b : ℕ)
+        → ((n : ℕ) × (more : List ℕ) × (unless s c (unless s v (replies t (locked a b))) .reply ≡ refusing n more))
+        ⊎ ((x : ℕ) × (y : ℕ) × (unless s c (unless s v (replies t (locked a b))) .reply ≡ locked x y))
+    go pass pass t a b = inr (a, b, refl)
+    go pass (refuse n more) t a b = inl (n, more, refl)
+    go (refuse n more) v t a b = inl (n, more, refl)
+
 module _ (s : Store) (h r low high : ℕ) (w : Extent) (a b : ℕ) (e : locking h r low high w s .reply ≡ locked a b) where
   checks : lockChecks s h r low high ≡ pass
   unfolding locking

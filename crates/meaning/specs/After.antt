@@ -3,6 +3,7 @@
 use Prim.Native.Nat.{ℕ, _≤_}
 use mathlib.Core.Path.{_≡_}
 use mathlib.Core.Bool.{true, false}
+use mathlib.Core.Logic.{_⊎_}
 use mathlib.Core.List.{List}
 use Rattle.types.specs.Values.{Val}
 use Rattle.types.specs.Replies.{ok, locked, read, commit, refusing}
@@ -29,6 +30,12 @@ abbrev pub LockLeavesOpen : Type 0
 LockLeavesOpen = (s : Store) (h r low high : ℕ) (w : Extent) (a b : ℕ)
     → locking h r low high w s .reply ≡ locked a b
     → OpenEdit (locking h r low high w s .store) h × (hasRecord (locking h r low high w s .store) r ≡ true)
+
+-- a Lock is granted or refused: it has no other reply
+abbrev pub LockGrantsOrRefuses : Type 0
+LockGrantsOrRefuses = (s : Store) (h r low high : ℕ) (w : Extent)
+    → ((n : ℕ) × (more : List ℕ) × (locking h r low high w s .reply ≡ refusing n more))
+    ⊎ ((a : ℕ) × (b : ℕ) × (locking h r low high w s .reply ≡ locked a b))
 
 -- what was locked lies within what was asked for, and is never nothing
 abbrev pub LockIsInside : Type 0
