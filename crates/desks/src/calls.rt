@@ -1,6 +1,7 @@
 // A call of the desk, or of the store, made and printed: what it told, the interval left after it and whether any word
 // of the store moved. Rests on `desk` and `store` and, for the text of calls and replies, on `lines`, `rendering` and
-// `printing`.
+// `console`.
+use console::print_line;
 use desk::CommitStep;
 use desk::OpenReply;
 use desk::ReadReport;
@@ -17,25 +18,7 @@ pub const WORDS: usize = 118;
 // The highest number that a word holds.
 pub const HIGHEST: u64 = 18446744073709551615;
 
-// The text of lines and intervals.
-
-// The first n bytes.
-fn print_bytes(out: &[u8], n: usize) {
-    if n <= printing::WIDTH {
-        let k = io::count(n as isize, out);
-        io::write_all(1, &out[..k]);
-    }
-}
-
-fn print_out(out: &[u8; printing::WIDTH], n: usize) {
-    print_bytes(out, n);
-}
-
-fn print_line(l: Line) {
-    let mut out = [0u8; printing::WIDTH];
-    let n = printing::print(l, &mut out);
-    print_out(&out, n);
-}
+// The text of intervals.
 
 // The interval; the session has ended if it is empty.
 fn print_interval(s: Session) {
@@ -72,52 +55,9 @@ fn print_session(s: Session, after: Session) {
     print_changed(s, after);
 }
 
-// Whether a word of the store moved, with no loop, which would need a proof of its own.
-
-// Whether word i of b differs from that of a, or one before it did.
-fn differs(a: &[u64; WORDS], b: &[u64; WORDS], i: usize, before: bool) -> bool {
-    if i < WORDS {
-        if a[i] != b[i] {
-            return true;
-        }
-    }
-    before
-}
-
-// The same for the ten words from i on.
-fn ten_differ(a: &[u64; WORDS], b: &[u64; WORDS], i: usize, before: bool) -> bool {
-    if WORDS < i {
-        return before;
-    }
-    let d = differs(a, b, i, before);
-    let d = differs(a, b, i + 1, d);
-    let d = differs(a, b, i + 2, d);
-    let d = differs(a, b, i + 3, d);
-    let d = differs(a, b, i + 4, d);
-    let d = differs(a, b, i + 5, d);
-    let d = differs(a, b, i + 6, d);
-    let d = differs(a, b, i + 7, d);
-    let d = differs(a, b, i + 8, d);
-    differs(a, b, i + 9, d)
-}
-
-fn moved(a: &[u64; WORDS], b: &[u64; WORDS]) -> bool {
-    let d = ten_differ(a, b, 0, false);
-    let d = ten_differ(a, b, 10, d);
-    let d = ten_differ(a, b, 20, d);
-    let d = ten_differ(a, b, 30, d);
-    let d = ten_differ(a, b, 40, d);
-    let d = ten_differ(a, b, 50, d);
-    let d = ten_differ(a, b, 60, d);
-    let d = ten_differ(a, b, 70, d);
-    let d = ten_differ(a, b, 80, d);
-    let d = ten_differ(a, b, 90, d);
-    let d = ten_differ(a, b, 100, d);
-    ten_differ(a, b, 110, d)
-}
-
+// Whether a word of the store moved.
 fn print_moved(a: &[u64; WORDS], b: &[u64; WORDS]) {
-    if moved(a, b) {
+    if console::moved(a, b) {
         io::write_all(1, b"; words moved\n");
     } else {
         io::write_all(1, b"; no word moved\n");

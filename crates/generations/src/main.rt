@@ -1,6 +1,7 @@
 // Starts from a sound store whose slot 1 has generation 65,535 and an open edit, and shows the wrap: after 65,535 comes
 // 0. Every call that takes a handle refuses one of another generation with 2, and after 65,536 begins in the slot the
 // stale handle is good again. Rests on `store`, and on `lines` for the text of calls and replies.
+use console::print_line;
 use fields::Parsed;
 use replies::Line;
 use types::BeginReply;
@@ -12,24 +13,6 @@ const SLOT_1: usize = tables::HEADER + 2 * tables::RECORD;
 
 fn performed(words: &mut [u64; 118], call: Call) -> Line {
     rendering::line_of_answer(store::perform(words, call))
-}
-
-// The first n bytes.
-fn print_bytes(out: &[u8], n: usize) {
-    if n <= printing::WIDTH {
-        let k = io::count(n as isize, out);
-        io::write_all(1, &out[..k]);
-    }
-}
-
-fn print_out(out: &[u8; printing::WIDTH], n: usize) {
-    print_bytes(out, n);
-}
-
-fn print_line(l: Line) {
-    let mut out = [0u8; printing::WIDTH];
-    let n = printing::print(l, &mut out);
-    print_out(&out, n);
 }
 
 fn step(words: &mut [u64; 118], line: &[u8]) {

@@ -2,6 +2,7 @@
 // chain run in a circle, and on the empty slice, and prints each reply and whether any word moved. A store
 // that is not sound must reply `no 1` and keep every word; on the sound one each call has another reply, so that the
 // lines can differ. Rests on `store` and, for the text of calls and replies, on `lines`.
+use console::print_line;
 use fields::Parsed;
 use replies::Line;
 use types::Call;
@@ -56,47 +57,8 @@ fn performed(words: &mut [u64], call: Call) -> Line {
     rendering::line_of_answer(store::perform(words, call))
 }
 
-// The first n bytes.
-fn print_bytes(out: &[u8], n: usize) {
-    if n <= printing::WIDTH {
-        let k = io::count(n as isize, out);
-        io::write_all(1, &out[..k]);
-    }
-}
-
-fn print_out(out: &[u8; printing::WIDTH], n: usize) {
-    print_bytes(out, n);
-}
-
-fn print_line(l: Line) {
-    let mut out = [0u8; printing::WIDTH];
-    let n = printing::print(l, &mut out);
-    print_out(&out, n);
-}
-
-// Whether word i of b differs from that of a, or one before it did.
-fn differs(a: &[u64; 122], b: &[u64; 122], i: usize, before: bool) -> bool {
-    if i < 122 {
-        if a[i] != b[i] {
-            return true;
-        }
-    }
-    before
-}
-
-// Whether any word differs.
-fn moved(a: &[u64; 122], b: &[u64; 122]) -> bool {
-    let mut found = false;
-    let mut i = 0;
-    while i < WORDS {
-        found = differs(a, b, i, found);
-        i += 1;
-    }
-    found
-}
-
 fn print_moved(a: &[u64; 122], b: &[u64; 122]) {
-    if moved(a, b) {
+    if console::moved(a, b) {
         io::write_all(1, b", words moved");
     } else {
         io::write_all(1, b", no word moved");
