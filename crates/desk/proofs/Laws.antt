@@ -12,7 +12,7 @@ use lib.ListN.{length}
 use borrow.Author.Tests.{le-leb, lt-leb, ltb-false}
 use Rattle.types.specs.Limits.{LAST}
 use Rattle.types.specs.Values.{Val}
-use Rattle.types.specs.Replies.{Reply, ok, edit, read, own, again, commit, nopoint, refusing}
+use Rattle.types.specs.Replies.{Reply, ok, edit, read, own, again, commit, nopoint, refusing, refused}
 use Rattle.types.specs.declared.Value.{Value}
 use Rattle.types.specs.declared.Extent.the-variants.{Part}
 use Rattle.types.specs.declared.Finish.the-variants.{Settle}
@@ -24,7 +24,7 @@ use Rattle.meaning.specs.Locking.{locking, reading}
 use Rattle.meaning.specs.Ending.{committing, aborting}
 use Rattle.meaning.specs.Records.{viewing, viewChecks}
 use Rattle.meaning.specs.Calls.{act}
-use Rattle.meaning.proofs.After.{lock-is-inside, read-leaves-open, abort-ends, commits-where-named}
+use Rattle.meaning.proofs.After.{lock-is-inside, read-leaves-open, abort-ends, commit-ends, commits-where-named}
 use Rattle.store.specs.Promises.{mayBegin}
 use Rattle.layers.specs.Programs.{Program, Played, answer, play, denied}
 use Rattle.desk.specs.Replies.{declined, told, emptied, After, says}
@@ -37,7 +37,7 @@ use Rattle.desk.specs.Laws.{Same, OnlyTheInterval, UnsoundSaysOne, Unsou
 use Rattle.desk.specs.Laws.{RefusalIsPassedOn, GoodStartIs, BadStart, BadStartOrder, GoodStartOpens, ReadShrinks}
 use Rattle.desk.specs.Laws.{OwnAndAgainLeave, Aborted}
 use Rattle.desk.specs.Laws.{EmptiedIsAborted, Inside, WriteShrinks, WriteStores, CommitsAt, CommitNames}
-use Rattle.desk.specs.Laws.{NoPointEnds}
+use Rattle.desk.specs.Laws.{CommitSettles}
 use Rattle.desk.specs.declared.Session.{Session}
 use Rattle.desk.proofs.Cases as cases
 use Rattle.desk.proofs.Cases.{LockedOr, taken, locked-or, ReadOr, new, read-or}
@@ -67,6 +67,10 @@ module _ (s : Session) (t : Store) (m : ended s ≡ false) where
   commit-plays : play (deskCommit s) t .told ≡ says (cond (endsEdit committed) (closed s) s) committed
   unfolding deskCommit play act
   commit-plays = rw m
+
+  commit-stores : play (deskCommit s) t .store ≡ committing (s .handle .0) (Named (named s)) Settle t .store
+  unfolding deskCommit play act
+  commit-stores = rw m
 
 -- Refusals of the desk itself.
 
@@ -291,21 +295,20 @@ write-stores s rec low high v t m e = rw (write-plays s t m rec v, e) (refl, ref
 
 -- Commit.
 
-names : (s : Session) (p : ℕ) (a : After) → ended s ≡ false → p ≡ named s .0 → a .session ≡ closed s → CommitsAt s p a
+names : (s : Session) (p : ℕ) → ended s ≡ false → p ≡ named s .0 → CommitsAt s p
 unfolding named ended
-names s p a m e g = go (s .latest) refl
+names s p m e = go (s .latest) refl
   where
     some : s .low .0 ≤ s .high .0
     some = ltb-false (s .high .0) (s .low .0) m
 
-    go : (b : Bool) → s .latest ≡ b → CommitsAt s p a
+    go : (b : Bool) → s .latest ≡ b → CommitsAt s p
     go true f =
         let x : p ≡ s .high .0 = rw f at e in
         record {
           point = record { from = omega (arith, some); upto = omega arith };
           earliest = λ k. true-not-false (sym f ∙ k);
           latest = λ k y h. let u = h .upto in omega arith;
-          over = rw g;
         }
     go false f =
         let x : p ≡ s .low .0 = rw f at e in
@@ -313,39 +316,46 @@ names s p a m e g = go (s .latest) refl
           point = record { from = omega arith; upto = omega (arith, some) };
           earliest = λ k y h. let u = h .from in omega arith;
           latest = λ k. true-not-false (sym k ∙ f);
-          over = rw g;
         }
 
--- a Commit that replied q, which ended the edit
-ends-session : (s : Session) (t : Store) (q : Reply) → endsEdit q ≡ true
-    → play (deskCommit s) t .told .report ≡ told q
-    → (m : ended s ≡ false) × (committed s t m ≡ q) × (play (deskCommit s) t .told .session ≡ closed s)
-ends-session s t q k e = go (ended s) refl
+-- a Commit that was not refused: the session had not ended, and the reply is the store's
+goes-on : (s : Session) (t : Store) (q : Reply) → refused q ≡ false → play (deskCommit s) t .told .report ≡ told q
+    → (m : ended s ≡ false) × (committed s t m ≡ q)
+goes-on s t q k e = go (ended s) refl
   where
     three-not : {A : Type 0} → told (refusing 3 []) ≡ told q → A
     three-not x =
         let y : refusing 3 [] ≡ q = cc in
-        true-not-false (sym k ∙ ap endsEdit (sym y))
+        true-not-false (ap refused y ∙ k)
 
-    go : (b : Bool) → ended s ≡ b
-        → (m : ended s ≡ false) × (committed s t m ≡ q) × (play (deskCommit s) t .told .session ≡ closed s)
+    go : (b : Bool) → ended s ≡ b → (m : ended s ≡ false) × (committed s t m ≡ q)
     go true f =
         three-not (sym (ap (λ (x : Played After). x .told .report) (ended-says-three D.commit s t f)) ∙ e)
     go false f =
-        let p = commit-plays s t f in
-        let x : told (committed s t f) ≡ told q = sym (ap (λ (y : After). y .report) p) ∙ e in
-        let y : committed s t f ≡ q = cc in
-        (f, y, ap (λ (z : After). z .session) p ∙ rw (y, k))
+        let x : told (committed s t f) ≡ told q = sym (ap (λ (y : After). y .report) (commit-plays s t f)) ∙ e in
+        (f, cc)
 
 pub commit-names : CommitNames
 commit-names s t p e =
-    let x = ends-session s t (commit p) refl e in
-    names s p (play (deskCommit s) t .told) (x .0)
-    (commits-where-named t (s .handle .0) (named s) Settle p (x .1)) (x .2)
+    let x = goes-on s t (commit p) refl e in
+    names s p (x .0) (commits-where-named t (s .handle .0) (named s) Settle p (x .1))
 
-pub no-point-ends : NoPointEnds
+-- a session whose Commit ended the edit
+closes : (s : Session) {q : Reply} → (q ≡ nopoint) ⊎ ((p : ℕ) × (q ≡ commit p))
+    → ended (cond (endsEdit q) (closed s) s) ≡ true
 unfolding ended
-no-point-ends s t e = rw (ends-session s t nopoint refl e .2)
+closes s (inl e) = rw e
+closes s (inr (p, e)) = rw e
+
+pub commit-settles : CommitSettles
+commit-settles s t q e k =
+    let x = goes-on s t q k e in
+    let c = commit-ends t (s .handle .0) (Named (named s)) (ap refused (x .1) ∙ k) in
+    record {
+      replied = rw (x .1) at (c .0);
+      over = rw (commit-plays s t (x .0)) (closes s (c .0));
+      unknown = rw (commit-stores s t (x .0)) (c .1);
+    }
 
 -- What a call leaves of a session.
 

@@ -7,7 +7,7 @@ use mathlib.Core.Bool.{Bool, true, false}
 use mathlib.Core.List.{List, []}
 use Rattle.types.specs.Limits.{LAST}
 use Rattle.types.specs.Values.{Val}
-use Rattle.types.specs.Replies.{Reply, ok, edit, locked, read, own, again, commit, nopoint, refusing}
+use Rattle.types.specs.Replies.{Reply, ok, edit, locked, read, own, again, commit, nopoint, refusing, refused}
 use Rattle.types.specs.declared.Extent.the-variants.{Part}
 use Rattle.types.specs.declared.Finish.the-variants.{Settle}
 use Rattle.types.specs.declared.Pick.the-variants.{Named}
@@ -203,18 +203,23 @@ WriteStores = (s : Session) (rec low high : ℕ) (v : Val) (t : Store) → ended
 
 -- Commit.
 
--- "Commit names the earliest or the latest point of the interval left, by a setting"; the session has ended then
-pub record CommitsAt (s : Session) (p : ℕ) (a : After) : Type 0 where
+-- "Commit names the earliest or the latest point of the interval left, by a setting"
+pub record CommitsAt (s : Session) (p : ℕ) : Type 0 where
   pub point : Has s p
   pub earliest : s .latest ≡ false → (x : ℕ) → Has s x → p ≤ x
   pub latest : s .latest ≡ true → (x : ℕ) → Has s x → x ≤ p
-  pub over : ended (a .session) ≡ true
 
 abbrev pub CommitNames : Type 0
 CommitNames = (s : Session) (t : Store) (p : ℕ) → play (deskCommit s) t .told .report ≡ told (commit p)
-    → CommitsAt s p (play (deskCommit s) t .told)
+    → CommitsAt s p
 
--- an edit that found no point has ended too
-abbrev pub NoPointEnds : Type 0
-NoPointEnds = (s : Session) (t : Store) → play (deskCommit s) t .told .report ≡ told nopoint
-    → ended (play (deskCommit s) t .told .session) ≡ true
+-- "and settles": unless it is refused, with a point or none, the session has ended and its handle names no edit
+pub record Settled (s : Session) (q : Reply) (o : Played After) : Type 0 where
+  pub replied : (q ≡ nopoint) ⊎ ((p : ℕ) × (q ≡ commit p))
+  pub over : ended (o .told .session) ≡ true
+  pub unknown : knows (o .store) (s .handle .0) ≡ false
+
+abbrev pub CommitSettles : Type 0
+CommitSettles = (s : Session) (t : Store) (q : Reply) → play (deskCommit s) t .told .report ≡ told q
+    → refused q ≡ false
+    → Settled s q (play (deskCommit s) t)

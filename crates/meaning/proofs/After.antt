@@ -28,7 +28,7 @@ use Rattle.meaning.specs.Ending.{aborting, abortChecks, aborted, settled
 use Rattle.meaning.specs.Ending.{committing, commitChecks, commitOpen, commitVerdict, noCommon}
 use Rattle.meaning.specs.Points.{firstBlocked}
 use Rattle.meaning.specs.After.{OpenEdit, LockLeavesOpen, LockIsInside, WriteLacksARow, ReadLeavesOpen}
-use Rattle.meaning.specs.After.{AbortEnds, CommitsWhereNamed, LockGrantsOrRefuses}
+use Rattle.meaning.specs.After.{AbortEnds, CommitEnds, CommitsWhereNamed, LockGrantsOrRefuses}
 use Rattle.meaning.proofs.Lists.{and-in, and-left}
 use Rattle.meaning.proofs.Points.{lock-takes-run}
 use Rattle.meaning.proofs.Granted.{lock-taken}
@@ -250,6 +250,31 @@ read-leaves-open s h r m w tr end v e =
     record { known = read-knows s h r m w tr end v e _ _; still = read-isOpen s h r m w tr end v e _ _ }
 
 -- Commit
+pub commit-ends : CommitEnds
+unfolding committing commitOpen
+commit-ends s h pick e =
+    go (commitChecks s h pick) (noCommon s (slotOf h)) (commitVerdict s (slotOf h) pick) _ e
+  where
+    k : ℕ
+    k = slotOf h
+
+    o : Verdict → Bool → Verdict → ℕ → Outcome
+    o c b v t =
+        unless s c
+        (cond b (replies (settled (aborted s k) k) nopoint)
+        (unless s v (replies (settled (committed s k t) k) (commit t))))
+
+    no : {A : Type 0} → true ≡ false → A
+    no x = let z : _≡_ {A = ℕ} 0 1 = cc in absurd (omega arith)
+
+    go : (c : Verdict) (b : Bool) (v : Verdict) (t : ℕ) → refused (o c b v t .reply) ≡ false
+        → ((o c b v t .reply ≡ nopoint) ⊎ ((x : ℕ) × (o c b v t .reply ≡ commit x)))
+        × (knows (o c b v t .store) h ≡ false)
+    go pass true v t x = (inl refl, settled-unknown (aborted s k) h)
+    go pass false pass t x = (inr (t, refl), settled-unknown (committed s k t) h)
+    go pass false (refuse n more) t x = no x
+    go (refuse n more) b v t x = no x
+
 pub commits-where-named : CommitsWhereNamed
 unfolding committing commitOpen
 commits-where-named s h p f t e =

@@ -6,10 +6,11 @@ use mathlib.Core.Bool.{true, false}
 use mathlib.Core.Logic.{_⊎_}
 use mathlib.Core.List.{List}
 use Rattle.types.specs.Values.{Val}
-use Rattle.types.specs.Replies.{ok, locked, read, commit, refusing}
+use Rattle.types.specs.Replies.{ok, locked, read, commit, nopoint, refusing, refused}
 use Rattle.types.specs.declared.Extent.{Extent}
 use Rattle.types.specs.declared.Finish.{Finish}
 use Rattle.types.specs.declared.Finish.the-variants.{Settle}
+use Rattle.types.specs.declared.Pick.{Pick}
 use Rattle.types.specs.declared.Pick.the-variants.{Named}
 use Rattle.types.specs.declared.Point.{Point}
 use Rattle.types.specs.declared.Value.{Value}
@@ -59,6 +60,12 @@ ReadLeavesOpen = (s : Store) (h r m : ℕ) (w : Extent) (tr end : ℕ) (v : Valu
 abbrev pub AbortEnds : Type 0
 AbortEnds = (s : Store) (h : ℕ) → OpenEdit s h
     → (aborting h Settle s .reply ≡ ok) × (knows (aborting h Settle s .store) h ≡ false)
+
+-- a Commit that is not refused, with S, finds a point or none; its handle then names no edit
+abbrev pub CommitEnds : Type 0
+CommitEnds = (s : Store) (h : ℕ) (pick : Pick) → refused (committing h pick Settle s .reply) ≡ false
+    → ((committing h pick Settle s .reply ≡ nopoint) ⊎ ((t : ℕ) × (committing h pick Settle s .reply ≡ commit t)))
+    × (knows (committing h pick Settle s .store) h ≡ false)
 
 -- a Commit at a named point is made there
 abbrev pub CommitsWhereNamed : Type 0
