@@ -58,7 +58,7 @@ use Rattle.desk.proofs.Numbers.{slots, stays, rows, spelled, told, vals
 use Rattle.desk.proofs.Numbers.{at-exit, over, over-small, over-flat, locals, copies, after, env, behind}
 use Rattle.desk.proofs.Numbers.{from-at, gone, allotted, passed, freed, handed}
 
-abbrev R : RattleType
+abbrev pub R : RattleType
 R = T.the-row
 
 -- ---- the signatures of a thin function of k numbers, and of the function by value that it calls
@@ -68,11 +68,11 @@ ended n params Q = record {
   kept = all yes params;
 }
 
-abbrev thin : ℕ → enum.Declared → Ended
+abbrev pub thin : ℕ → enum.Declared → Ended
 thin k Q =
     ended 2 (mutSliceOf (0 ∷ []) tt (plain (λ _. u64)) ∷ mutRefTo (1 ∷ []) tt (plain (λ _. R)) ∷ slots 2 k) (enum.row Q)
 
-abbrev by-value : ℕ → Declared → Ended
+abbrev pub by-value : ℕ → Declared → Ended
 by-value k S = ended 1 (mutSliceOf (0 ∷ []) tt (plain (λ _. u64)) ∷ plain (λ _. R) ∷ slots 1 k) (row S)
 
 -- at exit the slice is given up, and the session's borrow is still owned
@@ -81,18 +81,18 @@ stayed k Q = (gave-slice (0 ∷ []) tt (plain (λ _. u64)), (stay-ref (1 ∷ [])
 
 -- a contract that requires nothing, from what it ensures
 module _ {M : Type 1} (𝓤 : URA M) (F : Ended) where
-  abbrev Ensures : Type 2
+  abbrev pub Ensures : Type 2
   Ensures =
       (κs : Lfts (F .signature .lifetimes)) → Args (F .signature) κs → Res (F .signature) κs → AtExit F κs → SProp 𝓤
 
-  abbrev clauses : Ensures → Clauses 𝓤 F
+  abbrev pub clauses : Ensures → Clauses 𝓤 F
   clauses e κs a = record { ghost = Unit {0}; requires = λ _. emp 𝓤; ensures = λ _. e κs a }
 
-abbrev promise : {M : Type 1} (𝓤 : URA M) (H : Heap 𝓤) (A : Atoms 𝓤) (F : Ended) → Ensures 𝓤 F → Contract 𝓤
+abbrev pub promise : {M : Type 1} (𝓤 : URA M) (H : Heap 𝓤) (A : Atoms 𝓤) (F : Ended) → Ensures 𝓤 F → Contract 𝓤
 promise 𝓤 H A F e = tripleOf 𝓤 H A (F .signature) (closing 𝓤 H A F (clauses 𝓤 F e))
 
 -- ---- the MIR, over the types of the reply and of the step
-abbrev pointer : Lifetime → Ty
+abbrev pub pointer : Lifetime → Ty
 pointer ℓ = tyRef ℓ mut (tyInt w64)
 
 abbrev lent : Ty
@@ -128,15 +128,15 @@ front τ l₀ l₁ l₂ = (τ, l₀) ∷ (sliceTy (pointer (named 0)), l₁) ∷
 abbrev back : Ty → ℕ → ℕ → ℕ → ℕ → List (Ty × ℕ)
 back σ l₃ l₄ l₅ l₆ = (σ, l₃) ∷ (pointer erased, l₄) ∷ (sliceTy (pointer erased), l₅) ∷ (T′.mir, l₆) ∷ []
 
-abbrev sliceOf : RefT (List ℕ) → Val
+abbrev pub sliceOf : RefT (List ℕ) → Val
 sliceOf x = sliceVal (x .ptr) (length (x .now))
 
 -- ---- the step: a struct ν of a session and a reply
 module _ {D : Type 0} (ν : Sym) (Q : enum.Declared) (session : D → Session) (reply : D → Q .D) where
-  abbrev to-pair : D → Denots (rows-of (part T.the-type ∷ enum.field Q ∷ []))
+  abbrev pub to-pair : D → Denots (rows-of (part T.the-type ∷ enum.field Q ∷ []))
   to-pair r = (T.the-type .to (session r), (Q .to (reply r), tt))
 
-  abbrev step : ((x y : D) → to-pair x ≡ to-pair y → x ≡ y) → Declared
+  abbrev pub step : ((x y : D) → to-pair x ≡ to-pair y → x ≡ y) → Declared
   step one = record {
     name = ν;
     args = [];

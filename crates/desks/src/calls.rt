@@ -1,6 +1,6 @@
 // A call of the desk, or of the store, made and printed: what it told, the interval left after it and whether any word
-// of the store moved. Rests on `desk` and `store` and, for the text of calls and replies, on `lines`, `rendering` and
-// `console`.
+// of the store moved. `lending` lends the call its session. Rests on `desk` and `store` and, for the text of calls and
+// replies, on `lines`, `rendering` and `console`.
 use console::print_line;
 use desk::CommitStep;
 use desk::OpenReply;
@@ -179,7 +179,7 @@ pub fn open(words: &mut [u64; WORDS], t: u64, width: u64, latest: bool) -> Sessi
 pub fn read(words: &mut [u64; WORDS], s: Session, rec: u64) -> Session {
     print_read(s, rec);
     let before = *words;
-    let step = desk::read_with(words, s, rec);
+    let step = crate::lending::read(words, s, rec);
     let after = told_read(s, step);
     print_moved(&before, words);
     after
@@ -188,7 +188,7 @@ pub fn read(words: &mut [u64; WORDS], s: Session, rec: u64) -> Session {
 pub fn write(words: &mut [u64; WORDS], s: Session, rec: u64, value: u64) -> Session {
     print_write(s, rec, value);
     let before = *words;
-    let step = desk::write_with(words, s, rec, value);
+    let step = crate::lending::write(words, s, rec, value);
     let after = told_write(s, step);
     print_moved(&before, words);
     after
@@ -197,7 +197,7 @@ pub fn write(words: &mut [u64; WORDS], s: Session, rec: u64, value: u64) -> Sess
 pub fn commit(words: &mut [u64; WORDS], s: Session) -> Session {
     print_call(s, b" commit: ");
     let before = *words;
-    let step = desk::commit_with(words, s);
+    let step = crate::lending::commit(words, s);
     let after = told_commit(s, step);
     print_moved(&before, words);
     after

@@ -1,7 +1,8 @@
 // Shows every reply of the planning desk: each call is printed with what it told, the interval left after it and
 // whether any word of the store moved. Calls of the store itself stand between them as script lines. This file has the
-// scenes; `calls` makes a call and prints it. Rests on `desk`.
+// scenes; `calls` makes a call and prints it, `lending` lends it the session. Rests on `desk`.
 mod calls;
+mod lending;
 
 use calls::HIGHEST;
 use calls::WORDS;
@@ -428,7 +429,7 @@ fn open_empty(t: u64, width: u64, latest: bool) {
 fn read_empty(s: Session) {
     print_read(s, 0);
     let mut none = [0u64; 0];
-    let step = desk::read_with(&mut none, s, 0);
+    let step = lending::read(&mut none, s, 0);
     told_read(s, step);
     io::write_all(1, b"\n");
 }
@@ -436,7 +437,7 @@ fn read_empty(s: Session) {
 fn write_empty(s: Session) {
     print_write(s, 0, 7);
     let mut none = [0u64; 0];
-    let step = desk::write_with(&mut none, s, 0, 7);
+    let step = lending::write(&mut none, s, 0, 7);
     told_write(s, step);
     io::write_all(1, b"\n");
 }
@@ -444,7 +445,7 @@ fn write_empty(s: Session) {
 fn commit_empty(s: Session) {
     print_call(s, b" commit: ");
     let mut none = [0u64; 0];
-    let step = desk::commit_with(&mut none, s);
+    let step = lending::commit(&mut none, s);
     told_commit(s, step);
     io::write_all(1, b"\n");
 }
