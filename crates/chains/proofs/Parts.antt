@@ -1,5 +1,5 @@
--- The loops of the partition check: marking one chain, and one chain after the other within one budget of rows. Rests
--- on Words.
+-- The loops of the partition check: marking one chain, in steps that may stop anywhere and be taken up again, and one
+-- chain after the other within one budget of rows. Rests on Words.
 use Prim.Native.Nat.{ℕ, zero, suc, _+_, _-_, _≤_, _<_}
 use mathlib.Core.Path.{_≡_, refl, sym, ap, _∙_}
 use mathlib.Core.Logic.{_⊎_, inl, inr}
@@ -14,15 +14,18 @@ use lib.Dec.{eqb}
 use borrow.Author.Tests.{eq-eqb, ne-eqb}
 use Rattle.chains.specs.declared.Table.{Table}
 use Rattle.chains.specs.declared.Heads.{Heads}
+use Rattle.chains.specs.declared.Cursor.{Cursor}
 use Rattle.chains.specs.Lists.{occ, sumTo, allTo}
 use Rattle.chains.specs.Walk.{more, rows, ends}
-use Rattle.chains.specs.Table.{link, chain, ended, front, headOf, rowsOf, endedOf}
+use Rattle.chains.specs.Table.{Laid, link, chain, ended, front, headOf, rowsOf, endedOf}
 use Rattle.chains.specs.Partition.{MARKS, onChains, partition, Marks, Clear, Unmarked, MarkedChain}
+use Rattle.chains.specs.Partition.{CanCheck, CanMark, Advanced, freeStart, Begun}
 use Rattle.chains.proofs.Bounded.{bool-false, all-suc, all-at, sum-front, sum-full}
 use Rattle.chains.proofs.Occurs.{occ-nil, occ-same, occ-other, occ-here}
 use Rattle.chains.proofs.Walks.{more-out, step, stop, rows-length}
 use Rattle.chains.proofs.Segments.{seg-in, seg-rows, rows-seg}
 use Rattle.chains.proofs.Chains.{row-once, lengths-of, lengths}
+use Rattle.chains.proofs.Cells.{lies, heads-lie}
 use Rattle.chains.proofs.Words.{partition-in, ended-seg, rep-of}
 
 -- a new array has 0 everywhere
@@ -33,6 +36,9 @@ zeros (suc n) (suc i) = zeros n i
 
 pub clear-new : (n : ℕ) → n ≡ MARKS → Clear (replicate n 0)
 clear-new n e = record { size = length-replicate n 0 ∙ e; clear = zeros n }
+
+no-marks : {m : List ℕ} → Clear m → Marks m
+no-marks c = record { size = c .size; single = λ i. omega (arith, c .clear i) }
 
 -- one row marked
 mark-one : (m : List ℕ) (x : ℕ) (xs : List ℕ) (i : ℕ) → x < length m → getD m x 0 ≡ 0
@@ -50,48 +56,50 @@ mark-marks m x k l = record { size = length-set m x 1 ∙ k .size; single = λ i
     go i (yes p) = rw p (omega (arith, getD-set-same m x 1 0 l))
     go i (no p) = rw (getD-set-other m x i 1 0 p) (k .single i)
 
--- the loop of `mark_chain`: marks and rows ahead together are as at the start
-pub record MarkInv (nx : ℕ → ℕ) (n f₀ : ℕ) (m₀ : List ℕ) (h₀ : ℕ) (m : List ℕ) (h f : ℕ) : Type 0 where
-  pub fuel : f ≤ f₀
-  pub marks : Marks m
-  pub met : (i : ℕ) → getD m i 0 + occ i (rows nx n f h) ≡ getD m₀ i 0 + occ i (rows nx n f₀ h₀)
-  pub end : ends nx n f h ≡ ends nx n f₀ h₀
-  pub long : length (rows nx n f h) + f₀ ≡ length (rows nx n f₀ h₀) + f
+-- a walk that marks: none of its steps, and one more
+pub mark-start : (t : Table) (w : List ℕ) {m : List ℕ} (s : Cursor) → Marks m → Advanced t w m s m s
+mark-start t w s k = record { fuel = omega arith; marks = k; met = λ i. refl; end = refl; long = refl }
 
-pub mark-start : (nx : ℕ → ℕ) (n f : ℕ) {m : List ℕ} (h : ℕ) → Marks m → MarkInv nx n f m h m h f
-mark-start nx n f h k = record { fuel = omega arith; marks = k; met = λ i. refl; end = refl; long = refl }
-
-pub mark-again : {nx : ℕ → ℕ} {n f₀ : ℕ} {m₀ : List ℕ} {h₀ : ℕ} {m : List ℕ} {h f h′ : ℕ} {r : Bool}
-    → MarkInv nx n f₀ m₀ h₀ m h f
-    → n < MARKS → r ≡ more n f h → r ≡ true → getD m h 0 ≡ 0 → h′ ≡ nx h → MarkInv nx n f₀ m₀ h₀ (set m h 1) h′ (f - 1)
-mark-again {nx} {n} {f₀} {m₀} {h₀} {m} {h} {f} i b d e z q =
+pub mark-again : {t : Table} {w m₀ : List ℕ} {s₀ : Cursor} {m : List ℕ} {s : Cursor} {x : ℕ} {r : Bool}
+    → Advanced t w m₀ s₀ m s
+    → t .count < MARKS → r ≡ more (t .count) (s .left) (s .row) → r ≡ true → getD m (s .row) 0 ≡ 0
+    → x ≡ link t w (s .row)
+    → Advanced t w m₀ s₀ (set m (s .row) 1) (record { row = x; left = s .left - 1 })
+unfolding front
+mark-again {t} {w} {m₀} {s₀} {m} {s} {x} i b d e z q =
+    let nx = link t w in
+    let n = t .count in
+    let f = s .left in
+    let h = s .row in
     let o = more-out n f h d e in
-    let s = step nx n f h d e in
+    let y = step nx n f h d e in
     let l : h < length m = omega (arith, o .row .high, i .marks .size) in
     rw q (record {
       fuel = omega (arith, i .fuel);
       marks = mark-marks m h (i .marks) l;
       met =
-          λ k. mark-one m h (rows nx n (f - 1) (nx h)) k l z ∙ ap (λ l. getD m k 0 + occ k l) (sym (s .row)) ∙ i .met k;
-      end = sym (s .end) ∙ i .end;
-      long = omega (arith, o .fuel, ap length (s .row), i .long);
+          λ k. mark-one m h (rows nx n (f - 1) (nx h)) k l z ∙ ap (λ l. getD m k 0 + occ k l) (sym (y .row)) ∙ i .met k;
+      end = sym (y .end) ∙ i .end;
+      long = omega (arith, o .fuel, ap length (y .row), i .long);
     })
 
-module _ (t : Table) (w : List ℕ) {f₀ : ℕ} {m₀ : List ℕ} {h₀ : ℕ} {m : List ℕ} {h f : ℕ} {r : Bool}
-    (v : MarkInv (link t w) (t .count) f₀ m₀ h₀ m h f) (d : r ≡ more (t .count) f h) where
+-- where it stops, the whole chain is judged
+module _ (t : Table) (w : List ℕ) {m₀ : List ℕ} {s₀ : Cursor} {m : List ℕ} {s : Cursor} {r : Bool}
+    (v : Advanced t w m₀ s₀ m s) (d : r ≡ more (t .count) (s .left) (s .row)) where
   -- a row is met for the second time
-  pub mark-twice : {m′ : List ℕ} → r ≡ true → (getD m h 0 ≡ 0 → ⊥) → MarkedChain t w m₀ m′ h₀ f₀ 0
+  pub mark-twice : {m′ : List ℕ} → r ≡ true → (getD m (s .row) 0 ≡ 0 → ⊥)
+      → MarkedChain t w m₀ m′ (s₀ .row) (s₀ .left) 0
   unfolding Unmarked front
   mark-twice e z = record {
     refused =
         λ _. inr (
-          h,
+          s .row,
           omega (
             arith,
-            v .met h,
-            ap (occ h) (step (link t w) (t .count) f h d e .row),
-            occ-here h (rows (link t w) (t .count) (f - 1) (link t w h)),
-            ne-zero (getD m h 0) z,
+            v .met (s .row),
+            ap (occ (s .row)) (step (link t w) (t .count) (s .left) (s .row) d e .row),
+            occ-here (s .row) (rows (link t w) (t .count) (s .left - 1) (link t w (s .row))),
+            ne-zero (getD m (s .row) 0) z,
           ),
         );
     done = λ k. absurd (omega arith);
@@ -100,28 +108,87 @@ module _ (t : Table) (w : List ℕ) {f₀ : ℕ} {m₀ : List ℕ} {h₀ : ℕ} 
       ne-zero : (x : ℕ) → (x ≡ 0 → ⊥) → 1 ≤ x
       ne-zero x k = omega arith
 
-  pub mark-broken : {m′ : List ℕ} → r ≡ false → (h ≡ 0 → ⊥) → MarkedChain t w m₀ m′ h₀ f₀ 0
+  pub mark-broken : {m′ : List ℕ} → r ≡ false → (s .row ≡ 0 → ⊥) → MarkedChain t w m₀ m′ (s₀ .row) (s₀ .left) 0
   unfolding Unmarked
   mark-broken e z = record {
-    refused = λ _. inl (sym (v .end) ∙ stop (link t w) (t .count) f h d e .end ∙ ne-eqb h 0 z);
+    refused =
+        λ _. inl (sym (v .end) ∙ stop (link t w) (t .count) (s .left) (s .row) d e .end ∙ ne-eqb (s .row) 0 z);
     done = λ k. absurd (omega arith);
   }
 
-  pub mark-end : r ≡ false → h ≡ 0 → MarkedChain t w m₀ m h₀ f₀ (f + 1)
+  pub mark-end : r ≡ false → s .row ≡ 0 → MarkedChain t w m₀ m (s₀ .row) (s₀ .left) (s .left + 1)
   unfolding front
   mark-end e z =
-      let s = stop (link t w) (t .count) f h d e in
+      let y = stop (link t w) (t .count) (s .left) (s .row) d e in
       record {
         refused = λ k. absurd (omega arith);
         done = λ _. record {
-          ended-in = sym (v .end) ∙ s .end ∙ eq-eqb h 0 z;
+          ended-in = sym (v .end) ∙ y .end ∙ eq-eqb (s .row) 0 z;
           marks = v .marks;
-          added = λ i. omega (arith, v .met i, ap (occ i) (s .row), occ-nil i);
-          room-left = omega (arith, v .long, v .fuel, ap length (s .row));
+          added = λ i. omega (arith, v .met i, ap (occ i) (y .row), occ-nil i);
+          room-left = omega (arith, v .long, v .fuel, ap length (y .row));
         };
       }
 
--- the loop of `partition_with`: the chains before k end, and no row stands on them twice
+-- a walk taken up again where it stopped: it can go on, the steps of both parts are steps of one walk, and what marking
+-- the rest of the chain finds out is so of the whole
+module _ {t : Table} {w m₀ : List ℕ} {s₀ : Cursor} {m : List ℕ} {s : Cursor} (i : Advanced t w m₀ s₀ m s) where
+  pub can-on : CanMark t w (s₀ .left) m₀ → CanMark t w (s .left) m
+  can-on k = record {
+    lies = k .lies;
+    few = k .few;
+    room-within = omega (arith, k .room-within, i .fuel);
+    marks = i .marks;
+  }
+
+  pub mark-on : {m′ : List ℕ} {s′ : Cursor} → Advanced t w m s m′ s′ → Advanced t w m₀ s₀ m′ s′
+  mark-on j = record {
+    fuel = omega (arith, i .fuel, j .fuel);
+    marks = j .marks;
+    met = λ k. j .met k ∙ i .met k;
+    end = j .end ∙ i .end;
+    long = omega (arith, i .long, j .long);
+  }
+
+  pub mark-rest : {m′ : List ℕ} {r : ℕ} → MarkedChain t w m m′ (s .row) (s .left) r
+      → MarkedChain t w m₀ m′ (s₀ .row) (s₀ .left) r
+  unfolding Unmarked
+  mark-rest q = record {
+    refused = λ z. elim (q .refused z) [
+      | inl n ↦ inl (sym (i .end) ∙ n)
+      | inr n ↦ inr (n .0, omega (arith, n .1, i .met (n .0)))
+    ];
+    done = λ l. let y = q .done l in
+        record {
+          ended-in = sym (i .end) ∙ y .ended-in;
+          marks = y .marks;
+          added = λ k. y .added k ∙ i .met k;
+          room-left = omega (arith, y .room-left, i .long);
+        };
+  }
+
+pub few-left : {t : Table} {w : List ℕ} {f : ℕ} {m : List ℕ} → CanMark t w f m → f < MARKS
+few-left k = omega (arith, k .few, k .room-within)
+
+-- a table can be checked, and its free chain be marked from the head on
+pub can-check : {t : Table} {h : Heads} {w : List ℕ} → Laid t h w → t .count < MARKS → CanCheck t h w
+can-check l b = record { lies = lies l; heads-lie = heads-lie l; few = b }
+
+pub can-start : {t : Table} {h : Heads} {w m : List ℕ} {s : Cursor} → CanCheck t h w → s ≡ freeStart t h w → Clear m
+    → CanMark t w (s .left) m
+can-start k e c = record {
+  lies = k .lies;
+  few = k .few;
+  room-within = omega (arith, ap (λ s. s .left) e);
+  marks = no-marks c;
+}
+
+pub begun : {t : Table} {h : Heads} {w m₀ : List ℕ} {s₀ : Cursor} {m : List ℕ} {s : Cursor} → s₀ ≡ freeStart t h w
+    → Clear m₀
+    → Advanced t w m₀ s₀ m s → Begun t h w m s
+begun {m₀ = m₀} e c i = record { before = m₀; clear = c; advanced = rw e at i }
+
+-- the loop of `partition_from`: the chains before k end, and no row stands on them twice
 pub record PartInv (t : Table) (h : Heads) (w m : List ℕ) (room k : ℕ) : Type 0 where
   pub upto : k ≤ suc (h .owners)
   pub marks : Marks m
@@ -133,7 +200,7 @@ pub part-start : (t : Table) (h : Heads) (w : List ℕ) {m : List ℕ} → Clear
 unfolding sumTo allTo
 part-start t h w c = record {
   upto = omega arith;
-  marks = record { size = c .size; single = λ i. omega (arith, c .clear i) };
+  marks = no-marks c;
   met = c .clear;
   ended-all = refl;
   budget = omega arith;
@@ -196,6 +263,15 @@ part-broken {t} {h} {w} {m} {m′} {room} {k} {x} {r} i b p q z = bool-false (pa
                 row-once R (n .0) row,
               ))
         ]
+
+-- the free chain is the first, however far it was marked before
+module _ {t : Table} {h : Heads} {w m m′ : List ℕ} {s : Cursor} {r : ℕ} (b : Begun t h w m s)
+    (q : MarkedChain t w m m′ (s .row) (s .left) r) where
+  pub free-broken : r ≡ 0 → partition t h w ≡ false
+  free-broken z = part-broken (part-start t h w (b .clear)) (omega arith) refl (mark-rest (b .advanced) q) z
+
+  pub free-marked : (r ≡ 0 → ⊥) → PartInv t h w m′ (r - 1) 1
+  free-marked z = part-again (part-start t h w (b .clear)) (omega arith) refl (mark-rest (b .advanced) q) z
 
 -- all chains are marked: if the budget is spent, every row was met
 module _ (t : Table) (h : Heads) (w : List ℕ) {m : List ℕ} {room : ℕ} (i : PartInv t h w m room (suc (h .owners))) where

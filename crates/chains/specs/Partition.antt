@@ -1,5 +1,6 @@
--- Every row of a table is on exactly one chain, once; and what one step of the check finds out. Rests on Table.
-use Prim.Native.Nat.{ℕ, suc, _+_, _-_, _≤_}
+-- Every row of a table is on exactly one chain, once; what the check finds out of one chain, and what a walk along it
+-- keeps that may stop anywhere. Rests on Table.
+use Prim.Native.Nat.{ℕ, suc, _+_, _-_, _≤_, _<_}
 use mathlib.Core.Path.{_≡_}
 use mathlib.Core.Logic.{_⊎_}
 use mathlib.Core.Bool.{Bool, true, false, _&&_}
@@ -8,9 +9,10 @@ use lib.ListN.{length, getD}
 use lib.Dec.{eqb}
 use Rattle.chains.specs.declared.Table.{Table}
 use Rattle.chains.specs.declared.Heads.{Heads}
+use Rattle.chains.specs.declared.Cursor.{Cursor}
 use Rattle.chains.specs.Lists.{occ, sumTo, allTo}
 use Rattle.chains.specs.Walk.{IsRow, ends}
-use Rattle.chains.specs.Table.{link, front, rowsOf, endedOf}
+use Rattle.chains.specs.Table.{Lies, HeadsLie, link, front, headOf, rowsOf, endedOf}
 
 -- how often row r stands on the chains
 unfoldable pub onChains : Table → Heads → List ℕ → ℕ → ℕ
@@ -60,3 +62,37 @@ Unmarked t w m head room =
 pub record MarkedChain (t : Table) (w m m′ : List ℕ) (head room r : ℕ) : Type 0 where
   pub refused : r ≡ 0 → Unmarked t w m head room
   pub done : 1 ≤ r → Marked t w m m′ head room (r - 1)
+
+-- a table that can be checked: it and its heads lie in the words, and there is a mark for each of its rows
+pub record CanCheck (t : Table) (h : Heads) (w : List ℕ) : Type 0 where
+  pub lies : Lies t w
+  pub heads-lie : HeadsLie h w
+  pub few : t .count < MARKS
+
+-- a chain of it can be marked within the room
+pub record CanMark (t : Table) (w : List ℕ) (room : ℕ) (m : List ℕ) : Type 0 where
+  pub lies : Lies t w
+  pub few : t .count < MARKS
+  pub room-within : room ≤ t .count
+  pub marks : Marks m
+
+-- A walk that marks has come from s₀ to s, some rows further or none: the rows ahead of s and the new marks are
+-- together what was ahead of s₀. Nothing is said of where it stopped or why, so that what is found out of the rest of
+-- the chain is so of the whole (proofs/Parts, `mark-rest`)
+pub record Advanced (t : Table) (w m₀ : List ℕ) (s₀ : Cursor) (m : List ℕ) (s : Cursor) : Type 0 where
+  pub fuel : s .left ≤ s₀ .left
+  pub marks : Marks m
+  pub met : (i : ℕ)
+      → getD m i 0 + occ i (front t w (s .left) (s .row)) ≡ getD m₀ i 0 + occ i (front t w (s₀ .left) (s₀ .row))
+  pub end : ends (link t w) (t .count) (s .left) (s .row) ≡ ends (link t w) (t .count) (s₀ .left) (s₀ .row)
+  pub long : length (front t w (s .left) (s .row)) + s₀ .left ≡ length (front t w (s₀ .left) (s₀ .row)) + s .left
+
+-- where the walk of the free chain starts: at its head, with room for every row
+abbrev pub freeStart : Table → Heads → List ℕ → Cursor
+freeStart t h w = record { row = headOf h w 0; left = t .count }
+
+-- it started there with no row marked, and is now at s
+pub record Begun (t : Table) (h : Heads) (w m : List ℕ) (s : Cursor) : Type 0 where
+  pub before : List ℕ
+  pub clear : Clear before
+  pub advanced : Advanced t w before (freeStart t h w) m s

@@ -12,7 +12,7 @@
 mod partition;
 mod queries;
 
-pub use partition::partition_ok;
+pub use partition::partitions_ok;
 pub use queries::all_with;
 pub use queries::chain_length;
 pub use queries::find_place;
@@ -40,6 +40,25 @@ pub struct Heads {
     pub first: usize,
     pub step: usize,
     pub owners: usize,
+}
+
+// How far a walk along a chain has come: the row that it meets next, and how many rows it may still meet.
+pub struct Cursor {
+    pub row: usize,
+    pub left: usize,
+}
+
+// Three tables that are checked together, and a walk in each.
+pub struct Tables {
+    pub a: Table,
+    pub b: Table,
+    pub c: Table,
+}
+
+pub struct Cursors {
+    pub a: Cursor,
+    pub b: Cursor,
+    pub c: Cursor,
 }
 
 // The number of rows on a chain, if it ends.

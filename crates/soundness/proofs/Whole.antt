@@ -2,7 +2,7 @@
 -- that is left. Rests on Bridge and Rooms of the crate `tables`.
 use Prim.Native.Nat.{ℕ, _≤_}
 use mathlib.Core.Path.{_≡_, refl, sym, ap, _∙_}
-use mathlib.Core.Bool.{Bool, true, false, _&&_}
+use mathlib.Core.Bool.{Bool, true, false, _&&_, and-assoc}
 use mathlib.Core.List.{List, [], _∷_}
 use native.Mathlib.Omega.{arith}
 use lib.ListN.{length}
@@ -24,6 +24,18 @@ use Rattle.clauses.proofs.Steps.{and-no, and-on}
 use Rattle.tables.proofs.Header.{size-least}
 use Rattle.tables.proofs.Rooms.{rows-fit, counts-good}
 use Rattle.meaning.proofs.Lists.{both}
+
+-- the clauses on the words: those on the three tables' chains are tested together, then the others
+pub formed-together : (c : Counts) (w : List ℕ) {q : Bool}
+    → q
+    ≡ ((versionsParted c w && (locksParted c w && accessesParted c w)) && (locksNamed c w && (marksListed c w && true)))
+    → q ≡ formedAt c w
+unfolding formedAt
+formed-together c w e =
+    let rest = locksNamed c w && (marksListed c w && true) in
+    e
+    ∙ and-assoc (versionsParted c w) (locksParted c w && accessesParted c w) rest
+    ∙ ap (λ b. versionsParted c w && b) (and-assoc (locksParted c w) (accessesParted c w) rest)
 
 module _ (c : Counts) (w : List ℕ) (W : Well c w) where
   store-checked : (slotsSound c w && recordsSound c w) ≡ soundStore (decodeAt c w)

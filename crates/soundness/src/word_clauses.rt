@@ -2,6 +2,7 @@
 // are 0 or 1. `formed_at` is all of them; it equals `formedAt` of tables/specs/Words. Rests on the crates `types`,
 // `chains` and `tables`.
 ghost use mathlib.Core.Path.{_≡_};
+ghost use mathlib.Core.Bool.{_&&_};
 ghost use Prim.Native.Nat.{_<_};
 ghost use Rattle.chains.specs.Lists.{allOf};
 ghost use Rattle.chains.specs.Walk.{IsRow};
@@ -9,29 +10,31 @@ ghost use Rattle.tables.specs.Layout.{Fits};
 ghost use Rattle.tables.specs.Decode.{lockRows, accessRows};
 ghost use Rattle.tables.specs.Words.{versionsParted, locksParted, accessesParted, namesRecord, marked, locksNamed};
 ghost use Rattle.tables.specs.Words.{marksListed, formedAt};
+use chains::Tables;
 use types::Counts;
 
-// The chains.
+// Every row is on exactly one chain, in each of the three tables.
 
-fn versions_parted(w: &[u64], c: Counts) -> bool
+fn chains_parted(w: &[u64], c: Counts) -> bool
     requires { ⌜ Fits c (now w) ⌝ }
-    ensures { λ q. ⌜ q ≡ versionsParted c (now (w .entry)) ⌝ }
+    ensures { λ q. ⌜
+        q
+        ≡ (versionsParted c (now (w .entry))
+        && (locksParted c (now (w .entry)) && accessesParted c (now (w .entry))))
+        ⌝ }
 {
-    chains::partition_ok(w, tables::version_table(c), tables::version_heads(c))
-}
-
-fn locks_parted(w: &[u64], c: Counts) -> bool
-    requires { ⌜ Fits c (now w) ⌝ }
-    ensures { λ q. ⌜ q ≡ locksParted c (now (w .entry)) ⌝ }
-{
-    chains::partition_ok(w, tables::lock_table(c), tables::lock_heads(c))
-}
-
-fn accesses_parted(w: &[u64], c: Counts) -> bool
-    requires { ⌜ Fits c (now w) ⌝ }
-    ensures { λ q. ⌜ q ≡ accessesParted c (now (w .entry)) ⌝ }
-{
-    chains::partition_ok(w, tables::access_table(c), tables::access_heads(c))
+    let all = Tables {
+        a: tables::version_table(c),
+        b: tables::lock_table(c),
+        c: tables::access_table(c),
+    };
+    chains::partitions_ok(
+        w,
+        all,
+        tables::version_heads(c),
+        tables::lock_heads(c),
+        tables::access_heads(c),
+    )
 }
 
 // Lock rows name their chain's record.
@@ -106,13 +109,7 @@ pub fn formed_at(w: &[u64], c: Counts) -> bool
     requires { ⌜ Fits c (now w) ⌝ }
     ensures { λ q. ⌜ q ≡ formedAt c (now (w .entry)) ⌝ }
 {
-    if !versions_parted(w, c) {
-        return false;
-    }
-    if !locks_parted(w, c) {
-        return false;
-    }
-    if !accesses_parted(w, c) {
+    if !chains_parted(w, c) {
         return false;
     }
     if !locks_named(w, c) {

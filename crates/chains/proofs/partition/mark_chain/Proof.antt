@@ -1,26 +1,28 @@
--- `chains::mark_chain` meets its contract. The loop's invariant is MarkInv. Rests on Parts.
+-- `chains::mark_chain` meets its contract. The loop's invariant is Advanced. Rests on Parts.
 use native.Mathlib.Omega.{arith}
 use denote.Ref.{now}
-use Rattle.chains.specs.Table.{link}
+use Rattle.chains.specs.Partition.{Advanced}
 use Rattle.chains.proofs.Walks.{row-of, fuel-of}
-use Rattle.chains.proofs.Parts.{MarkInv, mark-start, mark-again, mark-twice, mark-broken, mark-end}
+use Rattle.chains.proofs.Parts.{mark-start, mark-again, mark-twice, mark-broken, mark-end}
 use Rattle.chains.proofs.partition.mark_chain.Statement.{statement}
 use Rattle.chains.proofs.partition.mark_chain.Tie as tie
 
 abbrev Inv-loop : tie.InvT-loop
-Inv-loop w t head room marks₀ n cur₀ left₀ marks cur left = MarkInv (link t w) n room marks₀ head marks cur left
+Inv-loop w t head room marks₀ n cur₀ left₀ marks cur left =
+    Advanced t w marks₀ (record { row = head; left = room }) marks (record { row = cur; left = left })
 
 abbrev μ-loop : tie.MeasureT-loop
 μ-loop w t head room marks₀ n cur₀ left₀ marks cur left = left
 
 loop-holds : tie.Need-loop-holds Inv-loop μ-loop
-loop-holds c = mark-start _ _ _ _ (c .before .pre .3)
+loop-holds c = mark-start _ _ _ (c .before .pre .marks)
 
 more-requires : tie.Need-more-requires Inv-loop μ-loop
 more-requires c κs = tt
 
 element-copy-out-if2 : tie.Need-element-copy-out-if2 Inv-loop μ-loop
-element-copy-out-if2 c = omega (arith, row-of _ _ _ (c .before .more .ensures) (c .if1 .taken))
+element-copy-out-if2 c =
+    omega (arith, row-of _ _ _ (c .before .more .ensures) (c .if1 .taken), c .before .before .before .before .pre .few)
 
 returns : tie.Need-returns Inv-loop μ-loop
 returns c =
@@ -30,11 +32,15 @@ returns c =
 
 element-write-marks : tie.Need-element-write-marks Inv-loop μ-loop
 element-write-marks c =
-    omega (arith, row-of _ _ _ (c .before .before .before .more .ensures) (c .before .before .if1 .taken))
+    omega (
+      arith,
+      row-of _ _ _ (c .before .before .before .more .ensures) (c .before .before .if1 .taken),
+      c .before .before .before .before .before .before .pre .few,
+    )
 
 next-of-requires : tie.Need-next-of-requires Inv-loop μ-loop
 next-of-requires c κs = (
-  c .before .before .before .before .before .before .pre .0,
+  c .before .before .before .before .before .before .pre .lies,
   row-of _ _ _ (c .before .before .before .more .ensures) (c .before .before .if1 .taken),
 )
 
@@ -49,7 +55,7 @@ loop-less c =
 loop-again : tie.Need-loop-again Inv-loop μ-loop
 loop-again c =
     mark-again (c .before .before .before .before .before .loop .inv)
-    (c .before .before .before .before .before .before .before .pre .1)
+    (c .before .before .before .before .before .before .before .pre .few)
     (c .before .before .before .before .more .ensures) (c .before .before .before .if1 .taken) (c .before .if2 .left)
     (c .next-of .ensures)
 
@@ -58,8 +64,8 @@ add-result c =
     omega (
       arith,
       c .before .before .before .loop .inv .fuel,
-      c .before .before .before .before .before .pre .1,
-      c .before .before .before .before .before .pre .2,
+      c .before .before .before .before .before .pre .few,
+      c .before .before .before .before .before .pre .room-within,
     )
 
 returns-2 : tie.Need-returns-2 Inv-loop μ-loop
