@@ -1,17 +1,13 @@
--- Loops that keep the greatest or the least of some numbers of the entries that pass a test. Rests on Walk of `chains`.
-use Prim.Native.Nat.{ℕ, _-_, _≤_, min, max}
+-- Loops that keep the greatest or the least of some numbers of the entries that pass a test, or the best so far of any
+-- type. Rests on Walk of `chains`.
+use Prim.Native.Nat.{ℕ, _-_, min, max}
 use mathlib.Core.Path.{_≡_, refl, sym, ap, _∙_}
 use mathlib.Core.Bool.{Bool, true, false, cond, _&&_, _||_}
 use mathlib.Core.List.{List, [], _∷_, map}
 use native.Mathlib.Omega.{arith}
-use native.Mathlib.Nat.{le-refl}
 use Rattle.chains.specs.Walk.{more, rows}
 use Rattle.chains.proofs.Loops.{Walk, walk-again, walk-end}
 use Rattle.meaning.specs.Lists.{any, keep, least, greatest}
-
-pub greatest-default : (d : ℕ) (xs : List ℕ) → d ≤ greatest d xs
-greatest-default d [] = le-refl d
-greatest-default d (x ∷ xs) = omega (arith, greatest-default d xs)
 
 greatest-shift : (b x : ℕ) (xs : List ℕ) → greatest (max b x) xs ≡ max x (greatest b xs)
 greatest-shift b x [] = omega arith
@@ -79,6 +75,31 @@ module _ {A : Type 0} (p q : A → Bool) (v : A → ℕ) where
 
     pub least-done : Walk nx n (λ rs. least b (valued (map g rs))) answer h f → r ≡ more n f h → r ≡ false → b ≡ answer
     least-done i d e = walk-end i d e refl
+
+-- a loop whose turn makes the next b of b and an entry: over b xs is what it finds on the entries xs with b so far
+pub record Turns {A B : Type 0} (turn : B → A → B) (over : B → List A → B) (g : ℕ → A) (nx : ℕ → ℕ) (n : ℕ)
+    (answer b : B) (h f : ℕ) : Type 0 where
+  pub one : (b : B) (x : A) (xs : List A) → over b (x ∷ xs) ≡ over (turn b x) xs
+  pub none : (b : B) → over b [] ≡ b
+  pub walk : Walk nx n (λ rs. over b (map g rs)) answer h f
+
+module _ {A B : Type 0} {turn : B → A → B} {over : B → List A → B} {g : ℕ → A} {nx : ℕ → ℕ} {n : ℕ} {answer b : B}
+    {h f : ℕ} {r : Bool} (i : Turns turn over g nx n answer b h f) (d : r ≡ more n f h) where
+  pub turns-on : {b′ : B} {h′ : ℕ} {x : A} → r ≡ true → b′ ≡ turn b x → x ≡ g h → h′ ≡ nx h
+      → Turns turn over g nx n answer b′ h′ (f - 1)
+  turns-on {b′} e t m s =
+      let xs : List A = map g (rows nx n (f - 1) (nx h)) in
+      let b′-is : b′ ≡ turn b (g h) = t ∙ ap (turn b) m in
+      record {
+        one = i .one;
+        none = i .none;
+        walk =
+            walk-again (i .walk) d (λ rs. over b′ (map g rs)) e
+            (i .one b (g h) xs ∙ ap (λ y. over y xs) (sym b′-is)) s;
+      }
+
+  pub turns-done : r ≡ false → b ≡ answer
+  turns-done e = walk-end (i .walk) d e (i .none b)
 
 -- a kept list of a kept list, and a test of a kept list
 module _ {A : Type 0} (p q : A → Bool) where

@@ -1,6 +1,6 @@
 -- The walk for the first blocked point: its turns, and what it finds, the least start of the locks that block with the
--- lowest owner of those that start there. Rests on Extremes and on Walk of `chains`.
-use Prim.Native.Nat.{ℕ, suc, _-_, _≤_, _<_, min, max}
+-- lowest owner of those that start there. Rests on Extremes.
+use Prim.Native.Nat.{ℕ, suc, _≤_, _<_, min, max}
 use mathlib.Core.Path.{_≡_, refl, sym, ap, _∙_}
 use mathlib.Core.Logic.{_⊎_, inl, inr}
 use mathlib.Core.Bool.{Bool, true, false, cond, _&&_}
@@ -9,8 +9,6 @@ use native.Mathlib.Omega.{arith}
 use native.Mathlib.Nat.{le-refl}
 use lib.Dec.{ltb, eqb}
 use borrow.Author.Tests.{ltb-true, ltb-false, lt-ltb, le-ltb, eq-eqb, ne-eqb}
-use Rattle.chains.specs.Walk.{more, rows}
-use Rattle.chains.proofs.Loops.{Walk, walk-again, walk-end}
 use Rattle.types.specs.Limits.{SLOTS}
 use Rattle.meaning.specs.Lists.{keep, least}
 use Rattle.meaning.specs.Points.{meets, blocks, blockers, firstCovered, firstBlocked}
@@ -163,18 +161,3 @@ module _ (mode k low high : ℕ) where
         let p : ℕ = firstBlocked mode k x low high in
         ap (λ (y : Blocked). y .by) (e ∙ near-finds (nobody high) (x .locks))
         ∙ ap (λ (d : ℕ). least d (starters (x .locks) p)) (same-either (ltb p (suc high)) SLOTS)
-
-  -- the loop: b is the best so far, b′ after the lock of row h, g reads the lock of a row
-  module _ (g : ℕ → Lock) {nx : ℕ → ℕ} {n : ℕ} {answer : Blocked} {h f : ℕ} {r : Bool} (b : Blocked)
-      (i : Walk nx n (λ rs. nearest mode k low high b (map g rs)) answer h f) (d : r ≡ more n f h) where
-    pub near-on : {b′ : Blocked} {h′ : ℕ} {l : Lock} → r ≡ true → b′ ≡ nearer mode k low high b l → l ≡ g h → h′ ≡ nx h
-        → Walk nx n (λ rs. nearest mode k low high b′ (map g rs)) answer h′ (f - 1)
-    unfolding nearest
-    near-on {b′} e t m s =
-        let b′-is : b′ ≡ nearer mode k low high b (g h) = t ∙ ap (nearer mode k low high b) m in
-        walk-again i d (λ rs. nearest mode k low high b′ (map g rs)) e
-        (ap (λ (y : Blocked). nearest mode k low high y (map g (rows nx n (f - 1) (nx h)))) (sym b′-is)) s
-
-    pub near-done : r ≡ false → b ≡ answer
-    unfolding nearest
-    near-done e = walk-end i d e refl

@@ -2,14 +2,15 @@
 -- and what one walk of them finds. Rests on Points of the crate `meaning`.
 use Prim.Native.Nat.{ℕ, suc, min, max}
 use mathlib.Core.Bool.{Bool, cond, _&&_}
-use mathlib.Core.List.{List, [], _∷_, map}
+use mathlib.Core.List.{List, [], _∷_}
 use lib.Dec.{leb, ltb}
 use Rattle.types.specs.Limits.{SLOTS, SETTLED}
-use Rattle.meaning.specs.Lists.{keep, greatest}
-use Rattle.meaning.specs.Points.{isWrite, isOwned, covers, meets, blocks, firstBlocked, frozen, holder}
+use Rattle.meaning.specs.Lists.{keep}
+use Rattle.meaning.specs.Points.{isWrite, isOwned, meets, blocks, firstBlocked, frozen, holder}
 use Rattle.meaning.specs.Store.{Store, recAt}
 use Rattle.types.specs.declared.Lock.{Lock}
 use Rattle.blocking.specs.declared.Blocked.{Blocked}
+use Rattle.blocking.specs.declared.Run.{Run}
 
 -- the locks of slot k, or those of others that block it in a mode
 unfoldable pub counts : Bool → ℕ → ℕ → Lock → Bool
@@ -22,18 +23,23 @@ counted mine mode k ls = keep (counts mine mode k) ls
 abbrev pub ownsWrite : ℕ → Lock → Bool
 ownsWrite k l = isOwned k l && isWrite l
 
--- just after the locks that cover p, or p: how far one walk of the locks gets from p in the search for a free point up
--- to high
-abbrev pub endsAt : ℕ → ℕ → List Lock → List ℕ
-endsAt p high ls = map (λ l. suc (min high (l .high))) (keep (covers p) ls)
+-- one turn of the search for a free point up to high, with a run of points under locks so far: a lock that starts
+-- beyond the run is noted, one that the run's end lies in takes the end to just after it
+abbrev pub taken : ℕ → Run → Lock → Run
+taken high u l =
+    cond (ltb (u .end) (l .low)) (record { end = u .end; ahead = min (u .ahead) (l .low) })
+    (cond (ltb (l .high) (u .end)) u (record { end = suc (min high (l .high)); ahead = u .ahead }))
 
-unfoldable pub pastOf : List Lock → ℕ → ℕ → ℕ
-pastOf ls p high = greatest p (endsAt p high ls)
+unfoldable pub further : Bool → ℕ → ℕ → ℕ → Run → Lock → Run
+further mine mode k high u l = cond (counts mine mode k l) (taken high u l) u
 
--- one turn of that walk
-abbrev pub further : Bool → ℕ → ℕ → ℕ → ℕ → ℕ → Lock → ℕ
-further mine mode k p high best l =
-    cond (counts mine mode k l && covers p l) (max best (suc (min high (l .high)))) best
+-- the walk of the locks with u so far, and what it starts from: no point from p on, and nothing ahead
+unfoldable pub runOf : ℕ → Run → List Lock → Run
+runOf high u [] = u
+runOf high u (l ∷ ls) = runOf high (taken high u l) ls
+
+abbrev pub emptyRun : ℕ → ℕ → Run
+emptyRun p high = record { end = p; ahead = suc high }
 
 -- one turn of the search for the first blocked point: the best so far with a lock of owner o that starts at q among the
 -- points searched. The nearer one counts; of those as near the lowest owner

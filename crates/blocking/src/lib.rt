@@ -11,7 +11,7 @@ ghost use Rattle.meaning.specs.Pointwise.{Proper};
 ghost use Rattle.meaning.specs.Store.{recAt};
 ghost use Rattle.tables.specs.Layout.{Fits};
 ghost use Rattle.tables.specs.Decode.{decodeAt, recordAt};
-ghost use Rattle.blocking.specs.Search.{counts, counted, pastOf, further};
+ghost use Rattle.blocking.specs.Search.{counts, counted, further, runOf, emptyRun};
 ghost use Rattle.blocking.specs.Search.{joined, nearer, nearest, nobody, firstJudged};
 use types::Counts;
 use types::Lock;
@@ -22,6 +22,13 @@ use types::SLOTS;
 pub struct Blocked {
     pub point: u64,
     pub by: u64,
+}
+
+// A run of points under the locks, from where a walk of them starts to before `end`; `ahead` is the least start of the
+// locks that began beyond it when the walk met them.
+struct Run {
+    end: u64,
+    ahead: u64,
 }
 
 pub fn smaller(a: u64, b: u64) -> u64
@@ -51,37 +58,52 @@ fn counts(mine: bool, mode: u64, k: u64, l: Lock) -> bool
     locks::blocks(mode, k, l)
 }
 
-fn further(mine: bool, mode: u64, k: u64, p: u64, high: u64, best: u64, l: Lock) -> u64
+// One lock of a walk for a free point: a counted lock that starts beyond the run is noted, and one that the run's end
+// lies in is taken up.
+fn further(mine: bool, mode: u64, k: u64, high: u64, run: Run, l: Lock) -> Run
     requires { ⌜ high ≤ LAST ⌝ }
-    ensures { λ q. ⌜ q ≡ further mine mode k p high best l ⌝ }
+    ensures { λ q. ⌜ q ≡ further mine mode k high run l ⌝ }
 {
     if !counts(mine, mode, k, l) {
-        return best;
+        return run;
     }
-    if !locks::covers(p, l) {
-        return best;
+    if run.end < l.low {
+        return Run {
+            end: run.end,
+            ahead: smaller(run.ahead, l.low),
+        };
     }
-    larger(best, smaller(high, l.high) + 1)
+    if l.high < run.end {
+        return run;
+    }
+    Run {
+        end: smaller(high, l.high) + 1,
+        ahead: run.ahead,
+    }
 }
 
-// The first point after those of the locks that cover p, or p: how far one walk gets.
-fn past(w: &[u64], c: Counts, mine: bool, mode: u64, k: u64, r: usize, p: u64, high: u64) -> u64
+// How far one walk gets from p.
+fn run_from(w: &[u64], c: Counts, mine: bool, mode: u64, k: u64, r: usize, p: u64, high: u64) -> Run
     requires { ⌜ Fits c (now w) × (r < c .records) × (high ≤ LAST) ⌝ }
-    ensures { λ q. ⌜ q ≡ pastOf (counted mine mode k (recordAt c (now (w .entry)) r .locks)) p high ⌝ }
+    ensures { λ q. ⌜ q ≡ runOf high (emptyRun p high) (counted mine mode k (recordAt c (now (w .entry)) r .locks)) ⌝ }
 {
     let n = c.locks;
-    let mut best = p;
+    let mut run = Run {
+        end: p,
+        ahead: high + 1,
+    };
     let mut cur = tables::first_lock(w, c, r);
     let mut left = n;
     while chains::more(n, left, cur) {
-        best = further(mine, mode, k, p, high, best, tables::lock_at(w, c, cur));
+        run = further(mine, mode, k, high, run, tables::lock_at(w, c, cur));
         cur = tables::next_lock(w, c, cur);
         left -= 1;
     }
-    best
+    run
 }
 
-// The least point of low..high under none of them, or high + 1.
+// The least point of low..high under none of them, or high + 1. A lock that covers the end of a run began beyond the
+// run when it was met, so it starts at `ahead` or later: an end before `ahead` is free, with no walk more.
 pub fn first_free(
     w: &[u64],
     c: Counts,
@@ -97,11 +119,11 @@ pub fn first_free(
 {
     let mut p = low;
     while p <= high {
-        let q = past(w, c, mine, mode, k, r, p, high);
-        if q == p {
-            return p;
+        let run = run_from(w, c, mine, mode, k, r, p, high);
+        if run.end < run.ahead {
+            return run.end;
         }
-        p = q;
+        p = run.end;
     }
     p
 }

@@ -1,24 +1,22 @@
--- `blocking::nearest` meets its contract: a loop that keeps the nearest. Rests on Near.
-use mathlib.Core.List.{map}
+-- `blocking::nearest` meets its contract: a loop that keeps the nearest. Rests on Extremes.
+use mathlib.Core.Path.{refl}
 use native.Mathlib.Omega.{arith}
 use native.Mathlib.Numerals.{add-one}
-use denote.Ref.{now}
 use Rattle.chains.specs.Table.{link}
 use Rattle.chains.proofs.Walks.{row-of, fuel-of}
-use Rattle.chains.proofs.Loops.{Walk}
 use Rattle.tables.specs.Layout.{lockTable}
 use Rattle.tables.specs.Decode.{recordAt, lockAt}
 use Rattle.tables.proofs.Loops.{locks-start}
-use Rattle.blocking.specs.Search.{nearest, nobody}
-use Rattle.blocking.proofs.Near.{near-on, near-done}
+use Rattle.blocking.specs.Search.{nearer, nearest, nobody}
+use Rattle.blocking.proofs.Extremes.{Turns, turns-on, turns-done}
 use borrow.Author.Needs.{needs}
 use Rattle.blocking.proofs.nearest.Statement.{statement}
 use Rattle.blocking.proofs.nearest.Tie as tie
 
 abbrev Inv-loop : tie.InvT-loop
 Inv-loop w c mode k r low high n best₀ cur₀ left₀ best cur left =
-    Walk (link (lockTable c) w) n (λ rs. nearest mode k low high best (map (lockAt c w) rs))
-    (nearest mode k low high (nobody high) (recordAt c w r .locks)) cur left
+    Turns (nearer mode k low high) (nearest mode k low high) (lockAt c w) (link (lockTable c) w) n
+    (nearest mode k low high (nobody high) (recordAt c w r .locks)) best cur left
 
 abbrev μ-loop : tie.MeasureT-loop
 μ-loop w c mode k r low high n best₀ cur₀ left₀ best cur left = left
@@ -30,10 +28,16 @@ first-lock-requires : tie.Need-first-lock-requires Inv-loop μ-loop
 first-lock-requires c κs = (c .before .pre .0, c .before .pre .1)
 
 loop-holds : tie.Need-loop-holds Inv-loop μ-loop
+unfolding nearest
 loop-holds c =
     let s = c .before .before .args in
-    rw add-one (locks-start _ _ _ (nearest (s .mode) (s .k) (s .low) (s .high) (nobody (s .high)))
-    (c .first-lock .ensures))
+    record {
+      one = λ b l ls. refl;
+      none = λ b. refl;
+      walk =
+          rw add-one (locks-start _ _ _ (nearest (s .mode) (s .k) (s .low) (s .high) (nobody (s .high)))
+          (c .first-lock .ensures));
+    }
 
 more-requires : tie.Need-more-requires Inv-loop μ-loop
 more-requires c κs = tt
@@ -63,19 +67,12 @@ loop-less c =
 
 loop-again : tie.Need-loop-again Inv-loop μ-loop
 loop-again c =
-    near-on _ _ _ _
-    (lockAt (c .before .before .before .before .before .before .before .before .args .c)
-    (now (c .before .before .before .before .before .before .before .before .args .w))) _
-    (c .before .before .before .before .before .loop .inv) (c .before .before .before .before .more .ensures)
-    (c .before .before .before .if1 .taken) (c .before .nearer .ensures)
-    (c .before .before .lock-at .ensures) (c .next-lock .ensures)
+    turns-on (c .before .before .before .before .before .loop .inv) (c .before .before .before .before .more .ensures)
+    (c .before .before .before .if1 .taken) (c .before .nearer .ensures) (c .before .before .lock-at .ensures)
+    (c .next-lock .ensures)
 
 returns : tie.Need-returns Inv-loop μ-loop
-returns c =
-    near-done _ _ _ _
-    (lockAt (c .before .before .before .before .before .args .c)
-    (now (c .before .before .before .before .before .args .w))) _
-    (c .before .before .loop .inv) (c .before .more .ensures) (c .if1 .left)
+returns c = turns-done (c .before .before .loop .inv) (c .before .more .ensures) (c .if1 .left)
 
 pub nearest-spec : {M : Type 1} → statement M
 nearest-spec =
