@@ -1,17 +1,20 @@
 -- The first accesses of a slot: how they grow by one, and what a test of all of them says of the front. Rests on the
 -- walks of `chains`.
-use Prim.Native.Nat.{ℕ, zero, suc, _+_, _-_, _≤_}
+use Prim.Native.Nat.{ℕ, zero, suc, _+_, _≤_, _<_}
 use mathlib.Core.Path.{_≡_, refl, sym, ap, _∙_}
+use mathlib.Core.Logic.{_⊎_, inl, inr}
 use mathlib.Core.Bool.{Bool, true, false}
 use mathlib.Core.List.{List, [], _∷_, _++_, map, append-assoc}
 use native.Mathlib.Omega.{arith}
+use lib.Dec.{ltb}
+use borrow.Author.Tests.{ltb-true, ltb-false}
 use Rattle.chains.specs.Walk.{IsRow, among, more, rows}
 use Rattle.chains.specs.Table.{link, chain, front, headOf, rowsOf}
 use Rattle.chains.proofs.Walks.{among-in, rows-suc, stop}
 use Rattle.meaning.specs.Lists.{all}
 use Rattle.types.specs.declared.Access.{Access}
 use Rattle.types.specs.declared.Counts.{Counts}
-use Rattle.meaning.proofs.Lists.{and-in, and-left, and-right}
+use Rattle.meaning.proofs.Lists.{and-in, and-left, and-right, test}
 use Rattle.tables.specs.Layout.{accessTable, accessHeads}
 use Rattle.tables.specs.Decode.{accessAt, accessesOf, accessRows, slotAt}
 use Rattle.common.specs.Commit.{firstAccesses, Next}
@@ -24,6 +27,14 @@ append-nil : {A : Type 0} (xs : List A) → xs ++ [] ≡ xs
 append-nil [] = refl
 append-nil (x ∷ xs) = ap (λ z. x ∷ z) (append-nil xs)
 
+-- a number is below m or at least m; for a search that goes on from m
+pub either-side : (x m : ℕ) → (x < m → ⊥) → (m ≤ x → ⊥) → ⊥
+either-side x m f g = go (test (ltb x m))
+  where
+    go : (ltb x m ≡ true) ⊎ (ltb x m ≡ false) → ⊥
+    go (inl t) = f (ltb-true x m t)
+    go (inr t) = g (ltb-false x m t)
+
 module _ {A : Type 0} (p : A → Bool) where
   pub all-front : (xs ys : List A) → all p (xs ++ ys) ≡ true → all p xs ≡ true
   all-front [] ys e = refl
@@ -34,7 +45,7 @@ module _ {A : Type 0} (p : A → Bool) where
   all-last [] y e = and-left (p y) true e
   all-last (x ∷ xs) y e = all-last xs y (and-right (p x) (all p (xs ++ (y ∷ []))) e)
 
-  pub all-snoc : (xs : List A) (y : A) → all p xs ≡ true → p y ≡ true → all p (xs ++ (y ∷ [])) ≡ true
+  all-snoc : (xs : List A) (y : A) → all p xs ≡ true → p y ≡ true → all p (xs ++ (y ∷ [])) ≡ true
   all-snoc [] y e f = and-in f refl
   all-snoc (x ∷ xs) y e f = and-in (and-left (p x) (all p xs) e) (all-snoc xs y (and-right (p x) (all p xs) e) f)
 
@@ -92,7 +103,7 @@ module _ (c : Counts) (w : List ℕ) (k : ℕ) where
             (sym x);
       }
 
-  -- what one access more and those before it pass, those before it pass, and so does it
+  -- what one access more and those before it pass, those before it pass, and so does it; and back
   pub next-front : {j : ℕ} {a : Access} (p : Access → Bool) → Next c w k j a
       → all p (firstAccesses c w k (j + 1)) ≡ true → all p (firstAccesses c w k j) ≡ true
   next-front {j} {a} p s e = all-front p (firstAccesses c w k j) (a ∷ []) (rw (s .joined) at e)
@@ -100,6 +111,10 @@ module _ (c : Counts) (w : List ℕ) (k : ℕ) where
   pub next-last : {j : ℕ} {a : Access} (p : Access → Bool) → Next c w k j a
       → all p (firstAccesses c w k (j + 1)) ≡ true → p a ≡ true
   next-last {j} {a} p s e = all-last p (firstAccesses c w k j) a (rw (s .joined) at e)
+
+  pub next-both : {j : ℕ} {a : Access} (p : Access → Bool) → Next c w k j a
+      → all p (firstAccesses c w k j) ≡ true → p a ≡ true → all p (firstAccesses c w k (j + 1)) ≡ true
+  next-both {j} {a} p s e f = rw (s .joined) (all-snoc p (firstAccesses c w k j) a e f)
 
   -- the accesses are those met and those ahead
   pub accesses-split : (left : ℕ) {j cur : ℕ} → MetAccesses j cur → j + left ≡ c .accesses

@@ -1,7 +1,7 @@
 -- The search for the earliest point, access by access: one pass over the first accesses, passes until none moves the
 -- point, one access more. Rests on Common, Fronts and on CommonEnds of the crate `meaning`.
 use Prim.Native.Nat.{ℕ, suc, _+_, _-_, _≤_, _<_}
-use mathlib.Core.Path.{_≡_, refl, ap}
+use mathlib.Core.Path.{_≡_, refl, sym, ap}
 use mathlib.Core.Logic.{_⊎_, inl, inr}
 use mathlib.Core.Bool.{Bool, true, false}
 use mathlib.Core.List.{List, [], _∷_, map}
@@ -25,8 +25,8 @@ use Rattle.tables.specs.Layout.{accessTable, accessHeads}
 use Rattle.tables.specs.Decode.{accessAt, slotAt, recordsOf}
 use Rattle.common.specs.Commit.{LeastFrom, Lifted, firstAccesses, Next}
 use Rattle.common.proofs.Common.{Named}
-use Rattle.common.proofs.Fronts.{all-snoc, MetAccesses, met-start, met-on, first-none, next-front, next-last}
-use Rattle.common.proofs.Fronts.{accesses-all, front-of-all}
+use Rattle.common.proofs.Fronts.{either-side, MetAccesses, met-start, met-on, first-none, next-front, next-last}
+use Rattle.common.proofs.Fronts.{next-both, accesses-all, front-of-all}
 
 -- One pass: q so far, with the accesses xs of which those in rest are still to be asked
 pub record Raising (allow : ℕ → Access → Bool) (xs rest : List Access) (p q : ℕ) : Type 0 where
@@ -129,39 +129,54 @@ module _ {set : ℕ → Bool} {p : ℕ} where
     pub lift-end : LAST < q → LeastFrom set p q
     lift-end h = record { from = i .from; top = i .top; inside = λ l. absurd (omega arith); least = i .passed }
 
+-- The search goes on from q, with no point of the set passed on the way there
+least-after : {set : ℕ → Bool} {p q y : ℕ} → p ≤ q → ((x : ℕ) → p ≤ x → x < q → set x ≡ true → ⊥) → LeastFrom set q y
+    → LeastFrom set p y
+least-after {set} {p} {q} h n r =
+    record {
+      from = omega (arith, r .from);
+      top = r .top;
+      inside = r .inside;
+      least = λ x f g t. either-side x q (λ l. n x f l t) (λ l. r .least x l g t);
+    }
+
 -- One access more, a
 module _ (allow : ℕ → Access → Bool) {c : Counts} {w : List ℕ} {k j : ℕ} {a : Access} (s : Next c w k j a) {p q : ℕ}
-    (i : LeastFrom (λ x. all (allow x) (firstAccesses c w k j)) 1 p) (low : p ≤ LAST)
-    (b : LeastFrom (λ x. allow x a) p q) where
+    (i : LeastFrom (λ x. all (allow x) (firstAccesses c w k j)) 1 p) (b : LeastFrom (λ x. allow x a) p q) where
   abbrev xs : List Access
   xs = firstAccesses c w k j
 
   abbrev ys : List Access
   ys = firstAccesses c w k (j + 1)
 
-  pub next-same : q ≡ p → LeastFrom (λ x. all (allow x) ys) 1 p
-  next-same e =
-      record {
-        from = i .from;
-        top = i .top;
-        inside = λ l. rw (s .joined) (all-snoc (allow p) xs a (i .inside l) (rw e at (b .inside (omega arith))));
-        least = λ x f g t. i .least x f g (next-front c w k (allow x) s t);
-      }
+  next-more : {y : ℕ} → LeastFrom (λ x. all (allow x) ys) q y → LeastFrom (λ x. all (allow x) ys) 1 y
+  next-more r =
+      least-after (i .from) (λ x f g t. i .least x f g (next-front c w k (allow x) s t))
+      (least-after (b .from) (λ x f g t. b .least x f g (next-last c w k (allow x) s t)) r)
 
-  pub next-more : {y : ℕ} → LeastFrom (λ x. all (allow x) ys) q y → LeastFrom (λ x. all (allow x) ys) 1 y
-  next-more {y} r =
-      record {
-        from = omega (arith, i .from, b .from, r .from);
-        top = r .top;
-        inside = r .inside;
-        least = λ x f g t. go x f g t (test (ltb x p)) (test (ltb x q));
-      }
-    where
-      go : (x : ℕ) → 1 ≤ x → x < y → all (allow x) ys ≡ true → (ltb x p ≡ true) ⊎ (ltb x p ≡ false)
-          → (ltb x q ≡ true) ⊎ (ltb x q ≡ false) → ⊥
-      go x f g t (inl u) v = i .least x f (ltb-true x p u) (next-front c w k (allow x) s t)
-      go x f g t (inr u) (inl v) = b .least x (ltb-false x p u) (ltb-true x q v) (next-last c w k (allow x) s t)
-      go x f g t (inr u) (inr v) = r .least x (ltb-false x q v) g t
+  -- q is the point if the first j accesses allow it
+  next-at : (q ≤ LAST → all (allow q) xs ≡ true) → LeastFrom (λ x. all (allow x) ys) 1 q
+  next-at h =
+      next-more (record {
+        from = omega arith;
+        top = b .top;
+        inside = λ l. next-both c w k (allow q) s (h l) (b .inside l);
+        least = λ x f g. absurd (omega arith);
+      })
+
+  pub next-same : q ≡ p → LeastFrom (λ x. all (allow x) ys) 1 p
+  next-same e = rw e at (next-at (λ l. rw e (i .inside (omega arith))))
+
+  pub next-none : LAST < q → LeastFrom (λ x. all (allow x) ys) 1 q
+  next-none h = next-at (λ l. absurd (omega arith))
+
+  -- a pass over the first j, which leads to y
+  module _ {y : ℕ} (r : Lifted (λ x. all (allow x) xs) q y) where
+    pub next-still : y ≡ q → LeastFrom (λ x. all (allow x) ys) 1 y
+    next-still e = rw (sym e) at (next-at (λ l. rw e at (r .still e (omega arith))))
+
+    pub next-moved : {z : ℕ} → LeastFrom (λ x. all (allow x) ys) y z → LeastFrom (λ x. all (allow x) ys) 1 z
+    next-moved t = next-more (least-after (r .from) (λ x f g u. r .passed x f g (next-front c w k (allow x) s u)) t)
 
 -- The least point that all accesses allow is the earliest
 pub is-earliest : (rs : List Rec) (k : ℕ) (e : Edit) {p : ℕ} → LeastFrom (λ x. all (allows rs k x) (e .accesses)) 1 p

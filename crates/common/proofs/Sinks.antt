@@ -1,7 +1,7 @@
 -- The search for the latest point, access by access, as Lifts does it upwards. Rests on Common, Fronts and on
 -- CommonEnds of the crate `meaning`.
 use Prim.Native.Nat.{ℕ, _+_, _-_, _≤_, _<_}
-use mathlib.Core.Path.{_≡_, refl, ap}
+use mathlib.Core.Path.{_≡_, refl, sym, ap}
 use mathlib.Core.Logic.{_⊎_, inl, inr}
 use mathlib.Core.Bool.{Bool, true, false}
 use mathlib.Core.List.{List, [], _∷_, map}
@@ -25,8 +25,8 @@ use Rattle.tables.specs.Layout.{accessTable, accessHeads}
 use Rattle.tables.specs.Decode.{accessAt, slotAt, recordsOf}
 use Rattle.common.specs.Commit.{GreatestTo, Lowered, firstAccesses, Next}
 use Rattle.common.proofs.Common.{Named}
-use Rattle.common.proofs.Fronts.{all-snoc, MetAccesses, met-start, met-on, first-none, next-front, next-last}
-use Rattle.common.proofs.Fronts.{accesses-all, front-of-all}
+use Rattle.common.proofs.Fronts.{either-side, MetAccesses, met-start, met-on, first-none, next-front, next-last}
+use Rattle.common.proofs.Fronts.{next-both, accesses-all, front-of-all}
 
 -- One pass: q so far, with the accesses xs of which those in rest are still to be asked
 pub record Lowering (allow : ℕ → Access → Bool) (xs rest : List Access) (p q : ℕ) : Type 0 where
@@ -117,6 +117,16 @@ module _ {set : ℕ → Bool} {p : ℕ} where
     pub sink-end : q < 1 → GreatestTo set p q
     sink-end h = record { upto = i .upto; inside = λ l. absurd (omega arith); greatest = i .passed }
 
+-- The search goes on from q, with no point of the set passed on the way there
+greatest-after : {set : ℕ → Bool} {p q y : ℕ} → q ≤ p → ((x : ℕ) → q < x → x ≤ p → set x ≡ true → ⊥)
+    → GreatestTo set q y → GreatestTo set p y
+greatest-after {set} {p} {q} h n r =
+    record {
+      upto = omega (arith, r .upto);
+      inside = r .inside;
+      greatest = λ x f g t. either-side q x (λ l. n x l g t) (λ l. r .greatest x f l t);
+    }
+
 -- One access more, a
 module _ (allow : ℕ → Access → Bool) {c : Counts} {w : List ℕ} {k j : ℕ} {a : Access} (s : Next c w k j a) {p q : ℕ}
     (i : GreatestTo (λ x. all (allow x) (firstAccesses c w k j)) LAST p) (b : GreatestTo (λ x. allow x a) p q) where
@@ -126,27 +136,34 @@ module _ (allow : ℕ → Access → Bool) {c : Counts} {w : List ℕ} {k j : �
   abbrev ys : List Access
   ys = firstAccesses c w k (j + 1)
 
-  pub next-same : q ≡ p → GreatestTo (λ x. all (allow x) ys) LAST p
-  next-same e =
-      record {
-        upto = i .upto;
-        inside = λ l. rw (s .joined) (all-snoc (allow p) xs a (i .inside l) (rw e at (b .inside (omega arith))));
-        greatest = λ x f g t. i .greatest x f g (next-front c w k (allow x) s t);
-      }
+  next-more : {y : ℕ} → GreatestTo (λ x. all (allow x) ys) q y → GreatestTo (λ x. all (allow x) ys) LAST y
+  next-more r =
+      greatest-after (i .upto) (λ x f g t. i .greatest x f g (next-front c w k (allow x) s t))
+      (greatest-after (b .upto) (λ x f g t. b .greatest x f g (next-last c w k (allow x) s t)) r)
 
-  pub next-more : {y : ℕ} → GreatestTo (λ x. all (allow x) ys) q y → GreatestTo (λ x. all (allow x) ys) LAST y
-  next-more {y} r =
-      record {
-        upto = omega (arith, i .upto, b .upto, r .upto);
-        inside = r .inside;
-        greatest = λ x f g t. go x f g t (test (ltb p x)) (test (ltb q x));
-      }
-    where
-      go : (x : ℕ) → y < x → x ≤ LAST → all (allow x) ys ≡ true → (ltb p x ≡ true) ⊎ (ltb p x ≡ false)
-          → (ltb q x ≡ true) ⊎ (ltb q x ≡ false) → ⊥
-      go x f g t (inl u) v = i .greatest x (ltb-true p x u) g (next-front c w k (allow x) s t)
-      go x f g t (inr u) (inl v) = b .greatest x (ltb-true q x v) (ltb-false p x u) (next-last c w k (allow x) s t)
-      go x f g t (inr u) (inr v) = r .greatest x f (ltb-false q x v) t
+  -- q is the point if the first j accesses allow it
+  next-at : (1 ≤ q → all (allow q) xs ≡ true) → GreatestTo (λ x. all (allow x) ys) LAST q
+  next-at h =
+      next-more (record {
+        upto = omega arith;
+        inside = λ l. next-both c w k (allow q) s (h l) (b .inside l);
+        greatest = λ x f g. absurd (omega arith);
+      })
+
+  pub next-same : q ≡ p → GreatestTo (λ x. all (allow x) ys) LAST p
+  next-same e = rw e at (next-at (λ l. rw e (i .inside (omega arith))))
+
+  pub next-none : q < 1 → GreatestTo (λ x. all (allow x) ys) LAST q
+  next-none h = next-at (λ l. absurd (omega arith))
+
+  -- a pass over the first j, which leads to y
+  module _ {y : ℕ} (r : Lowered (λ x. all (allow x) xs) q y) where
+    pub next-still : y ≡ q → GreatestTo (λ x. all (allow x) ys) LAST y
+    next-still e = rw (sym e) at (next-at (λ l. rw e at (r .still e (omega arith))))
+
+    pub next-moved : {z : ℕ} → GreatestTo (λ x. all (allow x) ys) y z → GreatestTo (λ x. all (allow x) ys) LAST z
+    next-moved t =
+        next-more (greatest-after (r .upto) (λ x f g u. r .passed x f g (next-front c w k (allow x) s u)) t)
 
 -- The greatest point that all accesses allow is the latest
 pub is-latest : (rs : List Rec) (k : ℕ) (e : Edit) {p : ℕ} → GreatestTo (λ x. all (allows rs k x) (e .accesses)) LAST p

@@ -120,7 +120,8 @@ fn lift(w: &[u64], c: Counts, k: usize, p: u64, j: usize) -> u64
     q
 }
 
-// From the least point p that the first j accesses allow to that of one more, a.
+// From the least point p that the first j accesses allow to that of one more, a. Where a moves the point and the
+// first j allow it there, it is found: a has been asked already.
 fn lift_next(w: &[u64], c: Counts, k: usize, p: u64, j: usize, a: Access) -> u64
     requires { ⌜
         Fits c (now w) × IsRow (c .edits) k × (namesExisting (recordsOf c (now w)) (slotAt c (now w) k) ≡ true)
@@ -132,9 +133,16 @@ fn lift_next(w: &[u64], c: Counts, k: usize, p: u64, j: usize, a: Access) -> u64
         q
         ⌝ }
 {
-    let q = next_allowed(w, c, k, p, a);
-    if q == p {
+    let next = next_allowed(w, c, k, p, a);
+    if next == p {
         return p;
+    }
+    if LAST < next {
+        return next;
+    }
+    let q = raise(w, c, k, next, j);
+    if q == next {
+        return q;
     }
     lift(w, c, k, q, j + 1)
 }

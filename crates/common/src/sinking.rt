@@ -120,7 +120,7 @@ fn sink(w: &[u64], c: Counts, k: usize, p: u64, j: usize) -> u64
     q
 }
 
-// From the greatest point p that the first j accesses allow to that of one more, a.
+// From the greatest point p that the first j accesses allow to that of one more, a, as in `lift_next`.
 fn sink_next(w: &[u64], c: Counts, k: usize, p: u64, j: usize, a: Access) -> u64
     requires { ⌜
         Fits c (now w) × IsRow (c .edits) k × (namesExisting (recordsOf c (now w)) (slotAt c (now w) k) ≡ true)
@@ -132,9 +132,16 @@ fn sink_next(w: &[u64], c: Counts, k: usize, p: u64, j: usize, a: Access) -> u64
         LAST q
         ⌝ }
 {
-    let q = previous_allowed(w, c, k, p, a);
-    if q == p {
+    let next = previous_allowed(w, c, k, p, a);
+    if next == p {
         return p;
+    }
+    if next < LOWEST {
+        return next;
+    }
+    let q = lower(w, c, k, next, j);
+    if q == next {
+        return q;
     }
     sink(w, c, k, q, j + 1)
 }
