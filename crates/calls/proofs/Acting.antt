@@ -23,12 +23,18 @@ use Rattle.tables.specs.Decode.{decodeAt}
 use Rattle.tables.specs.Words.{lent, decode, formed, soundWords, Well}
 use Rattle.tables.proofs.Bridge.{well-out, well-in}
 use Rattle.tables.proofs.Decoded.{decoded-records, decoded-edits, records-length, edits-length}
+use Rattle.index.specs.Index.{Indexed}
 use Rattle.calls.specs.Contract.{Acts, Ready, Makes}
 
 -- what the words mean, by their counts
 pub decode-at : (c : Counts) (w : List ℕ) → c ≡ countsOf w → decode (lent w) ≡ decodeAt c w
 unfolding decode
 decode-at c w e = ap (λ (d : Counts). decodeAt d w) (sym e)
+
+-- an index of these words, by their counts
+pub indexed-at : {ix : List ℕ} (c : Counts) (w : List ℕ) → c ≡ countsOf w → Indexed (decode (lent w)) ix
+    → Indexed (decodeAt c w) ix
+indexed-at c w e I = rw (decode-at c w e) at I
 
 -- Sound words, at the start of a call.
 module _ (w : List ℕ) (h : soundWords (lent w) ≡ true) where

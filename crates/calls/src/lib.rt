@@ -1,7 +1,7 @@
 // The calls of document 01 on sound words: each equal to its definition in the crate `meaning`, and each leaving sound
-// words. Rests on the crates `types`, `meaning`, `chains`, `tables`, `changes`, `slots`, `lookups` and `blocking`.
-// They are for callers who prove the words sound (`requires soundWords`), once for many calls: no call here looks at
-// more than the chains it touches. The crate `store` has the same calls for everybody, with the check first.
+// words. Rests on the crates `types`, `meaning`, `chains`, `tables`, `changes`, `slots`, `lookups`, `blocking` and
+// `index`. They are for callers who prove the words sound (`requires soundWords`), once for many calls: no call here
+// looks at more than the chains it touches. The crate `store` has the same calls for everybody, with the check first.
 ghost use mathlib.Core.Path.{_≡_};
 ghost use mathlib.Core.Bool.{true};
 ghost use Prim.Native.Nat.{_≤_, _<_};
@@ -18,6 +18,7 @@ ghost use Rattle.tables.specs.Decode.{decodeAt};
 ghost use Rattle.tables.specs.Layout.{headerOk, Fits};
 ghost use Rattle.tables.specs.Words.{lent, decode, soundWords};
 ghost use Rattle.calls.specs.Contract.{Acts, Ready, Makes};
+ghost use Rattle.index.specs.Index.{Indexed};
 ghost use Rattle.calls.specs.Grants.{refusalBy};
 ghost use Rattle.calls.specs.Parts.{writeOpen};
 use blocking::Blocked;
@@ -94,13 +95,15 @@ pub fn begin(w: &mut [u64]) -> BeginReply
 }
 
 // Write, once the edit is open and the record there: one access row for a record new to the edit.
-fn write_open(w: &mut [u64], c: Counts, k: usize, rec: u64, pending: u64) -> WriteReply
-    requires { ⌜ Ready c (now w) × IsRow (c .edits) k ⌝ }
+fn write_open(w: &mut [u64], c: Counts, k: usize, rec: u64, pending: u64, ix: &[u16]) -> WriteReply
+    requires { ⌜
+        Ready c (now w) × IsRow (c .edits) k × (rec < c .records) × Indexed (decodeAt c (now w)) (now ix)
+        ⌝ }
     ensures { λ r. ⌜
         Makes c (writeOpen (decodeAt c (now (w .entry))) k rec pending) (now (w .entry)) (now (w .exit)) (ofWrite r)
         ⌝ }
 {
-    let i = lookups::access_row(w, c, k, rec);
+    let i = index::access_row(w, c, k, rec, ix);
     if !lookups::access_room(w, c, i) {
         return WriteReply::Refused(Refusal::NoAccessRow);
     }
@@ -122,8 +125,8 @@ fn write_open(w: &mut [u64], c: Counts, k: usize, rec: u64, pending: u64) -> Wri
 }
 
 // The call Write.
-pub fn write(w: &mut [u64], h: Handle, rec: u64, value: u64) -> WriteReply
-    requires { ⌜ soundWords (lent (now w)) ≡ true ⌝ }
+pub fn write(w: &mut [u64], h: Handle, rec: u64, value: u64, ix: &[u16]) -> WriteReply
+    requires { ⌜ (soundWords (lent (now w)) ≡ true) × Indexed (decode (lent (now w))) (now ix) ⌝ }
     ensures { λ r. ⌜ Acts (writing (h .0) rec value) (lent (now (w .entry))) (lent (now (w .exit))) (ofWrite r) ⌝ }
 {
     let c = tables::counts_of(w);
@@ -136,7 +139,7 @@ pub fn write(w: &mut [u64], h: Handle, rec: u64, value: u64) -> WriteReply
     if !has_record(c, rec) {
         return WriteReply::Refused(Refusal::NoRecord);
     }
-    write_open(w, c, slot(h), rec, value)
+    write_open(w, c, slot(h), rec, value, ix)
 }
 
 // The call View. It looks at one record's floor and versions, so words with a good header are enough.

@@ -1,7 +1,8 @@
 // Commit on sound words: equal to its definition in the crate `meaning`, and leaving sound words. For callers who prove
 // the words sound (`requires soundWords`), as the calls of `calls` and `endings`. It goes along the edit's accesses and
-// the locks of their records; if it settles the edit, along the locks of every record too. Rests on the crates `types`,
-// `meaning`, `chains`, `tables`, `changes`, `slots`, `lookups`, `common`, `calls` and `endings`.
+// the locks of their records; if it settles the edit, along the locks of each record that it may have touched. Rests on
+// the crates `types`, `meaning`, `chains`, `tables`, `changes`, `slots`, `lookups`, `common`, `index`, `calls` and
+// `endings`.
 ghost use mathlib.Core.Path.{_≡_};
 ghost use mathlib.Core.Bool.{true};
 ghost use mathlib.Core.List.{_∷_, []};
@@ -13,7 +14,8 @@ ghost use Rattle.types.specs.Replies.{nopoint, ofCommit};
 ghost use Rattle.meaning.specs.Ending.{finished, aborted, goodPick, commitOpen, committing};
 ghost use Rattle.meaning.specs.Points.{inCommon};
 ghost use Rattle.tables.specs.Decode.{accessAt, decodeAt};
-ghost use Rattle.tables.specs.Words.{lent, soundWords, Well};
+ghost use Rattle.tables.specs.Words.{lent, decode, soundWords, Well};
+ghost use Rattle.index.specs.Index.{Indexed};
 ghost use Rattle.changes.specs.Becomes.{Becomes, Beside};
 ghost use Rattle.calls.specs.Contract.{Acts, Ready, Makes};
 ghost use Rattle.meaning.specs.Outcomes.{replies, isPoint};
@@ -68,22 +70,25 @@ fn save_versions(w: &mut [u64], c: Counts, k: usize, t: u64)
     }
 }
 
-fn no_point(w: &mut [u64], c: Counts, k: usize, finish: Finish) -> CommitReply
-    requires { ⌜ Ready c (now w) × (editAt (decodeAt c (now w)) k .state ≡ OPEN) ⌝ }
+fn no_point(w: &mut [u64], c: Counts, k: usize, finish: Finish, ix: &[u16]) -> CommitReply
+    requires { ⌜
+        Ready c (now w) × (editAt (decodeAt c (now w)) k .state ≡ OPEN) × Indexed (decodeAt c (now w)) (now ix)
+        ⌝ }
     ensures { λ q. ⌜
         Makes c (replies (finished finish (aborted (decodeAt c (now (w .entry))) k) k) nopoint) (now (w .entry))
         (now (w .exit)) (ofCommit q)
         ⌝ }
 {
-    endings::end_aborted(w, c, k, finish);
+    endings::end_aborted(w, c, k, finish, ix);
     CommitReply::NoPoint
 }
 
 // At the point t of the common set. Nothing is saved where a version row is missing.
-fn commit_at(w: &mut [u64], c: Counts, k: usize, t: u64, finish: Finish) -> CommitReply
+fn commit_at(w: &mut [u64], c: Counts, k: usize, t: u64, finish: Finish, ix: &[u16]) -> CommitReply
     requires { ⌜
         Ready c (now w) × (editAt (decodeAt c (now w)) k .state ≡ OPEN)
         × (inCommon (decodeAt c (now w) .records) k (editAt (decodeAt c (now w)) k) t ≡ true)
+        × Indexed (decodeAt c (now w)) (now ix)
         ⌝ }
     ensures { λ q. ⌜
         Makes c (commitAt (decodeAt c (now (w .entry))) k t finish) (now (w .entry)) (now (w .exit)) (ofCommit q)
@@ -94,12 +99,14 @@ fn commit_at(w: &mut [u64], c: Counts, k: usize, t: u64, finish: Finish) -> Comm
     }
     save_versions(w, c, k, t);
     slots::set_state(w, c, k, COMMITTED, t);
-    endings::finish_slot(w, c, k, finish);
+    endings::finish_slot(w, c, k, finish, ix);
     CommitReply::Commit(types::point_of_word(t))
 }
 
-fn commit_earliest(w: &mut [u64], c: Counts, k: usize, finish: Finish) -> CommitReply
-    requires { ⌜ Ready c (now w) × (editAt (decodeAt c (now w)) k .state ≡ OPEN) ⌝ }
+fn commit_earliest(w: &mut [u64], c: Counts, k: usize, finish: Finish, ix: &[u16]) -> CommitReply
+    requires { ⌜
+        Ready c (now w) × (editAt (decodeAt c (now w)) k .state ≡ OPEN) × Indexed (decodeAt c (now w)) (now ix)
+        ⌝ }
     ensures { λ q. ⌜
         Makes c (commitOpen (decodeAt c (now (w .entry))) k Earliest finish) (now (w .entry)) (now (w .exit))
         (ofCommit q)
@@ -107,26 +114,37 @@ fn commit_earliest(w: &mut [u64], c: Counts, k: usize, finish: Finish) -> Commit
 {
     let t = common::earliest(w, c, k);
     if LAST < t {
-        return no_point(w, c, k, finish);
+        return no_point(w, c, k, finish, ix);
     }
-    commit_at(w, c, k, t, finish)
+    commit_at(w, c, k, t, finish, ix)
 }
 
-fn commit_latest(w: &mut [u64], c: Counts, k: usize, finish: Finish) -> CommitReply
-    requires { ⌜ Ready c (now w) × (editAt (decodeAt c (now w)) k .state ≡ OPEN) ⌝ }
+fn commit_latest(w: &mut [u64], c: Counts, k: usize, finish: Finish, ix: &[u16]) -> CommitReply
+    requires { ⌜
+        Ready c (now w) × (editAt (decodeAt c (now w)) k .state ≡ OPEN) × Indexed (decodeAt c (now w)) (now ix)
+        ⌝ }
     ensures { λ q. ⌜
         Makes c (commitOpen (decodeAt c (now (w .entry))) k Latest finish) (now (w .entry)) (now (w .exit)) (ofCommit q)
         ⌝ }
 {
     let t = common::latest(w, c, k);
     if t == 0 {
-        return no_point(w, c, k, finish);
+        return no_point(w, c, k, finish, ix);
     }
-    commit_at(w, c, k, t, finish)
+    commit_at(w, c, k, t, finish, ix)
 }
 
-fn commit_named(w: &mut [u64], c: Counts, k: usize, p: Point, finish: Finish) -> CommitReply
-    requires { ⌜ Ready c (now w) × (editAt (decodeAt c (now w)) k .state ≡ OPEN) ⌝ }
+fn commit_named(
+    w: &mut [u64],
+    c: Counts,
+    k: usize,
+    p: Point,
+    finish: Finish,
+    ix: &[u16],
+) -> CommitReply
+    requires { ⌜
+        Ready c (now w) × (editAt (decodeAt c (now w)) k .state ≡ OPEN) × Indexed (decodeAt c (now w)) (now ix)
+        ⌝ }
     ensures { λ q. ⌜
         Makes c (commitOpen (decodeAt c (now (w .entry))) k (Named p) finish) (now (w .entry)) (now (w .exit))
         (ofCommit q)
@@ -134,25 +152,34 @@ fn commit_named(w: &mut [u64], c: Counts, k: usize, p: Point, finish: Finish) ->
 {
     let x = types::word_of_point(p);
     if common::in_common(w, c, k, x) {
-        return commit_at(w, c, k, x, finish);
+        return commit_at(w, c, k, x, finish, ix);
     }
     let t = common::earliest(w, c, k);
     if LAST < t {
-        return no_point(w, c, k, finish);
+        return no_point(w, c, k, finish, ix);
     }
     CommitReply::Refused(Refusal::NotCommon)
 }
 
-fn commit_open(w: &mut [u64], c: Counts, k: usize, pick: Pick, finish: Finish) -> CommitReply
-    requires { ⌜ Ready c (now w) × (editAt (decodeAt c (now w)) k .state ≡ OPEN) ⌝ }
+fn commit_open(
+    w: &mut [u64],
+    c: Counts,
+    k: usize,
+    pick: Pick,
+    finish: Finish,
+    ix: &[u16],
+) -> CommitReply
+    requires { ⌜
+        Ready c (now w) × (editAt (decodeAt c (now w)) k .state ≡ OPEN) × Indexed (decodeAt c (now w)) (now ix)
+        ⌝ }
     ensures { λ q. ⌜
         Makes c (commitOpen (decodeAt c (now (w .entry))) k pick finish) (now (w .entry)) (now (w .exit)) (ofCommit q)
         ⌝ }
 {
     match pick {
-        Pick::Earliest => commit_earliest(w, c, k, finish),
-        Pick::Latest => commit_latest(w, c, k, finish),
-        Pick::Named(p) => commit_named(w, c, k, p, finish),
+        Pick::Earliest => commit_earliest(w, c, k, finish, ix),
+        Pick::Latest => commit_latest(w, c, k, finish, ix),
+        Pick::Named(p) => commit_named(w, c, k, p, finish, ix),
     }
 }
 
@@ -176,8 +203,8 @@ fn good_pick(pick: Pick) -> bool
     }
 }
 
-pub fn commit(w: &mut [u64], h: Handle, pick: Pick, finish: Finish) -> CommitReply
-    requires { ⌜ soundWords (lent (now w)) ≡ true ⌝ }
+pub fn commit(w: &mut [u64], h: Handle, pick: Pick, finish: Finish, ix: &[u16]) -> CommitReply
+    requires { ⌜ (soundWords (lent (now w)) ≡ true) × Indexed (decode (lent (now w))) (now ix) ⌝ }
     ensures { λ r. ⌜
         Acts (committing (h .0) pick finish) (lent (now (w .entry))) (lent (now (w .exit))) (ofCommit r)
         ⌝ }
@@ -192,5 +219,5 @@ pub fn commit(w: &mut [u64], h: Handle, pick: Pick, finish: Finish) -> CommitRep
     if !good_pick(pick) {
         return CommitReply::Refused(Refusal::BadPoint);
     }
-    commit_open(w, c, calls::slot(h), pick, finish)
+    commit_open(w, c, calls::slot(h), pick, finish, ix)
 }

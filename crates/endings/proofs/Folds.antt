@@ -1,22 +1,21 @@
 -- Changing the record of each access, one access after the other, changes every record by its own access, since an edit
--- names a record at most once; and taking slot k's locks from record n - 1, .., 0 takes them from all. Rests on
--- specs.Steps and Stores of `meaning`.
-use Prim.Native.Nat.{ℕ, zero, suc, _≤_, _<_}
+-- names a record at most once. Rests on specs.Steps and Stores of `meaning`.
+use Prim.Native.Nat.{ℕ, suc, _<_}
 use native.Mathlib.Omega.{arith}
-use native.Mathlib.Decide.{ℕ-discrete, decLt}
+use native.Mathlib.Decide.{ℕ-discrete}
 use mathlib.Core.Path.{_≡_, refl, sym, _∙_}
-use mathlib.Core.Bool.{Bool, true, false, not, cond}
+use mathlib.Core.Bool.{Bool, true, not}
 use mathlib.Core.List.{List, [], _∷_, List·Memᴰ·head, List·Memᴰ·tail}
-use lib.Dec.{eqb, ltb}
-use lib.ListN.{length, getD, set, length-set}
+use lib.Dec.{eqb}
+use lib.ListN.{length, set, length-set}
 use lib.Seq.{ext-getD, set-getD}
-use borrow.Author.Tests.{eq-eqb, ne-eqb, eqb-false, not-true, lt-ltb, le-ltb}
+use borrow.Author.Tests.{eq-eqb, ne-eqb, eqb-false, not-true}
 use Rattle.meaning.specs.Lists.{_∈_, all, find, pairwise, mapFrom}
 use Rattle.types.specs.declared.Access.{Access}
 use Rattle.meaning.specs.Store.{Rec, Store, freshRec, recOf, recAt, withRec, withRecords, isOf, noAccess}
 use Rattle.meaning.proofs.Lists.{and-left, and-right, all-out, length-mapFrom}
 use Rattle.meaning.proofs.Stores.{rec-same, rec-other, rec-map}
-use Rattle.endings.specs.Steps.{Existing, changed, along, freedRec, freedAt, freedBelow, freedAll}
+use Rattle.endings.specs.Steps.{Existing, changed, along}
 
 -- two lists of records are equal by their records
 pub recs-ext : (rs rs′ : List Rec) → length rs ≡ length rs′ → ((r : ℕ) → r < length rs → recOf rs r ≡ recOf rs′ r)
@@ -95,58 +94,3 @@ module _ (g : Access → Rec → Rec) (idle : (r : ℕ) (x : Rec) → g (noAcces
   along-all (a ∷ acc) s f e =
       along-all acc (changed g a s) (existing-rest a acc s f) (and-right (all (apart a) acc) (pairwise apart acc) e)
       ∙ one-more a acc s (f a (List·Memᴰ·head refl)) (and-left (all (apart a) acc) (pairwise apart acc) e)
-
--- slot k's locks, record by record
-module _ (k : ℕ) where
-  abbrev freeing : ℕ → ℕ → Rec → Rec
-  freeing n r x = cond (ltb r n) (freedRec k x) x
-
-  free-none : (i : ℕ) (rs : List Rec) → mapFrom i (freeing 0) rs ≡ rs
-  free-none i [] = refl
-  free-none i (x ∷ rs) = rw (le-ltb i 0 (omega arith), free-none (suc i) rs)
-
-  next-test : (i n : ℕ) → (i ≡ n → ⊥) → ltb i n ≡ ltb i (suc n)
-  next-test i n d = go (decLt i n)
-    where
-      go : Dec (i < n) → ltb i n ≡ ltb i (suc n)
-      go (yes h) = rw (lt-ltb i n h, lt-ltb i (suc n) (omega arith))
-      go (no h) = rw (le-ltb i n (omega arith), le-ltb i (suc n) (omega (arith, d)))
-
-  free-one : (n : ℕ) (s : Store) → n < length (s .records)
-      → withRecords (freedAt k n s) (mapFrom 0 (freeing n) (freedAt k n s .records))
-      ≡ withRecords s (mapFrom 0 (freeing (suc n)) (s .records))
-  unfolding freedAt withRecords
-  free-one n s h =
-      rw (map-set (freeing n) (s .records) n (freedRec k (recAt s n)) (freeing (suc n)) h
-      (rw (le-ltb n n (omega arith), lt-ltb n (suc n) (omega arith)) refl)
-      (λ i d. rw (next-test i n d) refl))
-      refl
-
-  freed-length : (n : ℕ) (s : Store) → length (freedAt k n s .records) ≡ length (s .records)
-  unfolding freedAt withRecords
-  freed-length n s = length-set (s .records) n (freedRec k (recAt s n))
-
-  freed-below : (n : ℕ) (s : Store) → n ≤ length (s .records)
-      → freedBelow k n s ≡ withRecords s (mapFrom 0 (freeing n) (s .records))
-  unfolding freedBelow withRecords
-  freed-below zero s h = rw (free-none 0 (s .records)) refl
-  freed-below (suc n) s h = freed-below n (freedAt k n s) (omega (arith, freed-length n s)) ∙ free-one n s h
-
-  pub freed-all : (s : Store) → freedBelow k (length (s .records)) s ≡ freedAll k s
-  unfolding freedAll withRecords
-  freed-all s = freed-below (length (s .records)) s (omega arith) ∙ rw same refl
-    where
-      at : (r : ℕ) → r < length (s .records) → freeing (length (s .records)) r (recAt s r) ≡ freedRec k (recAt s r)
-      at r h = rw (lt-ltb r (length (s .records)) h) refl
-
-      same : mapFrom 0 (freeing (length (s .records))) (s .records) ≡ mapFrom 0 (λ r x. freedRec k x) (s .records)
-      same =
-          recs-ext (mapFrom 0 (freeing (length (s .records))) (s .records))
-          (mapFrom 0 (λ r x. freedRec k x) (s .records))
-          (length-mapFrom (freeing (length (s .records))) 0 (s .records)
-          ∙ sym (length-mapFrom (λ r x. freedRec k x) 0 (s .records)))
-          (λ r l.
-          let h : r < length (s .records) =
-          omega (arith, length-mapFrom (freeing (length (s .records))) 0 (s .records)) in
-          rec-map (freeing (length (s .records))) (s .records) r h ∙ at r h
-          ∙ sym (rec-map (λ r x. freedRec k x) (s .records) r h))

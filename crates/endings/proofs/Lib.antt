@@ -1,5 +1,5 @@
 -- Laws of Settle, Abort and Commit: the loops over records and accesses, and how an edit ends. Rests on the crates
--- `changes`, `lookups` and `calls`.
+-- `changes`, `lookups`, `index` and `calls`.
 pub mod Folds
 pub mod Saving
 pub mod Leaving
@@ -10,3 +10,4 @@ pub mod FreeLoop
 pub mod Settling
 pub mod Ended
 pub mod EndActs
+pub mod Noted

@@ -1,6 +1,6 @@
 -- What the loops of Commit and Settle make of a store, one access or one record after the other. Rests on Ending of
 -- `meaning`.
-use Prim.Native.Nat.{ℕ, zero, suc, _+_, _≤_, _<_}
+use Prim.Native.Nat.{ℕ, _+_, _≤_, _<_}
 use mathlib.Core.Bool.{Bool, cond}
 use mathlib.Core.List.{List, [], _∷_}
 use lib.Dec.{eqb}
@@ -35,16 +35,9 @@ unfoldable pub leftRec : ℕ → Access → Rec → Rec
 leftRec t a x =
     withLocks x (leaveSettled (a .written) WRITE t t (leaveSettled (hasRead a) READ (a .from) t (x .locks)))
 
--- Settle: record r loses slot k's locks; the records below r; all records
+-- Settle: a record loses slot k's locks; all records
 unfoldable pub freedRec : ℕ → Rec → Rec
 freedRec k x = withLocks x (dropOwner k (x .locks))
-
-unfoldable pub freedAt : ℕ → ℕ → Store → Store
-freedAt k r s = withRec s r (freedRec k (recAt s r))
-
-unfoldable pub freedBelow : ℕ → ℕ → Store → Store
-freedBelow k zero s = s
-freedBelow k (suc r) s = freedBelow k r (freedAt k r s)
 
 unfoldable pub freedAll : ℕ → Store → Store
 freedAll k s = withRecords s (mapFrom 0 (λ r x. freedRec k x) (s .records))

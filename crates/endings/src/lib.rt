@@ -1,7 +1,7 @@
 // Settle and Abort on sound words: each equal to its definition in the crate `meaning`, and each leaving sound words.
-// Rests on the crates `types`, `meaning`, `chains`, `tables`, `changes`, `slots`, `lookups` and `calls`.  They are for
-// callers who prove the words sound (`requires soundWords`), as those of the crate `calls`. No call here looks at more
-// than the chains it touches; Settle looks at the locks of every record once.
+// Rests on the crates `types`, `meaning`, `chains`, `tables`, `changes`, `slots`, `lookups`, `index` and `calls`. They
+// are for callers who prove the words sound (`requires soundWords`), as those of the crate `calls`. No call here looks
+// at more than the chains it touches; Settle looks once at the locks of each record that the edit may have touched.
 ghost use mathlib.Core.Path.{_≡_};
 ghost use mathlib.Core.Bool.{true};
 ghost use mathlib.Core.List.{_∷_, []};
@@ -14,10 +14,12 @@ ghost use Rattle.meaning.specs.Ending.{finished, aborted, settled, aborting, se
 ghost use Rattle.meaning.specs.Points.{leaveSettled};
 ghost use Rattle.tables.specs.Layout.{MODES};
 ghost use Rattle.tables.specs.Decode.{accessAt, decodeAt};
-ghost use Rattle.tables.specs.Words.{lent, soundWords, Well};
+ghost use Rattle.tables.specs.Words.{lent, decode, soundWords, Well};
 ghost use Rattle.changes.specs.Becomes.{Becomes, Beside, onLocks};
 ghost use Rattle.calls.specs.Contract.{Acts, Ready};
+ghost use Rattle.index.specs.Index.{Indexed};
 ghost use Rattle.endings.specs.Steps.{changed, along, leftRec, leftBy, freedAll, mark, LeaveNeed};
+ghost use Rattle.endings.specs.Frees.{Freed};
 use types::ABORTED;
 use types::AbortReply;
 use types::COMMITTED;
@@ -80,16 +82,28 @@ fn leave_rows(w: &mut [u64], c: Counts, k: usize, t: u64)
     }
 }
 
-// Slot k's locks go, from every record.
-fn free_locks(w: &mut [u64], c: Counts, k: usize)
-    requires { ⌜ Well c (now w) ⌝ }
+// Slot k's locks go from record r, if there is such a record and the index does not say that the slot has none there.
+fn free_turn(w: &mut [u64], c: Counts, k: usize, r: usize, ix: &[u16])
+    requires { ⌜ Well c (now w) × IsRow (c .edits) k × Indexed (decodeAt c (now w)) (now ix) ⌝ }
+    ensures { λ _. ⌜ Freed k c (now (ix .entry)) (now (w .entry)) (now (w .exit)) r ⌝ }
+{
+    if r < c.records {
+        if !index::silent(ix, k, r) {
+            changes::drop_owner(w, c, r, chains::word(k));
+        }
+    }
+}
+
+// Slot k's locks go, from every record that it may have touched.
+fn free_locks(w: &mut [u64], c: Counts, k: usize, ix: &[u16])
+    requires { ⌜ Well c (now w) × IsRow (c .edits) k × Indexed (decodeAt c (now w)) (now ix) ⌝ }
     ensures { λ _. ⌜ Becomes c (now (w .exit)) (freedAll k (decodeAt c (now (w .entry)))) ⌝ }
 {
-    let owner = chains::word(k);
-    let mut r = c.records;
-    while 0 < r {
-        r -= 1;
-        changes::drop_owner(w, c, r, owner);
+    let n = index::turns(ix, k, c.records);
+    let mut i = 0;
+    while i < n {
+        free_turn(w, c, k, index::turn(ix, k, i), ix);
+        i += 1;
     }
 }
 
@@ -107,30 +121,34 @@ fn leave_ended(w: &mut [u64], c: Counts, k: usize, state: u64, t: u64)
 }
 
 // Slot k's own locks go first, so that there is a row for each that is left.
-fn settle_slot(w: &mut [u64], c: Counts, k: usize)
-    requires { ⌜ Ready c (now w) × (inUse (decodeAt c (now w) .edits) k ≡ true) ⌝ }
+fn settle_slot(w: &mut [u64], c: Counts, k: usize, ix: &[u16])
+    requires { ⌜
+        Ready c (now w) × (inUse (decodeAt c (now w) .edits) k ≡ true) × Indexed (decodeAt c (now w)) (now ix)
+        ⌝ }
     ensures { λ _. ⌜ Becomes c (now (w .exit)) (settled (decodeAt c (now (w .entry))) k) ⌝ }
 {
     let state = tables::state_of(w, c, k);
     let t = tables::point_of(w, c, k);
-    free_locks(w, c, k);
+    free_locks(w, c, k, ix);
     leave_ended(w, c, k, state, t);
     slots::free_slot(w, c, k);
 }
 
 // S settles at the end, K keeps the locks.
-pub fn finish_slot(w: &mut [u64], c: Counts, k: usize, finish: Finish)
-    requires { ⌜ Ready c (now w) × (inUse (decodeAt c (now w) .edits) k ≡ true) ⌝ }
+pub fn finish_slot(w: &mut [u64], c: Counts, k: usize, finish: Finish, ix: &[u16])
+    requires { ⌜
+        Ready c (now w) × (inUse (decodeAt c (now w) .edits) k ≡ true) × Indexed (decodeAt c (now w)) (now ix)
+        ⌝ }
     ensures { λ _. ⌜ Becomes c (now (w .exit)) (finished finish (decodeAt c (now (w .entry))) k) ⌝ }
 {
     match finish {
-        Finish::Settle => settle_slot(w, c, k),
+        Finish::Settle => settle_slot(w, c, k, ix),
         Finish::Keep => {}
     }
 }
 
-pub fn settle(w: &mut [u64], h: Handle) -> SettleReply
-    requires { ⌜ soundWords (lent (now w)) ≡ true ⌝ }
+pub fn settle(w: &mut [u64], h: Handle, ix: &[u16]) -> SettleReply
+    requires { ⌜ (soundWords (lent (now w)) ≡ true) × Indexed (decode (lent (now w))) (now ix) ⌝ }
     ensures { λ r. ⌜ Acts (settling (h .0)) (lent (now (w .entry))) (lent (now (w .exit))) (ofSettle r) ⌝ }
 {
     let c = tables::counts_of(w);
@@ -140,22 +158,24 @@ pub fn settle(w: &mut [u64], h: Handle) -> SettleReply
     if lookups::is_open(w, c, h) {
         return SettleReply::Refused(Refusal::EditOpen);
     }
-    settle_slot(w, c, calls::slot(h));
+    settle_slot(w, c, calls::slot(h), ix);
     SettleReply::Done
 }
 
 // Abort, and Commit of an edit without a common point.
 
-pub fn end_aborted(w: &mut [u64], c: Counts, k: usize, finish: Finish)
-    requires { ⌜ Ready c (now w) × (editAt (decodeAt c (now w)) k .state ≡ OPEN) ⌝ }
+pub fn end_aborted(w: &mut [u64], c: Counts, k: usize, finish: Finish, ix: &[u16])
+    requires { ⌜
+        Ready c (now w) × (editAt (decodeAt c (now w)) k .state ≡ OPEN) × Indexed (decodeAt c (now w)) (now ix)
+        ⌝ }
     ensures { λ _. ⌜ Becomes c (now (w .exit)) (finished finish (aborted (decodeAt c (now (w .entry))) k) k) ⌝ }
 {
     slots::set_state(w, c, k, ABORTED, 0);
-    finish_slot(w, c, k, finish);
+    finish_slot(w, c, k, finish, ix);
 }
 
-pub fn abort(w: &mut [u64], h: Handle, finish: Finish) -> AbortReply
-    requires { ⌜ soundWords (lent (now w)) ≡ true ⌝ }
+pub fn abort(w: &mut [u64], h: Handle, finish: Finish, ix: &[u16]) -> AbortReply
+    requires { ⌜ (soundWords (lent (now w)) ≡ true) × Indexed (decode (lent (now w))) (now ix) ⌝ }
     ensures { λ r. ⌜ Acts (aborting (h .0) finish) (lent (now (w .entry))) (lent (now (w .exit))) (ofAbort r) ⌝ }
 {
     let c = tables::counts_of(w);
@@ -165,6 +185,6 @@ pub fn abort(w: &mut [u64], h: Handle, finish: Finish) -> AbortReply
     if !lookups::is_open(w, c, h) {
         return AbortReply::Refused(Refusal::EditEnded);
     }
-    end_aborted(w, c, calls::slot(h), finish);
+    end_aborted(w, c, calls::slot(h), finish, ix);
     AbortReply::Done
 }

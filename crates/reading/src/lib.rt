@@ -1,7 +1,7 @@
 // Read on sound words: equal to its definition in the crate `meaning`, and leaving sound words. For callers who prove
-// the words sound (`requires soundWords`), as the calls of `calls`. It goes along the edit's accesses, and along one
-// record's versions and locks. Rests on the crates `types`, `meaning`, `chains`, `tables`, `changes`, `slots`,
-// `lookups`, `blocking` and `calls`.
+// the words sound (`requires soundWords`), as the calls of `calls`. It goes along the edit's accesses, unless the index
+// says that the record is new to it, and along one record's versions and locks. Rests on the crates `types`, `meaning`,
+// `chains`, `tables`, `changes`, `slots`, `lookups`, `blocking`, `index` and `calls`.
 ghost use mathlib.Core.Path.{_≡_};
 ghost use mathlib.Core.Bool.{true};
 ghost use Prim.Native.Nat.{_≤_, _<_};
@@ -11,7 +11,8 @@ ghost use Rattle.meaning.specs.Locking.{readNew, readOpen, reading};
 ghost use Rattle.types.specs.Replies.{ofRead};
 ghost use Rattle.types.specs.declared.Extent.the-variants.{Part};
 ghost use Rattle.tables.specs.Decode.{decodeAt, AccessRow};
-ghost use Rattle.tables.specs.Words.{lent, soundWords};
+ghost use Rattle.tables.specs.Words.{lent, decode, soundWords};
+ghost use Rattle.index.specs.Index.{Indexed};
 ghost use Rattle.calls.specs.Contract.{Acts, Ready, Makes};
 ghost use Rattle.calls.specs.Grants.{readGrant};
 ghost use Rattle.calls.specs.Parts.{readTaken};
@@ -130,13 +131,23 @@ fn read_new(
 }
 
 // Read, once its first tests have passed: an own pending value, the version read before, or a new read.
-fn read_open(w: &mut [u64], c: Counts, k: usize, r: usize, m: u64, extent: Extent) -> ReadReply
-    requires { ⌜ Ready c (now w) × IsRow (c .edits) k × (r < c .records) × (m ≤ LAST) ⌝ }
+fn read_open(
+    w: &mut [u64],
+    c: Counts,
+    k: usize,
+    r: usize,
+    m: u64,
+    extent: Extent,
+    ix: &[u16],
+) -> ReadReply
+    requires { ⌜
+        Ready c (now w) × IsRow (c .edits) k × (r < c .records) × (m ≤ LAST) × Indexed (decodeAt c (now w)) (now ix)
+        ⌝ }
     ensures { λ q. ⌜
         Makes c (readOpen (decodeAt c (now (w .entry))) k r m extent) (now (w .entry)) (now (w .exit)) (ofRead q)
         ⌝ }
 {
-    let i = lookups::access_row(w, c, k, r as u64);
+    let i = index::access_row(w, c, k, r as u64, ix);
     let a = lookups::access_in(w, c, r as u64, i);
     if a.written {
         return ReadReply::Own(a.value);
@@ -150,8 +161,8 @@ fn read_open(w: &mut [u64], c: Counts, k: usize, r: usize, m: u64, extent: Exten
 }
 
 // The call Read.
-pub fn read(w: &mut [u64], h: Handle, rec: u64, m: Point, extent: Extent) -> ReadReply
-    requires { ⌜ soundWords (lent (now w)) ≡ true ⌝ }
+pub fn read(w: &mut [u64], h: Handle, rec: u64, m: Point, extent: Extent, ix: &[u16]) -> ReadReply
+    requires { ⌜ (soundWords (lent (now w)) ≡ true) × Indexed (decode (lent (now w))) (now ix) ⌝ }
     ensures { λ r. ⌜
         Acts (reading (h .0) rec (m .0) extent) (lent (now (w .entry))) (lent (now (w .exit))) (ofRead r)
         ⌝ }
@@ -173,5 +184,5 @@ pub fn read(w: &mut [u64], h: Handle, rec: u64, m: Point, extent: Extent) -> Rea
     if LAST < n {
         return ReadReply::Refused(Refusal::BadPoint);
     }
-    read_open(w, c, calls::slot(h), rec as usize, n, extent)
+    read_open(w, c, calls::slot(h), rec as usize, n, extent, ix)
 }

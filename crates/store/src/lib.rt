@@ -1,7 +1,8 @@
 // The public calls of the store, on lent words. Each checks the words first (refusal 1) and then does what its
 // definition says; none has a `requires`. The contract of each settles its reply and what the words mean afterwards,
-// for every slice and argument. Rests on the crates `types`, `meaning`, `tables`, `soundness`, `format`, `lookups`,
-// `calls`, `locking`, `reading`, `endings`, `commits` and `purges`.
+// for every slice and argument. The calls below are lent an index that says nothing, a slice of one number: to make one
+// would take longer than a call. Rests on the crates `types`, `meaning`, `tables`, `soundness`, `format`, `lookups`,
+// `index`, `calls`, `locking`, `reading`, `endings`, `commits` and `purges`.
 ghost use Rattle.types.specs.Replies.{ofPoint, ofFormat, ofBegin, ofWrite, ofLock, ofRead, ofCommit, ofAbort};
 ghost use Rattle.types.specs.Replies.{ofSettle, ofPurge, ofView, ofAnswer};
 ghost use Rattle.meaning.specs.Edits.{beginning, writing};
@@ -86,7 +87,7 @@ pub fn write(words: &mut [u64], h: Handle, rec: u64, value: u64) -> WriteReply
     ensures { λ r. ⌜ Does (writing (h .0) rec value) (now (words .entry)) (now (words .exit)) (ofWrite r) ⌝ }
 {
     if soundness::check(words) {
-        calls::write(words, h, rec, value)
+        calls::write(words, h, rec, value, &[index::UNKNOWN; 1])
     } else {
         WriteReply::Refused(Refusal::Unsound)
     }
@@ -115,7 +116,7 @@ pub fn read(words: &mut [u64], h: Handle, rec: u64, m: Point, extent: Extent) ->
     ensures { λ r. ⌜ Does (reading (h .0) rec (m .0) extent) (now (words .entry)) (now (words .exit)) (ofRead r) ⌝ }
 {
     if soundness::check(words) {
-        reading::read(words, h, rec, m, extent)
+        reading::read(words, h, rec, m, extent, &[index::UNKNOWN; 1])
     } else {
         ReadReply::Refused(Refusal::Unsound)
     }
@@ -125,7 +126,7 @@ pub fn commit(words: &mut [u64], h: Handle, pick: Pick, finish: Finish) -> Commi
     ensures { λ r. ⌜ Does (committing (h .0) pick finish) (now (words .entry)) (now (words .exit)) (ofCommit r) ⌝ }
 {
     if soundness::check(words) {
-        commits::commit(words, h, pick, finish)
+        commits::commit(words, h, pick, finish, &[index::UNKNOWN; 1])
     } else {
         CommitReply::Refused(Refusal::Unsound)
     }
@@ -135,7 +136,7 @@ pub fn abort(words: &mut [u64], h: Handle, finish: Finish) -> AbortReply
     ensures { λ r. ⌜ Does (aborting (h .0) finish) (now (words .entry)) (now (words .exit)) (ofAbort r) ⌝ }
 {
     if soundness::check(words) {
-        endings::abort(words, h, finish)
+        endings::abort(words, h, finish, &[index::UNKNOWN; 1])
     } else {
         AbortReply::Refused(Refusal::Unsound)
     }
@@ -145,7 +146,7 @@ pub fn settle(words: &mut [u64], h: Handle) -> SettleReply
     ensures { λ r. ⌜ Does (settling (h .0)) (now (words .entry)) (now (words .exit)) (ofSettle r) ⌝ }
 {
     if soundness::check(words) {
-        endings::settle(words, h)
+        endings::settle(words, h, &[index::UNKNOWN; 1])
     } else {
         SettleReply::Refused(Refusal::Unsound)
     }

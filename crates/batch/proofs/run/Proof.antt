@@ -1,67 +1,69 @@
 -- `run` meets its contract: after i turns the first i calls are done and told. The measure is what is left. Assumes
 -- nothing.
-use Prim.Native.Nat.{_-_}
+use mathlib.Core.Path.{refl}
 use native.Mathlib.Omega.{arith}
-use Rattle.batch.proofs.Running.{Running, call-fits, reply-fits, run-start, run-again, run-done}
+use Rattle.index.proofs.Unknown.{no-index, unknown-new}
 use borrow.Author.Needs.{needs}
 use Rattle.batch.proofs.run.Statement.{statement}
 use Rattle.batch.proofs.run.Tie as tie
 
-abbrev Inv-loop : tie.InvT-loop
-Inv-loop words₀ list replies₀ good n i₀ words replies i = Running list words₀ replies₀ good n i words replies
-
-abbrev μ-loop : tie.MeasureT-loop
-μ-loop words₀ list replies₀ good n i₀ words replies i = n - i
-
-check-requires : tie.Need-check-requires Inv-loop μ-loop
+check-requires : tie.Need-check-requires
 check-requires c κs = search needs
 
-least-requires : tie.Need-least-requires Inv-loop μ-loop
+least-requires : tie.Need-least-requires
 least-requires c κs = search needs
 
-loop-holds : tie.Need-loop-holds Inv-loop μ-loop
-loop-holds c = run-start (c .before .check .ensures) (c .least .ensures)
+slice-aggregate-steps : tie.Need-slice-aggregate-steps
+slice-aggregate-steps c = search needs
 
-step-requires : tie.Need-step-requires Inv-loop μ-loop
-step-requires c κs =
-    let r = c .before .before .before .loop .inv in
-    (r .sound, call-fits r (omega arith), reply-fits r (omega arith))
+steps-requires : tie.Need-steps-requires
+steps-requires c κs = (
+  c .before .before .before .before .before .check .ensures,
+  c .before .before .before .before .least .ensures,
+  no-index _ (λ e. omega (arith, e)),
+)
 
-add-i : tie.Need-add-i Inv-loop μ-loop
-add-i c = omega arith
+same-length : tie.Need-same-length
+same-length c = search needs
 
-loop-less : tie.Need-loop-less Inv-loop μ-loop
-loop-less c = omega arith
+same-length-2 : tie.Need-same-length-2
+same-length-2 c = search needs
 
-loop-again : tie.Need-loop-again Inv-loop μ-loop
-loop-again c =
-    run-again (c .before .before .before .before .before .before .before .before .loop .inv)
-    (omega arith)
-    (search needs)
-    (c .before .before .before .before .step .ensures)
+returns : tie.Need-returns
+returns c = c .before .before .before .before .before .steps .ensures
 
-same-length : tie.Need-same-length Inv-loop μ-loop
-same-length c = c .before .loop .inv .size
+slice-aggregate-steps-2 : tie.Need-slice-aggregate-steps-2
+slice-aggregate-steps-2 c = search needs
 
-same-length-2 : tie.Need-same-length-2 Inv-loop μ-loop
-same-length-2 c = c .before .loop .inv .told .size
+steps-requires-2 : tie.Need-steps-requires-2
+steps-requires-2 c κs = (
+  c .before .before .before .before .before .check .ensures,
+  c .before .before .before .before .least .ensures,
+  unknown-new _ refl,
+)
 
-returns : tie.Need-returns Inv-loop μ-loop
-returns c = run-done (c .before .loop .inv) (omega arith)
+same-length-3 : tie.Need-same-length-3
+same-length-3 c = search needs
+
+same-length-4 : tie.Need-same-length-4
+same-length-4 c = search needs
+
+returns-2 : tie.Need-returns-2
+returns-2 c = c .before .before .before .before .before .steps2 .ensures
 
 pub run-spec : {M : Type 1} → statement M
 run-spec =
     tie.close
     (tie.spec
-    Inv-loop
-    μ-loop
     check-requires
     least-requires
-    loop-holds
-    step-requires
-    add-i
-    loop-less
-    loop-again
+    slice-aggregate-steps
+    steps-requires
     same-length
     same-length-2
-    returns)
+    returns
+    slice-aggregate-steps-2
+    steps-requires-2
+    same-length-3
+    same-length-4
+    returns-2)

@@ -8,7 +8,11 @@ call-at-requires : tie.Need-call-at-requires
 call-at-requires c κs = search needs
 
 answer-requires : tie.Need-answer-requires
-answer-requires c κs = search needs
+answer-requires c κs = (
+  c .before .before .before .before .before .before .before .pre .0,
+  c .before .before .before .before .before
+      .before .before .pre .3,
+)
 
 mul-put-row : tie.Need-mul-put-row
 mul-put-row c = search needs
@@ -22,11 +26,16 @@ same-length c = search needs
 same-length-2 : tie.Need-same-length-2
 same-length-2 c = search needs
 
+same-length-3 : tie.Need-same-length-3
+same-length-3 c = search needs
+
 returns : tie.Need-returns
-returns c =
-    stepped (c .before .before .before .before .before .before .before .call-at .ensures)
-    (c .before .before .before .before .before .before .answer .ensures)
-    (c .before .before .put-row .ensures)
+returns c = (
+  stepped (c .before .before .before .before .before .before .before .before .before .before .call-at .ensures) (c
+      .before .before .before .before .before .before .before .before .answer .ensures .0) (c .before .before .put-row
+      .ensures),
+  c .before .before .before .before .before .before .before .before .answer .ensures .1,
+)
 
 pub step-spec : {M : Type 1} → statement M
 step-spec =
@@ -38,4 +47,5 @@ step-spec =
     put-row-requires
     same-length
     same-length-2
+    same-length-3
     returns)

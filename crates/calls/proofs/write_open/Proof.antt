@@ -8,55 +8,67 @@ use Rattle.calls.proofs.write_open.Statement.{statement}
 use Rattle.calls.proofs.write_open.Tie as tie
 
 access-row-requires : tie.Need-access-row-requires
-access-row-requires c κs = (c .before .before .pre .0 .well .fits, c .before .before .pre .1)
+access-row-requires c κs = (
+  c .before .before .before .pre .0 .well .fits,
+  c .before .before .before .pre .1,
+  c .before .before .before .pre
+      .2,
+  c .before .before .before .pre .3,
+)
 
 access-room-requires : tie.Need-access-room-requires
-access-room-requires c κs = c .before .before .before .before .pre .0 .well
+access-room-requires c κs = c .before .before .before .before .before .pre .0 .well
 
 same-length : tie.Need-same-length
 same-length c = search needs
 
 returns : tie.Need-returns
 returns c =
-    let s = c .before .before .before .before .before .before in
-    open-no-room _ _ (s .pre .0) _ _ _
-    (off (c .before .access-room .ensures (s .args .k) (s .args .rec) (s .pre .1)
-    (c .before .before .before .access-row .ensures))
-    (c .if1 .taken))
+    open-no-room _ _ (c .before .before .before .before .before .before .before .pre .0) _ _ _ (off (c .before
+    .access-room .ensures (c .before .before .before .before .before .before .before .args .k) (c .before .before
+    .before .before .before .before .before .args .rec) (c .before .before .before .before .before .before .before
+    .pre .1) (c .before .before .before .access-row .ensures)) (c .if1 .taken))
 
 access-in-requires : tie.Need-access-in-requires
-access-in-requires c κs =
-    let s = c .before .before .before .before .before .before .before in (
-      s .pre .0 .well .fits,
-      access-within _ _ (s .args .k) (s .args .rec) _ (c .before .before .before .before .access-row .ensures),
-    )
+access-in-requires c κs = (
+  c .before .before .before .before .before .before .before .before .pre .0 .well .fits,
+  access-within _ _ (c
+      .before .before .before .before .before .before .before .before .args .k) (c .before .before .before .before
+      .before .before .before .before .args .rec) _ (c .before .before .before .before .access-row .ensures),
+)
 
 set-access-requires : tie.Need-set-access-requires
-set-access-requires c κs =
-    let s = c .before .before .before .before .before .before .before .before .before in (
-      s .pre .0 .well,
-      s .pre .1,
-      once _ _ (s .pre .0) _,
-      on (c .before .before .before .before .access-room .ensures (s .args .k) (s .args .rec) (s .pre .1)
-          (c .before .before .before .before .before .before .access-row .ensures))
-          (c .before .before .before .if1 .left),
-      c .before .before .before .before .before .before .access-row .ensures,
-    )
+set-access-requires c κs = (
+  c .before .before .before .before .before .before .before .before .before .before .pre .0 .well,
+  c .before
+      .before .before .before .before .before .before .before .before .before .pre .1,
+  once _ _ (c .before .before
+      .before .before .before .before .before .before .before .before .pre .0) _,
+  on (c .before .before .before .before
+      .access-room .ensures (c .before .before .before .before .before .before .before .before .before .before .args .k)
+      (c .before .before .before .before .before .before .before .before .before .before .args .rec) (c .before .before
+      .before .before .before .before .before .before .before .before .pre .1) (c .before .before .before .before
+      .before .before .access-row .ensures)) (c .before .before .before .if1 .left),
+  c .before .before .before .before
+      .before .before .access-row .ensures,
+)
 
 same-length-2 : tie.Need-same-length-2
 same-length-2 c = search needs
 
 returns-2 : tie.Need-returns-2
 returns-2 c =
-    let middle = c .before .before .before .before .before .before in
-    let start = middle .before .before .before .before .before .before in
-    let s = start in
-    open-wrote _ _ (s .pre .0) _ _ _ (s .pre .1)
-    (on (middle .before .access-room .ensures (s .args .k) (s .args .rec) (s .pre .1)
-    (middle .before .before .before .access-row .ensures))
-    (middle .if1 .left)) _
-    (c .before .before .before .before .access-in .ensures (s .args .k)
-    (middle .before .before .before .access-row .ensures)) _ (c .before .before .set-access .ensures)
+    open-wrote _ _ (c .before .before .before .before .before .before .before .before .before .before .before .before
+    .before .pre .0) _ _ _ (c .before .before .before .before .before .before .before .before .before .before .before
+    .before .before .pre .1) (on (c .before .before .before .before .before .before .before .access-room .ensures (c
+    .before .before .before .before .before .before .before .before .before .before .before .before .before .args .k)
+    (c .before .before .before .before .before .before .before .before .before .before .before .before .before .args
+    .rec) (c .before .before .before .before .before .before .before .before .before .before .before .before .before
+    .pre .1) (c .before .before .before .before .before .before .before .before .before .access-row .ensures)) (c
+    .before .before .before .before .before .before .if1 .left)) _ (c .before .before .before .before .access-in
+    .ensures (c .before .before .before .before .before .before .before .before .before .before .before .before
+    .before .args .k) (c .before .before .before .before .before .before .before .before .before .access-row
+    .ensures)) _ (c .before .before .set-access .ensures)
 
 pub write-open-spec : {M : Type 1} → statement M
 write-open-spec =

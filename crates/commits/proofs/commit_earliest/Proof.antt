@@ -7,34 +7,42 @@ use Rattle.commits.proofs.commit_earliest.Tie as tie
 
 earliest-requires : tie.Need-earliest-requires
 earliest-requires c κs =
-    search-needs (c .before .before .args .c) (c .before .before .args .w .now) (c .before .before .args .k)
-    (c .before .before .pre .0) (c .before .before .pre .1)
+    search-needs (c .before .before .before .args .c) (c .before .before .before .args .w .now) (c .before .before
+    .before .args .k) (c .before .before .before .pre .0) (c .before .before .before .pre .1)
 
 no-point-requires : tie.Need-no-point-requires
-no-point-requires c κs =
-    (c .before .before .before .before .before .pre .0, c .before .before .before .before .before .pre .1)
+no-point-requires c κs = (
+  c .before .before .before .before .before .before .pre .0,
+  c .before .before .before .before .before .before .pre
+      .1,
+  c .before .before .before .before .before .before .pre .2,
+)
 
 same-length : tie.Need-same-length
 same-length c = search needs
 
 returns : tie.Need-returns
 returns c =
-    let start = c .before .before .before .before .before .before .before .before in
-    earliest-none (start .args .c) (start .args .w .now) (start .args .k) (start .pre .0) (start .pre .1)
-    (start .args .finish) (c .before .before .before .before .before .earliest .result) _ _
-    (c .before .before .before .before .before .earliest .ensures) (c .before .before .before .before .if1 .taken)
-    (c .before .before .no-point .ensures)
+    earliest-none (c .before .before .before .before .before .before .before .before .before .args .c) (c .before
+    .before .before .before .before .before .before .before .before .args .w .now) (c .before .before .before .before
+    .before .before .before .before .before .args .k) (c .before .before .before .before .before .before .before
+    .before .before .pre .0) (c .before .before .before .before .before .before .before .before .before .pre .1) (c
+    .before .before .before .before .before .before .before .before .before .args .finish) (c .before .before .before
+    .before .before .earliest .result) _ _ (c .before .before .before .before .before .earliest .ensures) (c .before
+    .before .before .before .if1 .taken) (c .before .before .no-point .ensures)
 
 commit-at-requires : tie.Need-commit-at-requires
 commit-at-requires c κs = (
-  c .before .before .before .before .before .pre .0,
-  c .before .before .before .before .before .pre .1,
-  earliest-common (c .before .before .before .before .before .args .c)
-      (c .before .before .before .before .before .args .w .now) (c .before .before .before .before .before .args .k)
-      (c .before .before .before .before .before .pre .0) (c .before .before .before .before .before .pre .1)
-      (c .before .before .before .before .before .args .finish) (c .before .before .earliest .result)
-      (c .before .before .before .before .before .args .w .now) nopoint (c .before .before .earliest .ensures)
-      (c .before .if1 .left),
+  c .before .before .before .before .before .before .pre .0,
+  c .before .before .before .before .before .before .pre
+      .1,
+  earliest-common (c .before .before .before .before .before .before .args .c) (c .before .before .before
+      .before .before .before .args .w .now) (c .before .before .before .before .before .before .args .k) (c .before
+      .before .before .before .before .before .pre .0) (c .before .before .before .before .before .before .pre .1) (c
+      .before .before .before .before .before .before .args .finish) (c .before .before .earliest .result) (c .before
+      .before .before .before .before .before .args .w .now) nopoint (c .before .before .earliest .ensures) (c .before
+      .if1 .left),
+  c .before .before .before .before .before .before .pre .2,
 )
 
 same-length-2 : tie.Need-same-length-2
@@ -42,11 +50,13 @@ same-length-2 c = search needs
 
 returns-2 : tie.Need-returns-2
 returns-2 c =
-    let start = c .before .before .before .before .before .before .before .before in
-    earliest-some (start .args .c) (start .args .w .now) (start .args .k) (start .pre .0) (start .pre .1)
-    (start .args .finish) (c .before .before .before .before .before .earliest .result) _ _
-    (c .before .before .before .before .before .earliest .ensures) (c .before .before .before .before .if1 .left)
-    (c .before .before .commit-at .ensures)
+    earliest-some (c .before .before .before .before .before .before .before .before .before .args .c) (c .before
+    .before .before .before .before .before .before .before .before .args .w .now) (c .before .before .before .before
+    .before .before .before .before .before .args .k) (c .before .before .before .before .before .before .before
+    .before .before .pre .0) (c .before .before .before .before .before .before .before .before .before .pre .1) (c
+    .before .before .before .before .before .before .before .before .before .args .finish) (c .before .before .before
+    .before .before .earliest .result) _ _ (c .before .before .before .before .before .earliest .ensures) (c .before
+    .before .before .before .if1 .left) (c .before .before .commit-at .ensures)
 
 pub commit-earliest-spec : {M : Type 1} → statement M
 commit-earliest-spec =

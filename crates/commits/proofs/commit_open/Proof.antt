@@ -7,20 +7,34 @@ enum-told : tie.Need-enum-told
 enum-told c = search needs
 
 commit-earliest-requires : tie.Need-commit-earliest-requires
-commit-earliest-requires c κs = (c .before .before .before .before .pre .0, c .before .before .before .before .pre .1)
+commit-earliest-requires c κs = (
+  c .before .before .before .before .before .pre .0,
+  c .before .before .before .before .before .pre .1,
+  c .before
+      .before .before .before .before .pre .2,
+)
 
 enum-told-2 : tie.Need-enum-told-2
 enum-told-2 c = search needs
 
 commit-latest-requires : tie.Need-commit-latest-requires
-commit-latest-requires c κs = (c .before .before .before .before .pre .0, c .before .before .before .before .pre .1)
+commit-latest-requires c κs = (
+  c .before .before .before .before .before .pre .0,
+  c .before .before .before .before .before .pre .1,
+  c .before
+      .before .before .before .before .pre .2,
+)
 
 enum-known-pick : tie.Need-enum-known-pick
 enum-known-pick c = search needs
 
 commit-named-requires : tie.Need-commit-named-requires
-commit-named-requires c κs =
-    (c .before .before .before .before .before .pre .0, c .before .before .before .before .before .pre .1)
+commit-named-requires c κs = (
+  c .before .before .before .before .before .before .pre .0,
+  c .before .before .before .before .before .before .pre
+      .1,
+  c .before .before .before .before .before .before .pre .2,
+)
 
 same-length : tie.Need-same-length
 same-length c = search needs

@@ -1,5 +1,6 @@
 -- `endings::settle` meets its contract. Rests on EndActs, on Acting and Answers of `calls`.
-use Rattle.calls.proofs.Acting.{has-header, ready}
+use Rattle.calls.proofs.Acting.{has-header, ready, indexed-at}
+use Rattle.endings.proofs.Noted.{with-index}
 use Rattle.calls.proofs.Answers.{off, on}
 use mathlib.Core.Path.{sym, _∙_}
 use Rattle.endings.proofs.EndActs.{settle-refused, settle-still-open, settle-needs, settle-acts}
@@ -8,57 +9,57 @@ use Rattle.endings.proofs.settle.Statement.{statement}
 use Rattle.endings.proofs.settle.Tie as tie
 
 counts-of-requires : tie.Need-counts-of-requires
-counts-of-requires c κs = has-header _ (c .before .before .pre)
+counts-of-requires c κs = has-header _ (c .before .before .before .pre .0)
 
 known-requires : tie.Need-known-requires
-known-requires c κs = ready _ (c .before .before .before .before .pre) _ (c .before .counts-of .ensures) .well .fits
+known-requires c κs =
+    ready _ (c .before .before .before .before .before .pre .0) _ (c .before .counts-of .ensures) .well .fits
 
 same-length : tie.Need-same-length
 same-length c = search needs
 
 returns : tie.Need-returns
 returns c =
-    settle-refused _ _ (c .before .before .before .before .before .before .pre)
-    (c .before .before .before .counts-of .ensures) _ (off (c .before .known .ensures) (c .if1 .taken))
+    settle-refused _ _ (c .before .before .before .before .before .before .before .pre .0) (c .before .before .before
+    .counts-of .ensures) _ (off (c .before .known .ensures) (c .if1 .taken))
 
 is-open-requires : tie.Need-is-open-requires
 is-open-requires c κs =
-    ready _ (c .before .before .before .before .before .before .before .pre) _
-    (c .before .before .before .before .counts-of .ensures) .well .fits
+    ready _ (c .before .before .before .before .before .before .before .before .pre .0) _ (c .before .before .before
+    .before .counts-of .ensures) .well .fits
 
 same-length-2 : tie.Need-same-length-2
 same-length-2 c = search needs
 
 returns-2 : tie.Need-returns-2
 returns-2 c =
-    let start = c .before .before .before .before .before .before .before .before .before in
-    settle-still-open _ _ (start .pre) (c .before .before .before .before .before .before .counts-of .ensures) _
-    (on (c .before .before .before .before .known .ensures) (c .before .before .before .if1 .left))
-    (sym (c .before .is-open .ensures) ∙ c .if2 .taken)
+    settle-still-open _ _ (c .before .before .before .before .before .before .before .before .before .before .pre .0)
+    (c .before .before .before .before .before .before .counts-of .ensures) _ (on (c .before .before .before .before
+    .known .ensures) (c .before .before .before .if1 .left)) (sym (c .before .is-open .ensures) ∙ c .if2 .taken)
 
 slot-requires : tie.Need-slot-requires
 slot-requires c κs = search needs
 
 settle-slot-requires : tie.Need-settle-slot-requires
 settle-slot-requires c κs =
-    let start = c .before .before .before .before .before .before .before .before .before .before .before in
-    settle-needs _ _ (start .pre)
-    (c .before .before .before .before .before .before .before .before .counts-of .ensures) _
-    (on (c .before .before .before .before .before .before .known .ensures)
-    (c .before .before .before .before .before .if1 .left)) _ (c .slot .ensures)
+    with-index (settle-needs _ _ (c .before .before .before .before .before .before .before .before .before .before
+    .before .before .pre .0) (c .before .before .before .before .before .before .before .before .counts-of .ensures) _
+    (on (c .before .before .before .before .before .before .known .ensures) (c .before .before .before .before .before
+    .if1 .left)) _ (c .slot .ensures)) (indexed-at _ _ (c .before .before .before .before .before .before .before
+    .before .counts-of .ensures) (c .before .before .before .before .before .before .before .before .before .before
+    .before .before .pre .1))
 
 same-length-3 : tie.Need-same-length-3
 same-length-3 c = search needs
 
 returns-3 : tie.Need-returns-3
 returns-3 c =
-    let middle = c .before .before .before .before .before .before .before in
-    let start = middle .before .before .before .before .before .before .before in
-    settle-acts _ _ (start .pre) (middle .before .before .before .before .counts-of .ensures) _
-    (on (middle .before .before .known .ensures) (middle .before .if1 .left))
-    (sym (c .before .before .before .before .before .before .is-open .ensures)
-    ∙ c .before .before .before .before .before .if2 .left) _ (c .before .before .before .slot .ensures) _
-    (c .before .before .settle-slot .ensures)
+    settle-acts _ _ (c .before .before .before .before .before .before .before .before .before .before .before .before
+    .before .before .before .pre .0) (c .before .before .before .before .before .before .before .before .before
+    .before .before .counts-of .ensures) _ (on (c .before .before .before .before .before .before .before .before
+    .before .known .ensures) (c .before .before .before .before .before .before .before .before .if1 .left)) (sym (c
+    .before .before .before .before .before .before .is-open .ensures) ∙ c .before .before .before .before .before
+    .if2 .left) _ (c .before .before .before .slot .ensures) _ (c .before .before .settle-slot .ensures)
 
 pub settle-spec : {M : Type 1} → statement M
 settle-spec =

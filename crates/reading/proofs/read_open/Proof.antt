@@ -7,29 +7,39 @@ use Rattle.reading.proofs.read_open.Statement.{statement}
 use Rattle.reading.proofs.read_open.Tie as tie
 
 access-row-requires : tie.Need-access-row-requires
-access-row-requires c κs = (c .before .before .pre .0 .well .fits, c .before .before .pre .1)
+access-row-requires c κs = (
+  c .before .before .before .pre .0 .well .fits,
+  c .before .before .before .pre .1,
+  c .before .before .before .pre
+      .2,
+  c .before .before .before .pre .4,
+)
 
 access-in-requires : tie.Need-access-in-requires
-access-in-requires c κs =
-    let s = c .before .before .before .before in
-    (s .pre .0 .well .fits, access-within _ _ (s .args .k) (s .args .r) _ (c .before .access-row .ensures))
+access-in-requires c κs = (
+  c .before .before .before .before .before .pre .0 .well .fits,
+  access-within _ _ (c .before .before .before
+      .before .before .args .k) (c .before .before .before .before .before .args .r) _ (c .before .access-row .ensures),
+)
 
 same-length : tie.Need-same-length
 same-length c = search needs
 
 returns : tie.Need-returns
 returns c =
-    let s = c .before .before .before .before .before .before in
-    opened-own _ _ (s .pre .0) _ _ _ _ (s .pre .1) _
-    (c .before .access-in .ensures (s .args .k) (c .before .before .before .access-row .ensures)) (c .if1 .taken)
+    opened-own _ _ (c .before .before .before .before .before .before .before .pre .0) _ _ _ _ (c .before .before
+    .before .before .before .before .before .pre .1) _ (c .before .access-in .ensures (c .before .before .before
+    .before .before .before .before .args .k) (c .before .before .before .access-row .ensures)) (c .if1 .taken)
 
 sub-version-on : tie.Need-sub-version-on
 sub-version-on c = search needs
 
 version-on-requires : tie.Need-version-on-requires
-version-on-requires c κs =
-    let start = c .before .before .before .before .before .before .before .before .before .before in
-    (start .pre .0 .well .fits, start .pre .2)
+version-on-requires c κs = (
+  c .before .before .before .before .before .before .before .before .before .before .before .pre .0 .well .fits,
+  c
+      .before .before .before .before .before .before .before .before .before .before .before .pre .2,
+)
 
 sub-point-of-word : tie.Need-sub-point-of-word
 sub-point-of-word c = search needs
@@ -42,31 +52,40 @@ same-length-2 c = search needs
 
 returns-2 : tie.Need-returns-2
 returns-2 c =
-    let middle = c .before .before .before .before .before .before in
-    let start = middle .before .before .before .before .before .before .before in
-    let s = start in
-    opened-again _ _ (s .pre .0) _ _ _ _ (s .pre .1) _
-    (middle .before .before .access-in .ensures (s .args .k)
-    (middle .before .before .before .before .access-row .ensures))
-    (middle .before .if1 .left) _ _ (s .pre .2) (c .before .before .before .before .before .if2 .taken)
-    (c .before .before .version-on .ensures) (c .point-of-word .ensures)
+    opened-again _ _ (c .before .before .before .before .before .before .before .before .before .before .before
+    .before .before .before .pre .0) _ _ _ _ (c .before .before .before .before .before .before .before .before
+    .before .before .before .before .before .before .pre .1) _ (c .before .before .before .before .before .before
+    .before .before .access-in .ensures (c .before .before .before .before .before .before .before .before .before
+    .before .before .before .before .before .args .k) (c .before .before .before .before .before .before .before
+    .before .before .before .access-row .ensures)) (c .before .before .before .before .before .before .before .if1
+    .left) _ _ (c .before .before .before .before .before .before .before .before .before .before .before .before
+    .before .before .pre .2) (c .before .before .before .before .before .if2 .taken) (c .before .before .version-on
+    .ensures) (c .point-of-word .ensures)
 
 read-new-requires : tie.Need-read-new-requires
-read-new-requires c κs =
-    let s = c .before .before .before .before .before .before .before .before .before in
-    (s .pre .0, s .pre .1, s .pre .2, s .pre .3, c .before .before .before .before .before .before .access-row .ensures)
+read-new-requires c κs = (
+  c .before .before .before .before .before .before .before .before .before .before .pre .0,
+  c .before .before
+      .before .before .before .before .before .before .before .before .pre .1,
+  c .before .before .before .before .before
+      .before .before .before .before .before .pre .2,
+  c .before .before .before .before .before .before .before .before
+      .before .before .pre .3,
+  c .before .before .before .before .before .before .access-row .ensures,
+)
 
 same-length-3 : tie.Need-same-length-3
 same-length-3 c = search needs
 
 returns-3 : tie.Need-returns-3
 returns-3 c =
-    let middle = c .before .before .before .before .before .before in
-    let start = middle .before .before .before .before .before .before in
-    let s = start in
-    opened-new _ _ (s .pre .0) _ _ _ _ (s .pre .1) _
-    (middle .before .access-in .ensures (s .args .k) (middle .before .before .before .access-row .ensures))
-    (middle .if1 .left) _ _ (c .before .before .before .before .if2 .left) (c .before .before .read-new .ensures)
+    opened-new _ _ (c .before .before .before .before .before .before .before .before .before .before .before .before
+    .before .pre .0) _ _ _ _ (c .before .before .before .before .before .before .before .before .before .before
+    .before .before .before .pre .1) _ (c .before .before .before .before .before .before .before .access-in .ensures
+    (c .before .before .before .before .before .before .before .before .before .before .before .before .before .args
+    .k) (c .before .before .before .before .before .before .before .before .before .access-row .ensures)) (c .before
+    .before .before .before .before .before .if1 .left) _ _ (c .before .before .before .before .if2 .left) (c .before
+    .before .read-new .ensures)
 
 pub read-open-spec : {M : Type 1} → statement M
 read-open-spec =

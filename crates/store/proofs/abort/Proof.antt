@@ -1,25 +1,35 @@
 -- `abort` meets its contract: on sound words it does what the call on them acts, and unsound words are refused. Assumes
 -- nothing.
-use borrow.Author.Needs.{needs}
 use mathlib.Core.Path.{sym, _∙_}
 use Rattle.store.proofs.Doing.{does-sound, does-unsound}
+use native.Mathlib.Omega.{arith}
+use Rattle.index.proofs.Unknown.{no-index}
+use borrow.Author.Needs.{needs}
 use Rattle.store.proofs.abort.Statement.{statement}
 use Rattle.store.proofs.abort.Tie as tie
 
 check-requires : tie.Need-check-requires
 check-requires c κs = search needs
 
+slice-aggregate-abort : tie.Need-slice-aggregate-abort
+slice-aggregate-abort c = search needs
+
 abort-requires : tie.Need-abort-requires
-abort-requires c κs = sym (c .before .before .check .ensures) ∙ c .before .if1 .taken
+abort-requires c κs = (
+  sym (c .before .before .before .check .ensures) ∙ c .before .before .if1 .taken,
+  no-index _ (λ e. omega (
+    arith,
+    e,
+  )),
+)
 
 same-length : tie.Need-same-length
 same-length c = search needs
 
 returns : tie.Need-returns
 returns c =
-    does-sound
-    (sym (c .before .before .before .before .before .check .ensures) ∙ c .before .before .before .before .if1 .taken)
-    (c .before .before .abort .ensures)
+    does-sound (sym (c .before .before .before .before .before .before .check .ensures) ∙ c .before .before .before
+    .before .before .if1 .taken) (c .before .before .abort .ensures)
 
 same-length-2 : tie.Need-same-length-2
 same-length-2 c = search needs
@@ -28,4 +38,13 @@ returns-2 : tie.Need-returns-2
 returns-2 c = does-unsound (sym (c .before .check .ensures) ∙ c .if1 .left)
 
 pub abort-spec : {M : Type 1} → statement M
-abort-spec = tie.close (tie.spec check-requires abort-requires same-length returns same-length-2 returns-2)
+abort-spec =
+    tie.close
+    (tie.spec
+    check-requires
+    slice-aggregate-abort
+    abort-requires
+    same-length
+    returns
+    same-length-2
+    returns-2)

@@ -1,25 +1,35 @@
 -- `read` meets its contract: on sound words it does what the call on them acts, and unsound words are refused. Assumes
 -- nothing.
-use borrow.Author.Needs.{needs}
 use mathlib.Core.Path.{sym, _∙_}
 use Rattle.store.proofs.Doing.{does-sound, does-unsound}
+use native.Mathlib.Omega.{arith}
+use Rattle.index.proofs.Unknown.{no-index}
+use borrow.Author.Needs.{needs}
 use Rattle.store.proofs.read.Statement.{statement}
 use Rattle.store.proofs.read.Tie as tie
 
 check-requires : tie.Need-check-requires
 check-requires c κs = search needs
 
+slice-aggregate-read : tie.Need-slice-aggregate-read
+slice-aggregate-read c = search needs
+
 read-requires : tie.Need-read-requires
-read-requires c κs = sym (c .before .before .check .ensures) ∙ c .before .if1 .taken
+read-requires c κs = (
+  sym (c .before .before .before .check .ensures) ∙ c .before .before .if1 .taken,
+  no-index _ (λ e. omega (
+    arith,
+    e,
+  )),
+)
 
 same-length : tie.Need-same-length
 same-length c = search needs
 
 returns : tie.Need-returns
 returns c =
-    does-sound
-    (sym (c .before .before .before .before .before .check .ensures) ∙ c .before .before .before .before .if1 .taken)
-    (c .before .before .read .ensures)
+    does-sound (sym (c .before .before .before .before .before .before .check .ensures) ∙ c .before .before .before
+    .before .before .if1 .taken) (c .before .before .read .ensures)
 
 same-length-2 : tie.Need-same-length-2
 same-length-2 c = search needs
@@ -28,4 +38,13 @@ returns-2 : tie.Need-returns-2
 returns-2 c = does-unsound (sym (c .before .check .ensures) ∙ c .if1 .left)
 
 pub read-spec : {M : Type 1} → statement M
-read-spec = tie.close (tie.spec check-requires read-requires same-length returns same-length-2 returns-2)
+read-spec =
+    tie.close
+    (tie.spec
+    check-requires
+    slice-aggregate-read
+    read-requires
+    same-length
+    returns
+    same-length-2
+    returns-2)
