@@ -1,7 +1,7 @@
 // The library that a product links: each call as a C function over lent words and numbers, and many calls as one. A
 // call returns 0 for granted, else the number of the refusal. None has a `requires`; the contract of each is the
 // promise of its call. Rests on the crates `types`, `meaning`, `format`, `store`, `codes`, `verdicts`, `telling`,
-// `batch`, `asks`, `layers`, `desk` and `sessions`.
+// `batch`, `asks`, `layers`, `desk` and `sessions`. The module `in_session` has the calls of a session.
 ghost use mathlib.Core.Path.{_≡_};
 ghost use mathlib.Core.List.{[], _∷_};
 ghost use Rattle.meaning.specs.Edits.{beginning, writing};
@@ -18,6 +18,9 @@ ghost use Rattle.asks.specs.Views.{Views};
 ghost use Rattle.layers.specs.Serial.{Layer};
 ghost use Rattle.desk.specs.Desk.{deskOpen, deskRead, deskWrite, deskCommit};
 ghost use Rattle.sessions.specs.Sessions.{settingOf, sessionOf, Opens, Reports};
+
+mod in_session;
+
 use types::Counts;
 use types::Pick;
 
