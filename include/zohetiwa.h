@@ -2,19 +2,22 @@
  *
  * Memory. The store is the array `words` of `length` words that the caller owns and lends for the time of one call. The
  * library keeps no pointer, allocates nothing and has no state of its own: the array is the whole store, and may be
- * copied, saved or sent with its length. It needs no initial content before zohetiwa_format. Every other pointer is to
- * one number of the caller's, to a list or a reply area of theirs (zohetiwa_batch, zohetiwa_views), or to their array
- * of ZOHETIWA_SESSION_WORDS numbers for a desk's session, lent for the time of the call as well. No pointer may be null
- * (an array of length 0 too wants one, aligned to 8 bytes), and the arrays and the numbers of one call must not
- * overlap. Two calls on one array must not run at once.
+ * copied, saved or sent with its length. It needs no initial content before zohetiwa_format. Which rows of its tables a
+ * store uses is its own matter: a call of zohetiwa_batch or of a session may leave them at other places than the call
+ * alone, and means the same. Every other pointer is to one number of the caller's, to a list or a reply area of theirs
+ * (zohetiwa_batch, zohetiwa_views), to the index of theirs beside the words (zohetiwa_open), or to their array of
+ * ZOHETIWA_SESSION_WORDS numbers for a desk's session, lent for the time of the call as well. No pointer may be null
+ * (an array of length 0 too wants one, aligned to 8 bytes, an index to 2), and the arrays and the numbers of one call
+ * must not overlap. Two calls on one array must not run at once.
  *
  * Replies. The function of a call returns 0 if the call is granted, and then sets every number it was lent (to 0 where
  * the reply has no such value). Any other number is a refusal, or ZOHETIWA_NOPOINT or ZOHETIWA_EMPTIED: the lent single
- * numbers then stay as they were, and a refusal also changes no word of the store or of a session, with one exception
- * that zohetiwa_desk_write names. zohetiwa_refusal gives the number of a refusal, zohetiwa_holder the holder's handle.
+ * numbers then stay as they were, and a refusal also changes no word of the store or of a desk's session, with one
+ * exception that zohetiwa_desk_write names. zohetiwa_refusal gives the number of a refusal, zohetiwa_holder the handle
+ * of the holder.
  * Every array and every argument has a defined reply. Each call but Point and Format checks the whole array first: one
  * that is no sound store is refused with ZOHETIWA_UNSOUND. zohetiwa_batch and zohetiwa_views check it once for many
- * calls.
+ * calls. The functions zohetiwa_in_* do not check it, and so ask more of their caller: see "A session".
  *
  * Names. A record is named by its number from 0, an edit (a transaction) by the handle that Begin gave. A point is
  * clock reading * 64 + seat, at most ZOHETIWA_LAST; zohetiwa_point makes one. A bare clock reading is no point. */
@@ -155,7 +158,8 @@ uint64_t zohetiwa_view(const uint64_t *words, size_t length, uint64_t record, ui
  * still done. On an array that is no sound store each is refused with ZOHETIWA_UNSOUND. It stops where the list has no
  * whole call more, or `replies` no room for a whole reply: before that call, which is not done. Reply i is that of call
  * i; the words of `replies` after those of the calls done stay as they were. The lengths count words. Views at one
- * point are one moment of the plan, if no edit commits at or below that point between them. */
+ * point are one moment of the plan, if no edit commits at or below that point between them. A list of 16 calls or more
+ * has an index as a session's on the stack, which takes 136 KB of it. */
 uint64_t zohetiwa_batch(uint64_t *words, size_t length, const uint64_t *calls, size_t calls_length, uint64_t *replies,
                         size_t replies_length);
 
@@ -170,11 +174,61 @@ uint64_t zohetiwa_batch(uint64_t *words, size_t length, const uint64_t *calls, s
 uint64_t zohetiwa_views(const uint64_t *words, size_t length, const uint64_t *asks, size_t asks_length,
                         uint64_t *replies, size_t replies_length);
 
+/* A session: zohetiwa_open checks the words once and makes an index beside them, an array of ZOHETIWA_INDEX numbers of
+ * the caller's; then each zohetiwa_in_* is the call of its name without the check, any number of times, and the handle
+ * or the refusal of one can decide the next. There is nothing to close. (A desk's session, below, is something else:
+ * five numbers about one edit. The two have only the word in common.)
+ *
+ * What zohetiwa_in_* ask of the caller, and do not check: zohetiwa_open returned 0 for these words and this index, and
+ * since then nothing but these functions, lent both, has changed a word or a number of the index. Looking at the words,
+ * copying them, zohetiwa_view and zohetiwa_views are fine. Whatever changes the words without the index, as
+ * zohetiwa_write, zohetiwa_batch, zohetiwa_desk_open, zohetiwa_format or the caller's own hand, ends the session: open
+ * again. One session at a time on one array. Where this does not hold nothing is promised, not even that memory outside
+ * the arrays is left alone. A caller who cannot vouch for it takes the public functions, which do not ask for it.
+ *
+ * Where it holds, each does what its public function does, with the same reply, lent numbers and meaning of the words
+ * after it, and so never returns ZOHETIWA_UNSOUND. The calls of a session are a history as any other: what is said of
+ * lists of calls and of charts (zohetiwa_view) holds with them.
+ *
+ * The index only saves time; what it holds is the library's own matter, and needs no content before zohetiwa_open. One
+ * of another length than ZOHETIWA_INDEX (0 too) is allowed and says nothing: calls are right but slower, as Settle then
+ * looks at all records and a first Read of a record along the edit's accesses. Edits in use when the session was opened
+ * are not in the index until the next Begin in their slot: right, but slower too. */
+#define ZOHETIWA_INDEX 69632
+
+/* Opens a session: checks the words, of which it changes none, and makes the index. Returns 0, or ZOHETIWA_UNSOUND: the
+ * index then stays as it was. */
+uint64_t zohetiwa_open(const uint64_t *words, size_t length, uint16_t *index, size_t index_length);
+
+/* The calls in a session: each as the function of its name without `in_`, without the check. zohetiwa_in_view changes
+ * nothing and needs no index. */
+uint64_t zohetiwa_in_begin(uint64_t *words, size_t length, uint16_t *index, size_t index_length, uint64_t *handle);
+uint64_t zohetiwa_in_write(uint64_t *words, size_t length, uint16_t *index, size_t index_length, uint64_t handle,
+                           uint64_t record, uint64_t value);
+uint64_t zohetiwa_in_lock(uint64_t *words, size_t length, uint16_t *index, size_t index_length, uint64_t handle,
+                          uint64_t record, uint64_t low, uint64_t high, uint64_t part, uint64_t *first, uint64_t *last);
+uint64_t zohetiwa_in_read(uint64_t *words, size_t length, uint16_t *index, size_t index_length, uint64_t handle,
+                          uint64_t record, uint64_t m, uint64_t part, uint64_t *kind, uint64_t *tr, uint64_t *end,
+                          uint64_t *written, uint64_t *value);
+uint64_t zohetiwa_in_commit_earliest(uint64_t *words, size_t length, uint16_t *index, size_t index_length,
+                                     uint64_t handle, uint64_t keep, uint64_t *point);
+uint64_t zohetiwa_in_commit_latest(uint64_t *words, size_t length, uint16_t *index, size_t index_length,
+                                   uint64_t handle, uint64_t keep, uint64_t *point);
+uint64_t zohetiwa_in_commit_at(uint64_t *words, size_t length, uint16_t *index, size_t index_length, uint64_t handle,
+                               uint64_t at, uint64_t keep, uint64_t *point);
+uint64_t zohetiwa_in_abort(uint64_t *words, size_t length, uint16_t *index, size_t index_length, uint64_t handle,
+                           uint64_t keep);
+uint64_t zohetiwa_in_settle(uint64_t *words, size_t length, uint16_t *index, size_t index_length, uint64_t handle);
+uint64_t zohetiwa_in_purge(uint64_t *words, size_t length, uint16_t *index, size_t index_length, uint64_t record,
+                           uint64_t b, uint64_t *versions, uint64_t *locks);
+uint64_t zohetiwa_in_view(const uint64_t *words, size_t length, uint64_t record, uint64_t p, uint64_t *point,
+                          uint64_t *written, uint64_t *value);
+
 /* A planning desk is an edit with a working interval low..high. Its reads and writes ask for points of the interval,
  * which shrinks to what they were granted, and it commits at the earliest or the latest point that is left. The desk's
- * session is an array of the caller's, of ZOHETIWA_SESSION_WORDS numbers at these places; it may be copied, saved or
- * sent. It has ended exactly if high is below low: the call that ends it sets low to 1 and high to 0. Any numbers are a
- * session: what its handle and interval may do, the store decides.
+ * session (none of zohetiwa_open) is an array of the caller's, of ZOHETIWA_SESSION_WORDS numbers at these places; it
+ * may be copied, saved or sent. It has ended exactly if high is below low: the call that ends it sets low to 1 and high
+ * to 0. Any numbers are a session: what its handle and interval may do, the store decides.
  *
  * A granted zohetiwa_desk_open sets all five numbers. The other three calls set low and high to the interval after the
  * call and leave the rest; width is not looked at after opening. After a refusal all five are as they were, but for 10

@@ -1,4 +1,4 @@
-//! A call of the model, done on lent words through the wrapper; its reply in the model's terms.
+//! A call of the model, done through the wrapper on lent words or in a session; its reply in the model's terms.
 
 use model::reply::{At, End, Refusal, Reply, Want};
 use model::script::Call;
@@ -69,30 +69,67 @@ pub fn commit(commit: z::Commit) -> Reply {
     }
 }
 
+fn edit(handle: z::Handle) -> Reply {
+    Reply::Edit(handle.word())
+}
+
+fn locked(locked: z::Locked) -> Reply {
+    Reply::Locked(locked.first.word(), locked.last.word())
+}
+
+fn purged(purged: z::Purged) -> Reply {
+    Reply::Purged(purged.versions, purged.locks)
+}
+
+fn shown(shown: z::Shown) -> Reply {
+    Reply::At(shown.point.word(), value(shown.value))
+}
+
+fn done((): ()) -> Reply {
+    Reply::Ok
+}
+
+fn reply(answer: z::Answer<Reply>) -> Reply {
+    answer.unwrap_or_else(|no| Reply::No(refusal(no)))
+}
+
+const HANDLE: fn(u64) -> z::Handle = z::Handle::of_word;
+const POINT: fn(u64) -> z::Point = z::Point::of_word;
+
 /// Does a call on a store.
 pub fn call(words: &mut [u64], call: Call) -> Reply {
-    let edit = z::Handle::of_word;
-    let point = z::Point::of_word;
-    let answer = match call {
-        Call::Format(counts) => z::format(words, sizes(counts)).map(|()| Reply::Ok),
-        Call::Begin => z::begin(words).map(|handle| Reply::Edit(handle.word())),
-        Call::Write(handle, record, value) => z::write(words, edit(handle), record, value).map(|()| Reply::Ok),
-        Call::Lock(handle, record, low, high, want) => {
-            z::lock(words, edit(handle), record, point(low), point(high), extent(want))
-                .map(|locked| Reply::Locked(locked.first.word(), locked.last.word()))
+    reply(match call {
+        Call::Format(counts) => z::format(words, sizes(counts)).map(done),
+        Call::Begin => z::begin(words).map(edit),
+        Call::Write(h, record, value) => z::write(words, HANDLE(h), record, value).map(done),
+        Call::Lock(h, record, low, high, want) => {
+            z::lock(words, HANDLE(h), record, POINT(low), POINT(high), extent(want)).map(locked)
         }
-        Call::Read(handle, record, m, want) => z::read(words, edit(handle), record, point(m), extent(want)).map(read),
-        Call::Commit(handle, at, end) => z::commit(words, edit(handle), pick(at), finish(end)).map(commit),
-        Call::Abort(handle, end) => z::abort(words, edit(handle), finish(end)).map(|()| Reply::Ok),
-        Call::Settle(handle) => z::settle(words, edit(handle)).map(|()| Reply::Ok),
-        Call::Purge(record, b) => {
-            z::purge(words, record, point(b)).map(|purged| Reply::Purged(purged.versions, purged.locks))
+        Call::Read(h, record, m, want) => z::read(words, HANDLE(h), record, POINT(m), extent(want)).map(read),
+        Call::Commit(h, at, end) => z::commit(words, HANDLE(h), pick(at), finish(end)).map(commit),
+        Call::Abort(h, end) => z::abort(words, HANDLE(h), finish(end)).map(done),
+        Call::Settle(h) => z::settle(words, HANDLE(h)).map(done),
+        Call::Purge(record, b) => z::purge(words, record, POINT(b)).map(purged),
+        Call::View(record, p) => z::view(words, record, POINT(p)).map(shown),
+    })
+}
+
+/// Does a call in a session, which has no Format.
+pub fn inside(session: &mut z::Session, call: Call) -> Reply {
+    reply(match call {
+        Call::Format(_) => panic!("a session has no Format"),
+        Call::Begin => session.begin().map(edit),
+        Call::Write(h, record, value) => session.write(HANDLE(h), record, value).map(done),
+        Call::Lock(h, record, low, high, want) => {
+            session.lock(HANDLE(h), record, POINT(low), POINT(high), extent(want)).map(locked)
         }
-        Call::View(record, p) => {
-            z::view(words, record, point(p)).map(|shown| Reply::At(shown.point.word(), value(shown.value)))
-        }
-    };
-    answer.unwrap_or_else(|no| Reply::No(refusal(no)))
+        Call::Read(h, record, m, want) => session.read(HANDLE(h), record, POINT(m), extent(want)).map(read),
+        Call::Commit(h, at, end) => session.commit(HANDLE(h), pick(at), finish(end)).map(commit),
+        Call::Abort(h, end) => session.abort(HANDLE(h), finish(end)).map(done),
+        Call::Settle(h) => session.settle(HANDLE(h)).map(done),
+        Call::Purge(record, b) => session.purge(record, POINT(b)).map(purged),
+        Call::View(record, p) => session.view(record, POINT(p)).map(shown),
+    })
 }
 
 fn sizes(counts: model::store::Counts) -> z::Counts {

@@ -1,4 +1,5 @@
-//! One call through the wrapper and in the model, from the same words: verdict, reply and meaning.
+//! One call through the wrapper, on words or in a session, and in the model, from the same words: verdict, reply and
+//! meaning.
 
 use crate::calls;
 use model::reply::Reply;
@@ -6,6 +7,23 @@ use model::script::{Call, Session};
 use model::words::{decode, decode_whole, ordered, Unjudged};
 use std::collections::HashMap;
 use std::fmt::Debug;
+
+/// What has the words of a store: lent words themselves, or a session with them.
+pub trait Words {
+    fn words(&self) -> &[u64];
+}
+
+impl Words for [u64] {
+    fn words(&self) -> &[u64] {
+        self
+    }
+}
+
+impl Words for zohetiwa::Session<'_> {
+    fn words(&self) -> &[u64] {
+        zohetiwa::Session::words(self)
+    }
+}
 
 /// Does the call on the words, and compares; the error says what differs.
 pub fn call(words: &mut [u64], call: Call) -> Result<Reply, String> {
@@ -16,10 +34,23 @@ pub fn call(words: &mut [u64], call: Call) -> Result<Reply, String> {
 
 /// Does the call on the words and in a run of the model that has the store which they mean.
 pub fn step(words: &mut [u64], run: &mut Session, call: Call) -> Result<Reply, String> {
-    let by_wrapper = |words: &mut [u64]| calls::call(words, call);
+    same(words, run, call, calls::call)
+}
+
+/// Does the call in a session and in a run of the model that has the store which its words mean.
+pub fn inside(session: &mut zohetiwa::Session, run: &mut Session, call: Call) -> Result<Reply, String> {
+    same(session, run, call, calls::inside)
+}
+
+fn same<W: Words + ?Sized>(
+    words: &mut W,
+    run: &mut Session,
+    call: Call,
+    by_wrapper: impl FnOnce(&mut W, Call) -> Reply,
+) -> Result<Reply, String> {
     let in_model = |run: &mut Session| run.call(call).map(|reply| (reply, vec![(call, reply)]));
-    let (reply, _) = alike(words, run, by_wrapper, in_model).map_err(|e| format!("{call:?} {e}"))?;
-    Ok(reply)
+    let done = alike(words, run, |words| by_wrapper(words, call), in_model);
+    done.map(|(reply, _)| reply).map_err(|e| format!("{call:?} {e}"))
 }
 
 /// What a call tells, and the store calls that it consists of, with their replies.
@@ -27,14 +58,15 @@ pub type Done<T> = (T, Vec<(Call, Reply)>);
 
 /// Does a call through the wrapper and in the model, from the same store or from words that are no store. Compares what
 /// they tell, and the stores after it; no word changes where each store call is refused or only looks.
-pub fn alike<T: Debug + PartialEq>(
-    words: &mut [u64],
+pub fn alike<W: Words + ?Sized, T: Debug + PartialEq>(
+    lent: &mut W,
     run: &mut Session,
-    by_wrapper: impl FnOnce(&mut [u64]) -> T,
+    by_wrapper: impl FnOnce(&mut W) -> T,
     in_model: impl FnOnce(&mut Session) -> Result<Done<T>, String>,
 ) -> Result<Done<T>, String> {
-    let before = words.to_vec();
-    let told = by_wrapper(words);
+    let before = lent.words().to_vec();
+    let told = by_wrapper(lent);
+    let words = lent.words();
     let (expected, calls) = in_model(run)?;
     if told != expected {
         return Err(format!("replied {told:?}, in the model {expected:?}"));

@@ -13,7 +13,7 @@ pub struct Counted {
     by_changes: BTreeMap<usize, [u64; 2]>,
     /// Stores with just one change, by its kind: not sound, sound.
     by_kind: BTreeMap<Kind, [u64; 2]>,
-    /// By the letter of the call and its reply.
+    /// By the letter of the call and its reply; those in a session after `in `.
     replies: BTreeMap<String, u64>,
 }
 
@@ -42,7 +42,15 @@ impl Counted {
     }
 
     pub fn reply(&mut self, call: Call, reply: Reply) {
-        let kind = format!("{} {}", letter(call), count::kind(&show(reply)));
+        self.count("", call, reply);
+    }
+
+    pub fn reply_inside(&mut self, call: Call, reply: Reply) {
+        self.count("in ", call, reply);
+    }
+
+    fn count(&mut self, place: &str, call: Call, reply: Reply) {
+        let kind = format!("{place}{} {}", letter(call), count::kind(&show(reply)));
         *self.replies.entry(kind).or_default() += 1;
     }
 
@@ -59,7 +67,8 @@ impl Counted {
         }
     }
 
-    /// Every kind of change came, and damaged a store; every call was refused with 1 and was granted.
+    /// Every kind of change came, and damaged a store; every call was refused with 1 and was granted, and in a session
+    /// was granted.
     pub fn reached(&self) -> Result<(), String> {
         let least = self.stores / 1_000;
         for kind in ALL {
@@ -68,33 +77,28 @@ impl Counted {
                 return Err(format!("{kind:?} came too seldom"));
             }
         }
-        for wanted in [
-            "B no  1",
-            "W no  1",
-            "L no  1",
-            "R no  1",
-            "C no  1",
-            "A no  1",
-            "S no  1",
-            "P no  1",
-            "V no  1",
-            "B edit",
-            "W ok",
-            "L locked",
-            "R read",
-            "R own",
-            "R again",
-            "C commit",
-            "C nopoint",
-            "A ok",
-            "S ok",
-            "P purged",
-            "V at",
-        ] {
-            if self.replies.get(wanted).copied().unwrap_or_default() < least {
+        let unsound = "BWLRCASPV".chars().map(|letter| format!("{letter} no  1"));
+        let granted = GRANTED.iter().flat_map(|reply| [reply.to_string(), format!("in {reply}")]);
+        for wanted in unsound.chain(granted) {
+            if self.replies.get(&wanted).copied().unwrap_or_default() < least {
                 return Err(format!("the reply {wanted} came too seldom"));
             }
         }
         Ok(())
     }
 }
+
+const GRANTED: [&str; 12] = [
+    "B edit",
+    "W ok",
+    "L locked",
+    "R read",
+    "R own",
+    "R again",
+    "C commit",
+    "C nopoint",
+    "A ok",
+    "S ok",
+    "P purged",
+    "V at",
+];

@@ -1,6 +1,7 @@
 //! Damaged stores: stores made by random calls through the wrapper, with 0 to 3 words changed at random. A call is
 //! refused with 1 exactly if the model's `words::sound` says no; every other call gives the model's reply and leaves
-//! words that mean the model's store.
+//! words that mean the model's store. A session opens on the same words exactly if the model says yes, and its calls
+//! reply and leave the same; if it does not open the index is as it was.
 //!
 //!     damaged STORES FILE     exits with 1 at the first difference, and keeps it in FILE with the words
 
@@ -15,12 +16,13 @@ use model::script::{parse, Call, Session};
 use model::store::LAST;
 use model::words::{decode, fresh, ordered};
 use std::process::ExitCode;
+use zohetiwa as z;
 
 /// Lines of one random script.
 const LINES: usize = 100;
 /// Damaged copies of each store that the script makes.
 const COPIES: usize = 2;
-/// Calls on one damaged copy that is sound.
+/// Calls on one damaged copy that is sound, and again in a session on it.
 const CALLS: usize = 4;
 
 /// The call at an index. A Format ends the store it is given, and past the end there is none: a View instead.
@@ -61,6 +63,8 @@ fn copy(words: &[u64], calls: &[Call], random: &mut Random, counted: &mut Counte
     let sound = decode(&words).is_some();
     let changed = undamaged.iter().zip(&words).filter(|(old, new)| old != new).count();
     counted.store(changed, &changes, sound);
+    session(&mut words.clone(), sound, calls, random, counted)
+        .map_err(|e| (words.clone(), format!("in a session: {e}\nchanges {changes:?}")))?;
     for i in 0..CALLS {
         let before = words.clone();
         let call = call_at(calls, i);
@@ -69,6 +73,38 @@ fn copy(words: &[u64], calls: &[Call], random: &mut Random, counted: &mut Counte
         if !sound {
             break;
         }
+    }
+    Ok(())
+}
+
+/// A session on words that are sound or not, and what the next calls do in it.
+fn session(
+    words: &mut [u64],
+    sound: bool,
+    calls: &[Call],
+    random: &mut Random,
+    counted: &mut Counted,
+) -> Result<(), String> {
+    let before = words.to_vec();
+    let store = decode(words);
+    if z::Chart::open(words).is_ok() != sound {
+        return Err("a chart opened on words that are not sound, or not on sound ones".to_string());
+    }
+    let (length, junk) = (random.pick(&[z::INDEX, 0, 7]), random.next() as u16);
+    let mut session = match z::Session::open_with(words, vec![junk; length]) {
+        Err((z::Refusal::Unsound, index)) if !sound => {
+            let unchanged = index.iter().all(|&number| number == junk) && words == before;
+            return if unchanged { Ok(()) } else { Err("refused, with words or index changed".to_string()) };
+        }
+        Ok(session) if sound && session.words() == before => session,
+        opened => return Err(format!("opening gave {:?}", opened.map(|_| "a session").map_err(|(no, _)| no))),
+    };
+    let mut run = Session::new(false);
+    run.store = store;
+    for i in 0..CALLS {
+        let call = call_at(calls, i);
+        let reply = compare::inside(&mut session, &mut run, call)?;
+        counted.reply_inside(call, reply);
     }
     Ok(())
 }

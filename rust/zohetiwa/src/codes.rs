@@ -2,7 +2,7 @@
 
 #![forbid(unsafe_code)]
 
-use crate::types::{Answer, Commit, Extent, Finish, Handle, Point, Read, Refusal, Value};
+use crate::types::{Answer, Commit, Extent, Finish, Handle, Locked, Point, Purged, Read, Refusal, Shown, Value};
 
 /// Returned by a Commit that found no point.
 pub const NOPOINT: u64 = 31;
@@ -55,30 +55,46 @@ pub fn keep(finish: Finish) -> u64 {
     }
 }
 
-pub fn value(written: u64, bits: u64) -> Value {
+fn value(written: u64, bits: u64) -> Value {
     match written {
         0 => Value::Never,
         _ => Value::Written(bits),
     }
 }
 
-/// Which of its three replies a granted Read has.
-pub fn read(kind: u64, tr: u64, end: u64, value: Value) -> Read {
-    let tr = Point::of_word(tr);
-    match (kind, value) {
+/// The reply of a Begin, or its refusal; those of other calls in the same way.
+pub fn begin(code: u64, handle: u64) -> Answer<Handle> {
+    told(code, Handle::of_word(handle))
+}
+
+pub fn lock(code: u64, first: u64, last: u64) -> Answer<Locked> {
+    told(code, Locked { first: Point::of_word(first), last: Point::of_word(last) })
+}
+
+pub fn read(code: u64, kind: u64, tr: u64, end: u64, written: u64, bits: u64) -> Answer<Read> {
+    told(code, ())?;
+    let (tr, value) = (Point::of_word(tr), value(written, bits));
+    Ok(match (kind, value) {
         (1, _) => Read::New { tr, end: Point::of_word(end), value },
         (2, Value::Written(bits)) => Read::Own(bits),
         (3, _) => Read::Again { tr, value },
         _ => panic!("the library linked is not this wrapper's: a Read of kind {kind}"),
-    }
+    })
 }
 
-/// Which of its two replies a Commit has, or its refusal.
 pub fn commit(code: u64, point: u64) -> Answer<Commit> {
     if code == NOPOINT {
         return Ok(Commit::NoPoint);
     }
     told(code, Commit::At(Point::of_word(point)))
+}
+
+pub fn purge(code: u64, versions: u64, locks: u64) -> Answer<Purged> {
+    told(code, Purged { versions, locks })
+}
+
+pub fn view(code: u64, point: u64, written: u64, bits: u64) -> Answer<Shown> {
+    told(code, Shown { point: Point::of_word(point), value: value(written, bits) })
 }
 
 #[cfg(test)]
@@ -106,6 +122,6 @@ mod tests {
     #[test]
     #[should_panic(expected = "not this wrapper's")]
     fn an_own_value_never_written() {
-        read(2, 0, 0, Value::Never);
+        let _ = read(0, 2, 0, 0, 0, 0);
     }
 }

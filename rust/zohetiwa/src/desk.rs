@@ -81,8 +81,7 @@ impl Desk {
         if code == codes::EMPTIED {
             return Ok(DeskRead::Emptied);
         }
-        codes::told(code, ())?;
-        Ok(DeskRead::Told(codes::read(kind, tr, end, codes::value(written, value))))
+        codes::read(code, kind, tr, end, written, value).map(DeskRead::Told)
     }
 
     /// Locks the interval in the record, a part, to which the interval shrinks, and then writes the value. Refusals:

@@ -1,9 +1,10 @@
 //! The shared plan store for Rust: the calls of document 01 over a lent slice of words, and planning desks ([`Desk`])
 //! over them, with typed replies and refusals. A thin wrapper of the proved C functions (include/zohetiwa.h says what
-//! each call does); it keeps no state.
+//! each call does); it keeps no state but a [`Session`]'s index.
 //!
 //! The slice is the whole store and needs no content before [`format()`]. Every slice and every argument has a defined
-//! reply; each call but [`point`] and [`format()`] first checks the whole slice.
+//! reply; each call but [`point`] and [`format()`] first checks the whole slice. A [`Session`] checks it once for many
+//! calls, and a [`Chart`] for many views; a list of calls that is known before its first reply is a [`batch`].
 //!
 //! ```
 //! use zohetiwa::*;
@@ -19,18 +20,40 @@
 //! # Ok::<(), Refusal>(())
 //! ```
 //!
+//! The same edit in a session, and a chart after it:
+//!
+//! ```
+//! # use zohetiwa::*;
+//! # let counts = Counts { records: 2, edits: 2, versions: 4, locks: 8, accesses: 8 };
+//! # let mut words = vec![0; counts.length()];
+//! # format(&mut words, counts)?;
+//! # let now = point(Reading(5), Seat(1))?;
+//! let mut session = Session::open(&mut words)?;
+//! let edit = session.begin()?;
+//! session.lock(edit, 0, now, now, Extent::All)?;
+//! session.write(edit, 0, 501)?;
+//! assert_eq!(session.commit(edit, Pick::Latest, Finish::Settle)?, Commit::At(now));
+//! let chart = Chart::open(&words)?;
+//! assert_eq!(chart.view(0, now)?.value, Value::Written(501));
+//! assert_eq!(chart.view(1, now)?.value, Value::Never);
+//! # Ok::<(), Refusal>(())
+//! ```
+//!
 //! Safe because: a lent slice is a pointer, not null and aligned, to as many words as its length says; the lent numbers
-//! are locals of the call, and a desk's session is five words of its own, so nothing overlaps; and the functions, by
-//! their contracts, take every slice and number, and touch nothing else.
+//! are locals of the call, a desk's session is five words of its own, and an index is its session's own, so nothing
+//! overlaps; and the functions, by their contracts, take every slice and number, and touch nothing else. Those of a
+//! session take only what `src/session.rs` keeps.
 
 mod codes;
 mod desk;
 mod lists;
+mod session;
 mod types;
 
 pub use codes::{EMPTIED, NOPOINT};
 pub use desk::*;
 pub use lists::*;
+pub use session::*;
 pub use types::*;
 
 // The declarations of include/zohetiwa.h.
@@ -140,7 +163,7 @@ pub fn begin(words: &mut [u64]) -> Answer<Handle> {
     let mut handle = 0;
     // SAFETY: the slice is lent with its length, the number is a local.
     let code = unsafe { zohetiwa_begin(words.as_mut_ptr(), words.len(), &mut handle) };
-    codes::told(code, Handle::of_word(handle))
+    codes::begin(code, handle)
 }
 
 /// The edit's pending value of the record; it replaces an earlier one. Takes no lock. Refusals: 1, 2, 3, 5, 10.
@@ -168,8 +191,7 @@ pub fn lock(words: &mut [u64], handle: Handle, record: u64, low: Point, high: Po
             &mut last,
         )
     };
-    codes::told(code, ())?;
-    Ok(Locked { first: Point::of_word(first), last: Point::of_word(last) })
+    codes::lock(code, first, last)
 }
 
 /// Reads the record up to m. Refusals: 1, 2, 3, 5, 6, 7, 8, 9, 10, 11.
@@ -191,8 +213,7 @@ pub fn read(words: &mut [u64], handle: Handle, record: u64, m: Point, extent: Ex
             &mut value,
         )
     };
-    codes::told(code, ())?;
-    Ok(codes::read(kind, tr, end, codes::value(written, value)))
+    codes::read(code, kind, tr, end, written, value)
 }
 
 /// Commits: all written values become versions at one point. With no such point the edit ends as aborted.
@@ -232,8 +253,7 @@ pub fn purge(words: &mut [u64], record: u64, b: Point) -> Answer<Purged> {
     let (lent, length) = (words.as_mut_ptr(), words.len());
     // SAFETY: the slice is lent with its length, the numbers are two locals.
     let code = unsafe { zohetiwa_purge(lent, length, record, b.word(), &mut versions, &mut locks) };
-    codes::told(code, ())?;
-    Ok(Purged { versions, locks })
+    codes::purge(code, versions, locks)
 }
 
 /// The newest version of the record at or below p. Refusals: 1, 5, 6, 7.
@@ -247,8 +267,7 @@ pub fn view(words: &[u64], record: u64, p: Point) -> Answer<Shown> {
     let (lent, length) = (words.as_ptr(), words.len());
     // SAFETY: the slice is lent with its length and only read, the numbers are three locals.
     let code = unsafe { zohetiwa_view(lent, length, record, p.word(), &mut point, &mut written, &mut value) };
-    codes::told(code, ())?;
-    Ok(Shown { point: Point::of_word(point), value: codes::value(written, value) })
+    codes::view(code, point, written, value)
 }
 
 /// Many calls after one check: a call is six words, and so is its reply (include/zohetiwa.h). How many calls were done:

@@ -61,19 +61,15 @@ impl Call {
     /// What the row of words of this call's reply says.
     pub fn reply(self, row: [u64; REPLY_WORDS]) -> Answer<Reply> {
         let [code, first, second, third, fourth, fifth] = row;
-        if let (Call::Commit(..), codes::NOPOINT) = (self, code) {
-            return Ok(Reply::Commit(Commit::NoPoint));
+        match self {
+            Call::Begin => codes::begin(code, first).map(Reply::Edit),
+            Call::Write(..) | Call::Abort(..) | Call::Settle(..) => codes::told(code, Reply::Done),
+            Call::Lock(..) => codes::lock(code, first, second).map(Reply::Locked),
+            Call::Read(..) => codes::read(code, first, second, third, fourth, fifth).map(Reply::Read),
+            Call::Commit(..) => codes::commit(code, first).map(Reply::Commit),
+            Call::Purge(..) => codes::purge(code, first, second).map(Reply::Purged),
+            Call::View(..) => codes::view(code, first, second, third).map(Reply::Shown),
         }
-        codes::told(code, ())?;
-        Ok(match self {
-            Call::Begin => Reply::Edit(Handle::of_word(first)),
-            Call::Write(..) | Call::Abort(..) | Call::Settle(..) => Reply::Done,
-            Call::Lock(..) => Reply::Locked(Locked { first: Point::of_word(first), last: Point::of_word(second) }),
-            Call::Read(..) => Reply::Read(codes::read(first, second, third, codes::value(fourth, fifth))),
-            Call::Commit(..) => Reply::Commit(Commit::At(Point::of_word(first))),
-            Call::Purge(..) => Reply::Purged(Purged { versions: first, locks: second }),
-            Call::View(..) => Reply::Shown(Shown { point: Point::of_word(first), value: codes::value(second, third) }),
-        })
     }
 }
 

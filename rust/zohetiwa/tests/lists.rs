@@ -1,6 +1,9 @@
 //! Lists of calls and of views: the session of document 01 as one list, and random lists whose every call is also made
-//! by its own function on a second store, with the same answers and the same words.
+//! by its own function on a second store, with the same answers, and words that mean the same.
 
+mod common;
+
+use common::{alone, meaning, Numbers};
 use zohetiwa::*;
 
 const COUNTS: Counts = Counts { records: 2, edits: 2, versions: 4, locks: 8, accesses: 8 };
@@ -13,30 +16,6 @@ fn fresh() -> Vec<u64> {
 
 fn p(word: u64) -> Point {
     Point::of_word(word)
-}
-
-/// The call by its own function.
-fn alone(words: &mut [u64], call: Call) -> Answer<Reply> {
-    Ok(match call {
-        Call::Begin => Reply::Edit(begin(words)?),
-        Call::Write(h, record, value) => {
-            write(words, h, record, value)?;
-            Reply::Done
-        }
-        Call::Lock(h, record, low, high, extent) => Reply::Locked(lock(words, h, record, low, high, extent)?),
-        Call::Read(h, record, m, extent) => Reply::Read(read(words, h, record, m, extent)?),
-        Call::Commit(h, pick, finish) => Reply::Commit(commit(words, h, pick, finish)?),
-        Call::Abort(h, finish) => {
-            abort(words, h, finish)?;
-            Reply::Done
-        }
-        Call::Settle(h) => {
-            settle(words, h)?;
-            Reply::Done
-        }
-        Call::Purge(record, b) => Reply::Purged(purge(words, record, b)?),
-        Call::View(record, at) => Reply::Shown(view(words, record, at)?),
-    })
 }
 
 #[test]
@@ -73,32 +52,22 @@ fn the_session_as_one_list() {
     assert_eq!(run(&mut fresh(), &calls), expected);
 }
 
-/// A generator of numbers, the same in every run.
-struct Numbers(u64);
-
-impl Numbers {
-    fn below(&mut self, n: u64) -> u64 {
-        self.0 = self.0.wrapping_mul(6364136223846793005).wrapping_add(1442695040888963407);
-        (self.0 >> 33) % n
-    }
-
-    fn call(&mut self) -> Call {
-        let h = Handle::of_word((1 + self.below(2)) * 64 + 1 + self.below(2));
-        let (record, at) = (self.below(2), p(1 + self.below(12)));
-        let extent = [Extent::All, Extent::Part][self.below(2) as usize];
-        let finish = [Finish::Settle, Finish::Keep][self.below(2) as usize];
-        let pick = [Pick::Earliest, Pick::Latest, Pick::Named(at)][self.below(3) as usize];
-        match self.below(12) {
-            0 | 1 => Call::Begin,
-            2 => Call::Write(h, record, self.below(100)),
-            3 | 4 => Call::Lock(h, record, at, p(at.word() + self.below(4)), extent),
-            5 | 6 => Call::Read(h, record, at, extent),
-            7 => Call::Commit(h, pick, finish),
-            8 => Call::Abort(h, finish),
-            9 => Call::Settle(h),
-            10 => Call::Purge(record, at),
-            _ => Call::View(record, at),
-        }
+fn any_call(numbers: &mut Numbers) -> Call {
+    let h = Handle::of_word((1 + numbers.below(2)) * 64 + 1 + numbers.below(2));
+    let (record, at) = (numbers.below(2), p(1 + numbers.below(12)));
+    let extent = numbers.pick(&[Extent::All, Extent::Part]);
+    let finish = numbers.pick(&[Finish::Settle, Finish::Keep]);
+    let pick = numbers.pick(&[Pick::Earliest, Pick::Latest, Pick::Named(at)]);
+    match numbers.below(12) {
+        0 | 1 => Call::Begin,
+        2 => Call::Write(h, record, numbers.below(100)),
+        3 | 4 => Call::Lock(h, record, at, p(at.word() + numbers.below(4)), extent),
+        5 | 6 => Call::Read(h, record, at, extent),
+        7 => Call::Commit(h, pick, finish),
+        8 => Call::Abort(h, finish),
+        9 => Call::Settle(h),
+        10 => Call::Purge(record, at),
+        _ => Call::View(record, at),
     }
 }
 
@@ -107,9 +76,10 @@ fn a_list_does_what_its_calls_do() {
     let mut numbers = Numbers(1);
     let mut commits = 0;
     for round in 0..400 {
-        let calls: Vec<Call> = (0..40).map(|_| numbers.call()).collect();
+        let calls: Vec<Call> = (0..40).map(|_| any_call(&mut numbers)).collect();
         let (mut one, mut other) = (fresh(), fresh());
-        if round % 10 == 0 {
+        let damaged = round % 10 == 0;
+        if damaged {
             let at = numbers.below(one.len() as u64) as usize;
             one[at] = 5000;
             other[at] = 5000;
@@ -117,7 +87,11 @@ fn a_list_does_what_its_calls_do() {
         let answers = run(&mut one, &calls);
         let alone: Vec<Answer<Reply>> = calls.iter().map(|call| alone(&mut other, *call)).collect();
         assert_eq!(answers, alone);
-        assert_eq!(one, other);
+        if damaged && view(&one, 0, LAST) == Err(Refusal::Unsound) {
+            assert_eq!(one, other);
+        } else {
+            assert_eq!(meaning(&one), meaning(&other));
+        }
         commits += answers.iter().filter(|a| matches!(a, Ok(Reply::Commit(Commit::At(_))))).count();
 
         let asks: Vec<u64> = (0..20).flat_map(|_| [numbers.below(3), numbers.below(15)]).collect();
