@@ -1,7 +1,8 @@
-//! Before anything is timed: random calls on small stores, through the batch and through both kinds of plain vectors.
-//! All replies are compared, and every reply and refusal that there is on a sound store has to come.
+//! Before anything is timed: random calls on small stores, through the batch, through two sessions one after the other,
+//! and through both kinds of plain vectors. All replies are compared, and every reply and refusal that there is on a
+//! sound store has to come.
 
-use crate::library::batch;
+use crate::library::{batch, session};
 use crate::list::Random;
 use crate::plain::Plain;
 use crate::rows::*;
@@ -71,15 +72,21 @@ fn compare(seed: u64, seen: &mut BTreeSet<(u64, u64)>) {
         calls.extend(call);
         replies.extend(reply);
     }
-    let (mut words, mut bare) = (stores::fresh(counts), Plain::<false>::new(counts));
-    let (mut ours, mut theirs) = (vec![0; replies.len()], vec![0; replies.len()]);
-    batch(&mut words, &calls, &mut ours);
-    run(&mut bare, &calls, &mut theirs);
-    for (i, call) in calls.chunks(ROW).enumerate() {
-        let of = |all: &[u64]| all[i * ROW..][..ROW].to_vec();
-        assert_eq!(of(&ours), of(&replies), "store {seed}, call {i}, {call:?}: the batch and the vectors");
-        assert_eq!(of(&theirs), of(&replies), "store {seed}, call {i}, {call:?}: the vectors without indexes");
-    }
+    let agree = |name: &str, run: &dyn Fn(&mut [u64])| {
+        let mut others = vec![0; replies.len()];
+        run(&mut others);
+        for (i, call) in calls.chunks(ROW).enumerate() {
+            let of = |all: &[u64]| all[i * ROW..][..ROW].to_vec();
+            assert_eq!(of(&others), of(&replies), "store {seed}, call {i}, {call:?}: {name} and the vectors");
+        }
+    };
+    agree("the batch", &|others| batch(&mut stores::fresh(counts), &calls, others));
+    agree("the vectors without indexes", &|others| run(&mut Plain::<false>::new(counts), &calls, others));
+    agree("two sessions", &|others| {
+        let (mut words, half) = (stores::fresh(counts), calls.len() / 2);
+        session(&mut words, &calls[..half], &mut others[..half]);
+        session(&mut words, &calls[half..], &mut others[half..]);
+    });
 }
 
 pub fn all() {

@@ -1,13 +1,13 @@
-//! Calls of one kind through the batch and through the plain vectors: long lists of that kind, from the largest store
-//! after a long mixed list and with all its edits settled. The time of a batch that looks once at a record that there
-//! is not, so of the check, is taken off.
+//! Calls of one kind through the batch, in a session and through the plain vectors: long lists of that kind, from the
+//! largest store after a long mixed list and with all its edits settled. What comes before them, such as the Begins of
+//! their edits, is not counted: it is done in the same session before the clock starts, and in another batch before.
 
 mod cases;
 
-use crate::library::batch;
+use crate::library::{batch, open};
 use crate::list::List;
 use crate::plain::Plain;
-use crate::rows::{self, ROW, VIEW};
+use crate::rows::{self, VIEW};
 use crate::stores::{self, LARGEST};
 use crate::timing::{least, once};
 use crate::Size;
@@ -17,10 +17,11 @@ use zohetiwa::Counts;
 /// Begin is timed on a store of 63 slots and one row of each kind: on a larger one the check would hide 63 Begins.
 const SLOTS: Counts = Counts { records: 1, edits: 63, versions: 1, locks: 1, accesses: 1 };
 
-/// The same store as vectors and as words.
+/// The same store as both kinds of vectors and as words.
 pub struct Base {
     counts: Counts,
     pub plain: Plain<true>,
+    pub bare: Plain<false>,
     pub words: Vec<u64>,
     /// A point later than all in it.
     pub late: u64,
@@ -28,7 +29,8 @@ pub struct Base {
 
 impl Base {
     fn fresh(counts: Counts) -> Base {
-        Base { counts, plain: Plain::new(counts), words: stores::fresh(counts), late: 1 }
+        let (plain, bare) = (Plain::new(counts), Plain::new(counts));
+        Base { counts, plain, bare, words: stores::fresh(counts), late: 1 }
     }
 
     /// The largest store after the list.
@@ -39,51 +41,82 @@ impl Base {
         base
     }
 
-    /// Runs the calls both ways; the replies have to be the same.
+    /// Runs the calls in all three ways; the replies have to be the same.
     fn run(&mut self, calls: &[u64]) {
-        let (mut ours, mut theirs) = (vec![0; calls.len()], vec![0; calls.len()]);
+        let [mut ours, mut theirs, mut bare] = std::array::from_fn(|_| vec![0; calls.len()]);
         batch(&mut self.words, calls, &mut ours);
         rows::run(&mut self.plain, calls, &mut theirs);
-        assert!(ours == theirs, "the batch and the vectors reply differently");
+        rows::run(&mut self.bare, calls, &mut bare);
+        assert!(ours == theirs && ours == bare, "the batch and the vectors reply differently");
     }
 
-    fn copy(&self) -> Base {
-        let mut plain = Plain::new(self.counts);
-        plain.become_like(&self.plain);
-        Base { plain, words: self.words.clone(), ..*self }
+    pub fn copy(&self) -> Base {
+        let mut copy = Base { late: self.late, ..Base::fresh(self.counts) };
+        copy.become_like(self);
+        copy
+    }
+
+    /// Becomes the other, in the memory that it has.
+    pub fn become_like(&mut self, other: &Base) {
+        self.plain.become_like(&other.plain);
+        self.bare.become_like(&other.bare);
+        self.words.copy_from_slice(&other.words);
     }
 }
 
-/// Nanoseconds per call of the batch and of the plain vectors.
-fn times(runs: usize, base: &Base, case: &Case) -> [f64; 2] {
+/// Nanoseconds per call.
+struct Times {
+    session: f64,
+    plain: f64,
+    bare: f64,
+    /// Of a batch after the one with the calls before: its index says nothing of their edits.
+    batch: f64,
+}
+
+fn times(runs: usize, base: &Base, case: &Case) -> Times {
     let mut ready = base.copy();
     ready.run(&case.before);
-    let Base { mut plain, mut words, .. } = ready.copy();
-    let (mut ours, mut theirs) = (vec![0; case.calls.len()], vec![0; case.calls.len()]);
-    let nothing = [VIEW, LARGEST.records as u64, 0, 0, 0, 0];
-    let [all, check, vectors] = least(runs, |way| {
-        words.copy_from_slice(&ready.words);
-        plain.become_like(&ready.plain);
-        match way {
-            0 => once(|| batch(&mut words, &case.calls, &mut ours)),
-            1 => once(|| batch(&mut words, &nothing, &mut [0; ROW])),
-            _ => once(|| rows::run(&mut plain, &case.calls, &mut theirs)),
-        }
+    let mut now = ready.copy();
+    // Views of a record that there is not, so many that a batch makes an index, as short ones do not.
+    let idle = [VIEW, LARGEST.records as u64, 0, 0, 0, 0].repeat(16);
+    let (list, start) = ([&idle, &case.calls[..]].concat(), idle.len());
+    let mut replies = vec![0; list.len()];
+    let [session, plain, batched, bare, idle] = least(runs, |way| {
+        now.become_like(if way == 0 { base } else { &ready });
+        let Base { plain, bare, words, .. } = &mut now;
+        let time = match way {
+            0 => {
+                let mut session = open(words);
+                rows::run(&mut session, &case.before, &mut vec![0; case.before.len()]);
+                once(|| rows::run(&mut session, &list[start..], &mut replies[start..]))
+            }
+            1 => once(|| rows::run(plain, &list[start..], &mut replies[start..])),
+            2 => once(|| batch(words, &list, &mut replies)),
+            3 => once(|| rows::run(bare, &list[start..], &mut replies[start..])),
+            _ => return once(|| batch(words, &list[..start], &mut replies[..start])),
+        };
+        assert!(replies[start..] == case.replies, "{}: way {way} and the vectors reply differently", case.name);
+        time
     });
-    assert!(ours == theirs, "{}: the batch and the vectors reply differently", case.name);
-    [(all - check) / case.count() as f64, vectors / case.count() as f64]
+    let each = |time: f64| time / case.count() as f64;
+    Times { session: each(session), plain: each(plain), bare: each(bare), batch: each(batched - idle) }
 }
 
 pub fn table(size: Size, base: &Base) {
-    println!("Calls of one kind, many in one batch, its check taken off. Least of {} runs, ns per call.\n", size.kinds);
-    println!("| Call | how many | batch | plain vectors | batch / vectors |");
-    println!("|---|---|---|---|---|");
+    println!("Calls of one kind, by edits that the same session has begun; in the last column many in one batch, its");
+    println!("check taken off, by edits that an earlier batch has begun, so that the index says nothing of them. All");
+    println!("stores gave the same replies. Least of {} runs, ns per call.\n", size.kinds);
+    println!("| Call | how many | session | vectors | without indexes | session / vectors | batch, begun before |");
+    println!("|---|---|---|---|---|---|---|");
     let line = |base: &Base, case: &Case| {
-        let [ours, theirs] = times(size.kinds, base, case);
-        println!("| {} | {} | {ours:.0} | {theirs:.0} | {:.1} |", case.name, case.count(), ours / theirs);
+        let Times { session, plain, bare, batch } = times(size.kinds, base, case);
+        let (name, count, ratio) = (case.name, case.count(), session / plain);
+        println!("| {name} | {count} | {session:.0} | {plain:.0} | {bare:.0} | {ratio:.1} | {batch:.0} |");
     };
     let slots = Base::fresh(SLOTS);
-    line(&slots, &slots.begins());
+    for case in slots.begins() {
+        line(&slots, &case);
+    }
     for case in base.cases() {
         line(base, &case);
     }

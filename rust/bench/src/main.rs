@@ -3,13 +3,14 @@
 //!     bench          the tables
 //!     bench short    the same tables from few runs on nearly empty stores, to show that it runs
 //!
-//! Before them random calls on small stores are compared. It fails if the proved store and the plain vectors differ in
-//! one reply.
+//! Before them random calls on small stores are compared. It fails if the proved store, however it is called, and the
+//! plain vectors differ in one reply.
 
 #![forbid(unsafe_code)]
 
 mod agree;
 mod calls;
+mod charts;
 mod checks;
 mod kinds;
 mod library;
@@ -58,6 +59,8 @@ fn main() -> ExitCode {
     let base = kinds::Base::after(&list::make(lists::SEED, size.calls / 2, true));
     println!();
     kinds::table(size, &base);
+    println!();
+    charts::table(size, &base);
     println!();
     views::table(size, &base);
     ExitCode::SUCCESS

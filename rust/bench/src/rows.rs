@@ -49,16 +49,16 @@ pub trait Store {
 }
 
 /// Runs the calls one after another.
-pub fn run<S: Store>(store: &mut S, calls: &[u64], replies: &mut [u64]) {
+pub fn run<S: Store + ?Sized>(store: &mut S, calls: &[u64], replies: &mut [u64]) {
     for (call, reply) in calls.chunks_exact(ROW).zip(replies.chunks_exact_mut(ROW)) {
         reply.copy_from_slice(&answer(store, call.try_into().expect("six words")));
     }
 }
 
 /// Answers asks of two words, record and point, by four: code, point, written, value.
-pub fn show<S: Store>(store: &S, asks: &[u64], replies: &mut [u64]) {
+pub fn show(view: impl Fn(u64, Point) -> Answer<Shown>, asks: &[u64], replies: &mut [u64]) {
     for (ask, reply) in asks.chunks_exact(ASK_WORDS).zip(replies.chunks_exact_mut(SHOWN_WORDS)) {
-        let row = row(store.view(ask[0], Point::of_word(ask[1])), shown_row);
+        let row = row(view(ask[0], Point::of_word(ask[1])), shown_row);
         reply.copy_from_slice(&row[..SHOWN_WORDS]);
     }
 }
@@ -69,7 +69,7 @@ pub fn no_room(reply: Row) -> bool {
 }
 
 /// Runs one call.
-pub fn answer<S: Store>(store: &mut S, call: Row) -> Row {
+pub fn answer<S: Store + ?Sized>(store: &mut S, call: Row) -> Row {
     let [kind, a, b, c, d, e] = call;
     let edit = Handle::of_word(a);
     match kind {

@@ -30,10 +30,20 @@ pub fn nanoseconds(runs: usize, before: &[u64], call: impl Fn(&mut [u64]) -> boo
 /// The least times, in nanoseconds, of `N` ways to do the same; `time` runs the way of a number once. The ways take
 /// turns: what else the machine does only adds to a time, and slows all ways alike.
 pub fn least<const N: usize>(runs: usize, mut time: impl FnMut(usize) -> f64) -> [f64; N] {
-    let mut times = [f64::INFINITY; N];
+    least_parts(runs, |way| [time(way)]).map(|[time]| time)
+}
+
+/// The same of ways with `M` parts that are timed one by one.
+pub fn least_parts<const N: usize, const M: usize>(
+    runs: usize,
+    mut time: impl FnMut(usize) -> [f64; M],
+) -> [[f64; M]; N] {
+    let mut times = [[f64::INFINITY; M]; N];
     for _ in 0..runs {
-        for (way, least) in times.iter_mut().enumerate() {
-            *least = least.min(time(way));
+        for (way, parts) in times.iter_mut().enumerate() {
+            for (least, time) in parts.iter_mut().zip(time(way)) {
+                *least = least.min(time);
+            }
         }
     }
     times
@@ -44,4 +54,9 @@ pub fn once(work: impl FnOnce()) -> f64 {
     let start = Instant::now();
     work();
     start.elapsed().as_nanos() as f64
+}
+
+/// Nanoseconds that the clock itself takes in `once`.
+pub fn clock() -> f64 {
+    median((0..1001).map(|_| once(|| {}) as u128).collect()) as f64
 }

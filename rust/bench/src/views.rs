@@ -3,7 +3,7 @@
 use crate::kinds::Base;
 use crate::library::views;
 use crate::list::{Random, HORIZON};
-use crate::rows;
+use crate::rows::{self, Store};
 use crate::stores::LARGEST;
 use crate::timing::{least, once};
 use crate::Size;
@@ -19,7 +19,7 @@ pub fn table(size: Size, base: &Base) {
     let [all, one, vectors] = least(size.kinds, |way| match way {
         0 => once(|| views(&base.words, &asks, &mut ours)),
         1 => once(|| views(&base.words, &asks[..ASK_WORDS], &mut [0; SHOWN_WORDS])),
-        _ => once(|| rows::show(&base.plain, &asks, &mut theirs)),
+        _ => once(|| rows::show(|record, p| base.plain.view(record, p), &asks, &mut theirs)),
     });
     assert!(ours == theirs, "the views and the vectors reply differently");
     let granted = ours.chunks(SHOWN_WORDS).filter(|reply| reply[0] == 0).count();

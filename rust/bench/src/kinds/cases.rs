@@ -9,11 +9,12 @@ use zohetiwa::LAST;
 /// Records that the lists of one kind touch.
 const MANY: u64 = 1000;
 
-/// The calls that are timed, after those before them.
+/// The calls that are timed, after those before them, and their replies.
 pub struct Case {
     pub name: &'static str,
     pub before: Vec<u64>,
     pub calls: Vec<u64>,
+    pub replies: Vec<u64>,
 }
 
 impl Case {
@@ -26,6 +27,7 @@ struct Maker {
     plain: Plain<true>,
     before: Vec<u64>,
     calls: Vec<u64>,
+    replies: Vec<u64>,
     /// A point later than all in the store.
     late: u64,
 }
@@ -38,12 +40,14 @@ impl Maker {
         let reply = rows::answer(&mut self.plain, call);
         assert_eq!(reply[0], 0, "{call:?}");
         self.calls.extend(call);
+        self.replies.extend(reply);
         reply
     }
 
     /// Only the calls from here on are timed.
     fn start(&mut self) {
         self.before = std::mem::take(&mut self.calls);
+        self.replies.clear();
     }
 
     fn edits(&mut self, count: usize) -> Vec<u64> {
@@ -107,9 +111,10 @@ impl Maker {
 
 impl Base {
     fn case(&self, name: &'static str, make: impl Fn(&mut Maker)) -> Case {
-        let mut maker = Maker { plain: self.copy().plain, before: vec![], calls: vec![], late: self.late };
+        let plain = self.copy().plain;
+        let mut maker = Maker { plain, before: vec![], calls: vec![], replies: vec![], late: self.late };
         make(&mut maker);
-        Case { name, before: maker.before, calls: maker.calls }
+        Case { name, before: maker.before, calls: maker.calls, replies: maker.replies }
     }
 
     /// A list by 40 edits, for the first time.
@@ -140,8 +145,17 @@ impl Base {
         })
     }
 
-    pub fn begins(&self) -> Case {
-        self.case("Begin", |m| _ = m.edits(LARGEST.edits))
+    pub fn begins(&self) -> Vec<Case> {
+        vec![
+            self.case("Begin, first of its slot", |m| _ = m.edits(LARGEST.edits)),
+            self.case("Begin, again in its slot", |m| {
+                for edit in m.edits(LARGEST.edits) {
+                    m.call([ABORT, edit, 0, 0, 0, 0]);
+                }
+                m.start();
+                m.edits(LARGEST.edits);
+            }),
+        ]
     }
 
     pub fn cases(&self) -> Vec<Case> {
