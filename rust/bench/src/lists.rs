@@ -32,10 +32,10 @@ fn words_time(list: &List, run: fn(&mut [u64], &[u64], &mut [u64])) -> f64 {
     timed(list, |calls, replies| run(&mut words, calls, replies))
 }
 
-/// The median nanoseconds of each kind among the first calls of the list, one by one on a fresh store.
-fn by_kind<S: Store + ?Sized>(list: &List, count: usize, store: &mut S) -> [f64; KINDS.len()] {
+/// The median nanoseconds of each kind among the calls of the list, one by one on a fresh store.
+fn by_kind<S: Store + ?Sized>(list: &List, store: &mut S) -> [f64; KINDS.len()] {
     let mut times = [const { vec![] }; KINDS.len()];
-    for (call, plain) in list.calls.chunks(ROW).zip(list.replies.chunks(ROW)).take(count) {
+    for (call, plain) in list.calls.chunks(ROW).zip(list.replies.chunks(ROW)) {
         let call: Row = call.try_into().expect("six words");
         let mut reply = [0; ROW];
         let time = once(|| reply = rows::answer(store, call));
@@ -51,12 +51,12 @@ fn count(list: &List, kind: u64) -> (usize, usize) {
 }
 
 /// What is in the list, and its calls one by one.
-fn kinds(prefix: usize, list: &List) {
-    println!("\nThe kinds in the list, and those on its first {prefix} calls one by one, median ns.\n");
+fn kinds(list: &List) {
+    println!("\nThe kinds in the list, and its calls one by one, all replies compared. Median ns.\n");
     println!("| Call | in the list | refused | public call | session call |");
     println!("|---|---|---|---|---|");
     let (mut words, mut opened) = (stores::fresh(LARGEST), stores::fresh(LARGEST));
-    let times = by_kind(list, prefix, &mut words[..]).into_iter().zip(by_kind(list, prefix, &mut open(&mut opened)));
+    let times = by_kind(list, &mut words[..]).into_iter().zip(by_kind(list, &mut open(&mut opened)));
     for (kind, (public, session)) in times.enumerate() {
         let (calls, refused) = count(list, kind as u64);
         println!("| {} | {calls} | {refused} | {public:.0} | {session:.0} |", KINDS[kind]);
@@ -85,5 +85,5 @@ pub fn table(size: Size) {
     line("plain vectors without indexes", bare);
     line("batch, its check included", batch);
     line("session, its opening included", session);
-    kinds(size.prefix, &list);
+    kinds(&list);
 }

@@ -31,10 +31,9 @@ pub struct Size {
     pub runs: usize,
     /// Rounds of the most filled store.
     pub rounds: u64,
-    /// Calls of the long list, runs of it, and how many of its calls go through the public functions.
+    /// Calls of the long list, and runs of it.
     pub calls: usize,
     pub lists: usize,
-    pub prefix: usize,
     /// Runs of each list of one kind.
     pub kinds: usize,
 }
@@ -43,8 +42,8 @@ fn main() -> ExitCode {
     let words: Vec<String> = std::env::args().skip(1).collect();
     let words: Vec<&str> = words.iter().map(String::as_str).collect();
     let size = match words[..] {
-        [] => Size { runs: 201, rounds: stores::ROUNDS, calls: 100_000, lists: 21, prefix: 20_000, kinds: 101 },
-        ["short"] => Size { runs: 3, rounds: 4, calls: 6_000, lists: 1, prefix: 1_000, kinds: 1 },
+        [] => Size { runs: 201, rounds: stores::ROUNDS, calls: 100_000, lists: 21, kinds: 101 },
+        ["short"] => Size { runs: 3, rounds: 4, calls: 6_000, lists: 1, kinds: 1 },
         _ => {
             eprintln!("usage: bench [short]");
             return ExitCode::FAILURE;
