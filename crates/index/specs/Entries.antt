@@ -19,7 +19,7 @@ pub record Unmarked (ix ix′ : List ℕ) (k r : ℕ) : Type 0 where
   pub gone : r < MARKS → ix′ ≡ set ix (k * MARKS + r) 0
   pub none : MARKS ≤ r → ix′ ≡ ix
 
--- the marks of slot k that the first n turns meet are 0; each other one stays or is 0, and so do all other entries
+-- the marks of slot k that the first n turns meet are 0, its other marks stay or are 0; all other entries stay
 pub record Wiped (ix ix′ : List ℕ) (k n : ℕ) : Type 0 where
   pub size : length ix′ ≡ length ix
   pub others : (i : ℕ) → i < k * MARKS ⊎ (k * MARKS + MARKS ≤ i) → getD ix′ i 0 ≡ getD ix i 0

@@ -11,8 +11,7 @@ ghost use Rattle.types.specs.Replies.{ofBegin};
 ghost use Rattle.tables.specs.Layout.{Fits};
 ghost use Rattle.tables.specs.Decode.{decodeAt, AccessRow};
 ghost use Rattle.index.specs.Index.{SLOTS, MARKS, INDEX, countOf, silent, known, turns, turn, Indexed};
-ghost use Rattle.index.specs.Index.{RightOfAll};
-ghost use Rattle.index.specs.Index.{Marked, Cleared, Touched, Begun};
+ghost use Rattle.index.specs.Index.{RightOfAll, Marked, Cleared, Touched, Begun};
 ghost use Rattle.index.specs.Entries.{Added, Unmarked, Wiped};
 use types::BeginReply;
 use types::Counts;
@@ -161,6 +160,7 @@ fn wipe_all(ix: &mut [u16], k: usize)
     }
 }
 
+// All marks of slot k that are set go.
 fn wipe(ix: &mut [u16], k: usize)
     requires { ⌜ (length (now ix) ≡ INDEX) × (k < SLOTS) ⌝ }
     ensures { λ _. ⌜ Wiped (now (ix .entry)) (now (ix .exit)) k (turns (now (ix .entry)) k MARKS) ⌝ }
