@@ -130,11 +130,16 @@ static void fresh(void) {
     memcpy(twin, words, sizeof words);
 }
 
+static int index_untouched(void) { return memcmp(index_numbers, untouched_numbers, sizeof index_numbers) == 0; }
+
 /* The session of document 01, then what it does not reach; each function is granted and refused. */
 static void all_calls(void) {
     fresh();
     open_session("a fresh store");
+    memcpy(untouched_numbers, index_numbers, sizeof index_numbers);
     begin();
+    /* One of another length is taken for none, and only time would show it. */
+    expect("a Begin is noted in an index of its length", index_untouched() == (index_length != ZOHETIWA_INDEX));
     begin();
     begin(); /* 13 */
     read_up_to(65, 0, 6, ZOHETIWA_ALL);
@@ -196,8 +201,6 @@ static void opened_again(void) {
     commit_latest(130, ZOHETIWA_SETTLE);
     abort_edit(65, ZOHETIWA_SETTLE);
 }
-
-static int index_untouched(void) { return memcmp(index_numbers, untouched_numbers, sizeof index_numbers) == 0; }
 
 /* Words that are not sound: 1, and the index stays. */
 static void not_sound(void) {

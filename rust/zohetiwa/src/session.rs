@@ -352,3 +352,22 @@ impl<'a> Chart<'a> {
         codes::view(code, point, written, value)
     }
 }
+
+#[cfg(test)]
+mod tests {
+    use crate::*;
+
+    /// An index of another length is taken for none, and only time would show it: in this one a Begin is noted.
+    #[test]
+    fn the_index_has_its_length() {
+        let counts = Counts { records: 1, edits: 1, versions: 1, locks: 1, accesses: 1 };
+        for (length, noted) in [(INDEX - 1, false), (INDEX, true), (INDEX + 1, false)] {
+            let mut words = vec![0; counts.length()];
+            format(&mut words, counts).expect("a store");
+            let mut session = Session::open_with(&mut words, vec![0; length]).expect("a session");
+            let before = session.index.clone();
+            session.begin().expect("an edit");
+            assert_eq!(session.index != before, noted, "{length}");
+        }
+    }
+}
