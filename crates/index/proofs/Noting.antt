@@ -9,7 +9,7 @@ use mathlib.Core.List.{List}
 use lib.Dec.{leb}
 use lib.ListN.{length}
 use borrow.Author.Tests.{eqb-true, leb-true}
-use Rattle.types.specs.Limits.{FREE, SETTLED}
+use Rattle.types.specs.Limits.{SLOTS, FREE, SETTLED}
 use Rattle.types.specs.Replies.{Reply, edit, ofBegin}
 use Rattle.types.specs.declared.BeginReply.{BeginReply}
 use Rattle.types.specs.declared.BeginReply.the-variants as Bg
@@ -31,7 +31,7 @@ use Rattle.meaning.proofs.Verdicts.{needs-pass}
 use Rattle.meaning.proofs.SoundParts.{sound-out}
 use Rattle.meaning.proofs.Granted.{free-found}
 use Rattle.tables.proofs.Header.{good-ranged}
-use Rattle.index.specs.Index.{SLOTS, MARKS, touched, silent, Met, Indexed, Notes, Touched, Marked, Cleared, Begun}
+use Rattle.index.specs.Index.{MARKS, touched, silent, Met, Indexed, Notes, Touched, Marked, Cleared, Begun}
 use Rattle.index.proofs.Says.{met-among}
 use Rattle.index.proofs.Calls.{begin-after, write-after, lock-after, read-after, commit-after, abort-after}
 use Rattle.index.proofs.Calls.{settle-after, purge-after, view-after}

@@ -10,8 +10,9 @@ use lib.ListN.{length, getD, set, length-set}
 use lib.Seq.{getD-set-same, getD-set-other}
 use lib.Dec.{eqb, leb}
 use borrow.Author.Tests.{eq-eqb, ne-eqb, eqb-true, leb-true, le-leb, lt-leb}
+use Rattle.types.specs.Limits.{SLOTS}
 use Rattle.meaning.proofs.Lists.{not-both, and-right}
-use Rattle.index.specs.Index.{SLOTS, MARKS, LISTS, LIST, LISTED, UNKNOWN, INDEX, markOf, countOf, listedOf}
+use Rattle.index.specs.Index.{MARKS, LISTS, LIST, LISTED, UNKNOWN, INDEX, markOf, countOf, listedOf}
 use Rattle.index.specs.Index.{silent}
 use Rattle.index.specs.Index.{known, turns, turn, Met, Whole, Marked, Cleared}
 use Rattle.index.specs.Entries.{Added, Unmarked, Wiped}

@@ -7,6 +7,7 @@ use mathlib.Core.Bool.{Bool, true, false, cond, _&&_, _||_}
 use mathlib.Core.List.{List}
 use lib.ListN.{length, getD}
 use lib.Dec.{eqb, leb}
+use Rattle.types.specs.Limits.{SLOTS, MAX-RECORDS}
 use Rattle.meaning.specs.Lists.{any}
 use Rattle.meaning.specs.Store.{Store, slotOf, editAt, recAt, names}
 use Rattle.meaning.specs.Points.{isOwned}
@@ -17,26 +18,23 @@ use Rattle.types.specs.declared.Call.{Call}
 
 -- Its numbers: for each of 64 slots a mark for each of 1,024 records; then for each slot a list of records, how many
 -- they are and 63 places for them. A greater number of them is that of a list that is not kept: nothing is known.
-abbrev pub SLOTS : ℕ
-SLOTS = 64
-
 abbrev pub MARKS : ℕ
-MARKS = 1024
+MARKS = MAX-RECORDS
 
 abbrev pub LISTS : ℕ
-LISTS = 65536
-
-abbrev pub LIST : ℕ
-LIST = 64
+LISTS = SLOTS * MARKS
 
 abbrev pub LISTED : ℕ
 LISTED = 63
+
+abbrev pub LIST : ℕ
+LIST = LISTED + 1
 
 abbrev pub UNKNOWN : ℕ
 UNKNOWN = 65535
 
 abbrev pub INDEX : ℕ
-INDEX = 69632
+INDEX = LISTS + SLOTS * LIST
 
 -- slot k has an access of record r, or a lock on it
 unfoldable pub touched : Store → ℕ → ℕ → Bool

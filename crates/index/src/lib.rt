@@ -10,26 +10,30 @@ ghost use Rattle.chains.specs.Walk.{IsRow};
 ghost use Rattle.types.specs.Replies.{ofBegin};
 ghost use Rattle.tables.specs.Layout.{Fits};
 ghost use Rattle.tables.specs.Decode.{decodeAt, AccessRow};
-ghost use Rattle.index.specs.Index.{SLOTS, MARKS, INDEX, countOf, silent, known, turns, turn, Indexed};
+ghost use Rattle.types.specs.Limits.{SLOTS};
+ghost use Rattle.index.specs.Index.{MARKS, INDEX, countOf, silent, known, turns, turn, Indexed};
 ghost use Rattle.index.specs.Index.{RightOfAll, Marked, Cleared, Touched, Begun};
 ghost use Rattle.index.specs.Entries.{Added, Unmarked, Wiped};
 use types::BeginReply;
 use types::Counts;
 use types::Handle;
 
-// How many numbers an index has: 1,024 marks for each of 64 slots, and a list of 64 for each.
-pub const INDEX: usize = 69632;
-
-// What every number of an index is that knows nothing.
-pub const UNKNOWN: u16 = 65535;
+// 1,024 marks for each of 64 slots, then for each slot a list: how many records it has, and 63 places for them.
+const SLOTS: usize = 64;
 
 const MARKS: usize = 1024;
 
-const LISTS: usize = 65536;
+const LISTS: usize = SLOTS * MARKS;
+
+const LISTED: u16 = 63;
 
 const LIST: usize = 64;
 
-const LISTED: u16 = 63;
+// How many numbers an index has.
+pub const INDEX: usize = LISTS + SLOTS * LIST;
+
+// What every number of an index is that knows nothing.
+pub const UNKNOWN: u16 = 65535;
 
 // An index of which nothing is known yet: it says nothing of any slot until the slot's next Begin.
 pub fn forget(ix: &mut [u16])
