@@ -7,7 +7,7 @@ use mathlib.Core.Bool.{Bool, true, false, cond}
 use borrow.Author.Tests.{ltb-true, ltb-false}
 use Rattle.types.specs.Replies.{Reply}
 use Rattle.meaning.specs.Store.{Store}
-use Rattle.meaning.specs.Calls.{act}
+use Rattle.meaning.specs.Calls.{actBy}
 use Rattle.layers.specs.Programs.{answer, play}
 use Rattle.desk.specs.Replies.{says}
 use Rattle.desk.specs.Desk.{ended, between, within, empty, shrink}
@@ -56,7 +56,7 @@ just-within s tr end =
 
 pub read-leaves : (s : Session) (tr end : ℕ) (q : Reply) (t : Store)
     → ReadLeaves s tr end q (play (shrink s q (within s (suc tr) end)) t .told)
-unfolding play act
+unfolding play actBy
 read-leaves s tr end q t = go (ended (within s (suc tr) end)) refl
   where
     next : Session

@@ -23,7 +23,7 @@ use Rattle.meaning.specs.Edits.{freeSlot, beginChecks, beginning}
 use Rattle.meaning.specs.Locking.{locking, reading}
 use Rattle.meaning.specs.Ending.{committing, aborting}
 use Rattle.meaning.specs.Records.{viewing, viewChecks}
-use Rattle.meaning.specs.Calls.{act}
+use Rattle.meaning.specs.Calls.{actBy}
 use Rattle.meaning.proofs.After.{lock-is-inside, read-leaves-open, abort-ends, commit-ends, commits-where-named}
 use Rattle.store.specs.Promises.{mayBegin}
 use Rattle.layers.specs.Programs.{Program, Played, answer, play, denied}
@@ -50,14 +50,14 @@ module _ (s : Session) (t : Store) (m : ended s ≡ false) where
       → play (deskRead s rec) t
       ≡ play (onceRead s (reading (s .handle .0) rec (s .high .0) Part t .reply))
       (reading (s .handle .0) rec (s .high .0) Part t .store)
-  unfolding deskRead play act
+  unfolding deskRead play actBy
   read-plays rec = rw m
 
   write-plays : (rec : ℕ) (v : Val)
       → play (deskWrite s rec v) t
       ≡ play (onceLocked s rec v (locking (s .handle .0) rec (s .low .0) (s .high .0) Part t .reply))
       (locking (s .handle .0) rec (s .low .0) (s .high .0) Part t .store)
-  unfolding deskWrite play act
+  unfolding deskWrite play actBy
   write-plays rec v = rw m
 
   -- the reply of the store's Commit
@@ -65,11 +65,11 @@ module _ (s : Session) (t : Store) (m : ended s ≡ false) where
   committed = committing (s .handle .0) (Named (named s)) Settle t .reply
 
   commit-plays : play (deskCommit s) t .told ≡ says (cond (endsEdit committed) (closed s) s) committed
-  unfolding deskCommit play act
+  unfolding deskCommit play actBy
   commit-plays = rw m
 
   commit-stores : play (deskCommit s) t .store ≡ committing (s .handle .0) (Named (named s)) Settle t .store
-  unfolding deskCommit play act
+  unfolding deskCommit play actBy
   commit-stores = rw m
 
 -- Refusals of the desk itself.
@@ -189,7 +189,7 @@ unsound-opens-none t width latest = go (goodStart t width)
     go false = refl
 
 pub good-start-opens : GoodStartOpens
-unfolding play deskOpen act
+unfolding play deskOpen actBy
 good-start-opens t width latest s g =
     rw g
     record {
@@ -229,7 +229,7 @@ told-not q e = let z : _≡_ {A = ℕ} 0 1 = cc in absurd (omega arith)
 shrink-emptied : (s : Session) (q : Reply) (next : Session) (t : Store)
     → play (shrink s q next) t .told .report ≡ emptied
     → play (shrink s q next) t .store ≡ aborting (s .handle .0) Settle t .store
-unfolding play act
+unfolding play actBy
 shrink-emptied s q next t e = go (ended next) e
   where
     go : (b : Bool)
@@ -290,7 +290,7 @@ write-shrinks s rec low high v t f m e =
         }
 
 pub write-stores : WriteStores
-unfolding play act
+unfolding play actBy
 write-stores s rec low high v t m e = rw (write-plays s t m rec v, e) (refl, refl)
 
 -- Commit.
@@ -363,7 +363,7 @@ same : (s : Session) → Same s s
 same s = record { handle = refl; width = refl; setting = refl }
 
 read-same : (s : Session) {q : Reply} (t : Store) → ReadOr q → Same s (play (onceRead s q) t .told .session)
-unfolding play act
+unfolding play actBy
 read-same s t (new tr end v) = go (ended (within s (suc tr) end))
   where
     go : (b : Bool)

@@ -13,7 +13,7 @@ use Rattle.types.specs.declared.Extent.the-variants.{Part}
 use Rattle.types.specs.declared.Finish.the-variants.{Settle}
 use Rattle.types.specs.declared.Pick.the-variants.{Named}
 use Rattle.types.specs.declared.Value.{Value}
-use Rattle.meaning.specs.Calls.{act}
+use Rattle.meaning.specs.Calls.{act, actBy}
 use Rattle.meaning.specs.Contract.{Does}
 use Rattle.meaning.proofs.After.{lock-grants-or-refuses}
 use Rattle.tables.specs.Words.{Lent, lent, decode, soundWords}
@@ -76,7 +76,7 @@ module _ (s : Session) where
   -- Write: its Lock is granted, or refused
   lock-told : (rec : ℕ) {w w₁ : Lent} {q : Reply} → Does Lent decode soundWords (act (locks rec)) w w₁ q
       → ((n : ℕ) × (more : List ℕ) × (q ≡ refusing n more)) ⊎ ((a : ℕ) × (b : ℕ) × (q ≡ locked a b))
-  unfolding act
+  unfolding actBy
   lock-told rec {w} {w₁} {q} d = go (soundWords w) refl
     where
       go : (b : Bool) → soundWords w ≡ b

@@ -13,7 +13,7 @@ use Rattle.types.specs.declared.Call.the-variants as C
 use Rattle.types.specs.declared.Extent.the-variants.{Part}
 use Rattle.meaning.specs.Store.{Store}
 use Rattle.meaning.specs.Edits.{writing}
-use Rattle.meaning.specs.Calls.{act}
+use Rattle.meaning.specs.Calls.{act, actBy}
 use Rattle.meaning.specs.Contract as contract
 use Rattle.meaning.proofs.After.{lock-leaves-open, write-lacks-a-row}
 use Rattle.tables.specs.Words.{Lent, lent, decode, soundWords}
@@ -157,7 +157,7 @@ module _ (s s′ : Session) (rec : ℕ) (v : Val) (w w′ : List ℕ) (n : ℕ) 
   lock-remains : (x : Lent) (low high : ℕ) → DoesCall locks (lent w) x (locked low high) → between s low high ≡ s′
       → DoesCall writes x (lent w′) (refusing n more)
       → LockRemains s s′ rec w w′ n
-  unfolding act
+  unfolding actBy
   lock-remains x low high d i t =
       record {
         low = low;

@@ -15,7 +15,7 @@ use Rattle.types.specs.declared.Call.{Call}
 use Rattle.types.specs.declared.Call.the-variants as C
 use Rattle.meaning.specs.Store.{Store}
 use Rattle.meaning.specs.Records.{viewing}
-use Rattle.meaning.specs.Calls.{act}
+use Rattle.meaning.specs.Calls.{act, actBy}
 use Rattle.meaning.specs.Contract.{Does, Formats}
 use Rattle.meaning.proofs.Lists.{not-both}
 use Rattle.serial.specs.Serializable.{Seq, ε, _▸_, History, Commits, plainEnd, State, Run, CommitOrder}
@@ -177,7 +177,7 @@ module _ (Lent : Type 0) (decode : Lent → Store) (soundLent : Lent → Bool) w
       → Calls Lent decode soundLent w ds ps w′
       → Leaves n l w → Run end E
       → ViewsFit l end ds ps
-  unfolding act
+  unfolding actBy
   views-fit done h e = tt
   views-fit {l = l} {end = end} (then {w = w} {c = c} {q = q} d r) h e = (fits, views-fit r (call-leaves c d h) e)
     where

@@ -8,7 +8,7 @@ use mathlib.Core.List.{List, [], _∷_}
 use Rattle.meaning.specs.Store.{Store, fresh}
 use Rattle.types.specs.Replies.{Reply}
 use Rattle.meaning.specs.Records.{viewing}
-use Rattle.meaning.specs.Calls.{act, run, after}
+use Rattle.meaning.specs.Calls.{act, actBy, run, runBy, after, afterBy}
 use Rattle.meaning.specs.Sound.{soundStore}
 use Rattle.types.specs.declared.Call.{Call}
 use Rattle.types.specs.declared.Call.the-variants as C
@@ -31,7 +31,7 @@ module _ (Lent : Type 0) (decode : Lent → Store) (soundLent : Lent → Bool) w
       }
 
   pub ensures-does : EnsuresDoes Lent decode soundLent
-  unfolding act
+  unfolding actBy
   ensures-does C.Begin w w′ q d = d
   ensures-does (C.Write h r v) w w′ q d = d
   ensures-does (C.Lock h r low high e) w w′ q d = d
@@ -56,7 +56,7 @@ does-act c s h =
 
 calls-are : (cs : List Call) (s : Store) → soundStore s ≡ true
     → Calls Store (λ t. t) soundStore s cs (run cs s) (after cs s)
-unfolding run after
+unfolding runBy afterBy
 calls-are [] s h = done
 calls-are (c ∷ cs) s h = then (does-act c s h) (calls-are cs (act c s .store) (calls-keep-sound c s h))
 

@@ -19,8 +19,10 @@ use Rattle.types.specs.Values.{Val}
 use Rattle.types.specs.Replies.{ok, commit, nopoint}
 use Rattle.meaning.specs.Outcomes.{pass, replies, Verdict, needs, knows, isOpen, versionRoom}
 use Rattle.meaning.specs.Ending.{ended, settledLocks, settled, finished, insert, newVersion, committed, aborted}
-use Rattle.meaning.specs.Ending.{goodPick, chosen, allowed, noCommon, commitVerdict, commitOpen, commitChecks}
-use Rattle.meaning.specs.Ending.{committing, abortChecks, aborting, settleChecks, settling}
+use Rattle.meaning.specs.Ending.{goodPick, chosen, allowed, noCommon, commitVerdict, commitOpen, commitOpenBy}
+use Rattle.meaning.specs.Ending.{commitChecks}
+use Rattle.meaning.specs.Ending.{committing, committingBy, abortChecks, aborting, abortingBy, settleChecks, settling}
+use Rattle.meaning.specs.Ending.{settlingBy}
 use Rattle.meaning.specs.Pointwise.{LockOn, HeldOn, InCommonSet}
 use Rattle.meaning.specs.SoundFacts.{SoundStore}
 use Rattle.types.specs.declared.Value.the-variants.{Written}
@@ -38,7 +40,8 @@ use Rattle.meaning.proofs.Changed.{edit-committed-other, edit-settled, edit-set
 use Rattle.meaning.proofs.Changed.{edit-aborted-other}
 use Rattle.meaning.proofs.Inserted.{insert-new, insert-old, insert-out}
 use Rattle.meaning.proofs.Kept.{access-read}
-use Rattle.meaning.proofs.LocksLeft.{settled-other, settled-reads, settled-writes}
+use Rattle.meaning.proofs.LocksLeft.{settled-locked, settled-reads, settled-writes}
+use Rattle.meaning.proofs.LockChanges.{held-is}
 use Rattle.meaning.proofs.Verdicts.{needs-pass, forOpen-pass, PassedOpen, knows-out}
 use Rattle.meaning.proofs.EditChanged.{aborted-sound}
 use Rattle.meaning.proofs.Committed.{own-lock, committed-sound}
@@ -170,32 +173,13 @@ module _ (s : Store) (k : ℕ) (good : SoundStore s) (range : InRange (s .edits)
 
   -- a lock of another owner
   module _ (r j : ℕ) (n : ¬ (j ≡ k)) where
-    held-left : {q : ℕ} → HeldOn (recAt s r .locks) j q → HeldOn (recAt left r .locks) j q
-    held-left h =
-        rw (left-is r) (
-        record {
-          lock = h .lock;
-          member =
-              settled-other k (editAt s k) r (recAt s r .locks) (h .lock) (h .member) (λ z. n (sym (h .owned) ∙ z));
-          owned = h .owned;
-          from = h .from;
-          upto = h .upto;
-        }
-        )
-
     locked-left : {m q : ℕ} → LockOn (recAt s r .locks) j m q → LockOn (recAt left r .locks) j m q
-    locked-left h =
-        rw (left-is r) (
-        record {
-          lock = h .lock;
-          member =
-              settled-other k (editAt s k) r (recAt s r .locks) (h .lock) (h .member) (λ z. n (sym (h .owned) ∙ z));
-          owned = h .owned;
-          moded = h .moded;
-          from = h .from;
-          upto = h .upto;
-        }
-        )
+    locked-left {m} {q} h = rw (left-is r) (settled-locked k (editAt s k) r (recAt s r .locks) j m q h n)
+
+    held-left : {q : ℕ} → HeldOn (recAt s r .locks) j q → HeldOn (recAt left r .locks) j q
+    held-left {q} h =
+        let w = held-is (recAt s r .locks) j q .0 h in
+        held-is (recAt left r .locks) j q .1 (w .0, locked-left (w .1))
 
   settle-moves : Moves (slots s) (slots left)
   settle-moves =
@@ -301,7 +285,7 @@ module _ {l : History Val} (h : Handle) (s : Store) (good : Good s) (run : Runs 
 
   pub commit-continues : (pick : Pick) (f : Finish) → SoundSlots (slots (committing (h .0) pick f s .store))
       → Continues l (C.Commit h pick f) (committing (h .0) pick f s)
-  unfolding committing commitChecks commitOpen commitVerdict versionRoom
+  unfolding committingBy commitChecks commitOpenBy commitVerdict versionRoom
   commit-continues pick f S =
       unless-continues c s run (commitChecks s (h .0) pick) (commitOpen s own pick f) S (λ e T.
       let p = forOpen-pass s (h .0) (needs (goodPick pick) 6 pass) e in
@@ -328,13 +312,13 @@ module _ {l : History Val} (h : Handle) (s : Store) (good : Good s) (run : Runs 
 
   pub abort-continues : (f : Finish) → SoundSlots (slots (aborting (h .0) f s .store))
       → Continues l (C.Abort h f) (aborting (h .0) f s)
-  unfolding aborting abortChecks
+  unfolding abortingBy abortChecks
   abort-continues f S =
       unless-continues (C.Abort h f) s run (abortChecks s (h .0)) (replies (finished f (aborted s own) own) ok) S
       (λ e T. then (ends (forOpen-pass s (h .0) pass e) f T) passes T)
 
   pub settle-continues : SoundSlots (slots (settling (h .0) s .store)) → Continues l (C.Settle h) (settling (h .0) s)
-  unfolding settling settleChecks
+  unfolding settlingBy settleChecks
   settle-continues S =
       unless-continues (C.Settle h) s run (settleChecks s (h .0)) (replies (settled s own) ok) S (λ e T.
       let a = needs-pass (knows s (h .0)) 2 (needs (not (isOpen s (h .0))) 4 pass) e in

@@ -8,12 +8,15 @@ use Rattle.types.specs.Numbers.{slotOf}
 use Rattle.types.specs.Replies.{ok, own, again, commit, nopoint, purged}
 use Rattle.meaning.specs.Outcomes.{Outcome, replies}
 use Rattle.meaning.specs.Edits.{begun, beginChecks, beginning, written, writeChecks, writing}
-use Rattle.meaning.specs.Locking.{withLock, lockVerdict, lockChecks, lockWanted, locking, readVerdict, readStore}
-use Rattle.meaning.specs.Locking.{readNew, readOpen, readChecks, reading}
+use Rattle.meaning.specs.Locking.{withLock, lockVerdict, lockChecks, lockWanted, lockWantedBy, lockingBy, readVerdict}
+use Rattle.meaning.specs.Locking.{readStore, readStoreBy}
+use Rattle.meaning.specs.Locking.{readNew, readNewBy, readOpen, readOpenBy, readChecks, readingBy}
 use Rattle.meaning.specs.Ending.{settled, finished, committed, aborted, chosen, noCommon, commitVerdict, commitOpen}
-use Rattle.meaning.specs.Ending.{commitChecks, committing, abortChecks, aborting, settleChecks, settling}
+use Rattle.meaning.specs.Ending.{commitOpenBy}
+use Rattle.meaning.specs.Ending.{commitChecks, committingBy, abortChecks, abortingBy, settleChecks}
+use Rattle.meaning.specs.Ending.{settlingBy}
 use Rattle.meaning.specs.Records.{purgedRec, purgeVerdict, purgeTo, purgeChecks, purging, viewChecks, viewing}
-use Rattle.meaning.specs.Calls.{act}
+use Rattle.meaning.specs.Calls.{act, actBy}
 use Rattle.types.specs.declared.Point.{Point}
 use Rattle.types.specs.declared.Finish.{Finish}
 use Rattle.types.specs.declared.Finish.the-variants as F
@@ -50,8 +53,9 @@ module _ {P : Store → Type 0} {May : ℕ → ℕ → Type 0} (kept : Kept P Ma
   aborted-keeps s k h = kept .edit s k _ h
 
   pub call-keeps : (c : Call) (s : Store) → MayPurge May c s → P s → P (act c s .store)
-  unfolding act beginning begun writing written locking lockWanted reading readOpen readNew readStore committing
-      commitOpen aborting settling purging purgeTo viewing
+  unfolding actBy beginning begun writing written lockingBy lockWantedBy readingBy readOpenBy readNewBy readStoreBy
+      committingBy
+      commitOpenBy abortingBy settlingBy purging purgeTo viewing
   call-keeps C.Begin s may h = unless-keeps P s (beginChecks s) (replies (begun s _) _) h (λ e. kept .edit s _ _ h)
   call-keeps (C.Write g r v) s may h =
       unless-keeps P s (writeChecks s (g .0) r) (replies (written s (slotOf (g .0)) r v) ok) h (λ e. kept .edit s _ _ h)

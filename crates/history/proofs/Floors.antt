@@ -7,7 +7,7 @@ use Rattle.types.specs.declared.Counts.{Counts}
 use Rattle.types.specs.declared.Version.{Version}
 use Rattle.meaning.specs.Store.{Rec, Store, fresh, freshRec, recOf, recAt, withEdit}
 use Rattle.meaning.specs.Store.{newestAt}
-use Rattle.meaning.specs.Locking.{withLock}
+use Rattle.meaning.specs.Locking.{withLockBy}
 use Rattle.meaning.specs.Records.{purgedRec}
 use Rattle.meaning.specs.Pointwise.{NewestIs, none, one}
 use Rattle.meaning.proofs.Newest.{newest-at-is}
@@ -43,7 +43,7 @@ module _ (r p : ℕ) where
   fresh-low c = rw (getD-replicate (c .records) r freshRec) fresh-floor
 
   pub low-kept : Kept Low ToLow
-  unfolding withEdit withLock purgedRec
+  unfolding withEdit withLockBy purgedRec
   low-kept =
       record {
         edit = λ s k e h. h;

@@ -16,7 +16,7 @@ use Rattle.types.specs.Replies.{ok, edit}
 use Rattle.meaning.specs.Outcomes.{replies}
 use Rattle.meaning.specs.Edits.{beginning}
 use Rattle.meaning.specs.Ending.{aborting}
-use Rattle.meaning.specs.Calls.{act, run, after, opened}
+use Rattle.meaning.specs.Calls.{act, actBy, run, runBy, after, afterBy, opened}
 use Rattle.meaning.specs.Records.{goodCounts}
 use Rattle.meaning.specs.Contract.{Does}
 use Rattle.types.specs.declared.Finish.the-variants.{Settle}
@@ -79,7 +79,7 @@ module _ (g : ℕ) where
 -- the store after n rounds
 rounds-leave : (n g : ℕ) → g < GENERATIONS
     → after (rounds n g) (with-slot FREE g) ≡ with-slot FREE ((g + n) % GENERATIONS)
-unfolding rounds after act
+unfolding rounds afterBy actBy
 rounds-leave zero g h = let q : g ≡ (g + 0) % GENERATIONS = omega arith in ap (λ i. with-slot FREE i) q
 rounds-leave (suc n) g h =
     let q : (nextGeneration g + n) % GENERATIONS ≡ (g + suc n) % GENERATIONS = omega arith in
@@ -89,7 +89,7 @@ rounds-leave (suc n) g h =
 -- and the length of what is heard
 rounds-count : (n g : ℕ) (l : History Val)
     → count (heardAfter l (rounds n g) (run (rounds n g) (with-slot FREE g))) ≡ count l + 2 * n
-unfolding rounds run act
+unfolding rounds runBy actBy
 rounds-count zero g l = omega arith
 rounds-count (suc n) g l =
     rw (begin-replies g, round-replies g, round-leaves g) (
@@ -105,7 +105,7 @@ through n g l = heardAfter l (rounds n g) (run (rounds n g) (with-slot FREE g))
 
 rounds-begun : (n g : ℕ) (l : History Val) → g < GENERATIONS → ended n g l ≡ through n g l
     ▸ begun (handle ((g + suc n) % GENERATIONS) 1)
-unfolding rounds run act
+unfolding rounds runBy actBy
 rounds-begun zero g l h = rw (begin-replies g) refl
 rounds-begun (suc n) g l h =
     let q : (nextGeneration g + suc n) % GENERATIONS ≡ (g + suc (suc n)) % GENERATIONS = omega arith in
@@ -133,7 +133,7 @@ other-handle n g (inr (low, high)) e =
     go (suc k) q = omega (arith, high, q)
 
 rounds-keep : (n g : ℕ) (l : History Val) → Apart n g → editOf (through n g l) 65 ≡ editOf l 65
-unfolding rounds run act
+unfolding rounds runBy actBy
 rounds-keep zero g l h = refl
 rounds-keep (suc n) g l h =
     rw (begin-replies g, round-replies g, round-leaves g) (
@@ -142,7 +142,7 @@ rounds-keep (suc n) g l h =
     )
 
 until : (n : ℕ) → 1 ≤ n → n ≤ GENERATIONS → editOf (through n 0 ε) 65 ≡ 1
-unfolding rounds run act
+unfolding rounds runBy actBy
 until zero low high = absurd (omega (arith, low))
 until (suc n) low high =
     rw (begin-replies 0, round-replies 0, round-leaves 0) (
@@ -150,7 +150,7 @@ until (suc n) low high =
     )
 
 begun-after : (n h e : ℕ) → handle ((n + 1) % GENERATIONS) 1 ≡ h → 2 * n + 1 ≡ e → BegunAfter n h e
-unfolding act roundsBegun
+unfolding actBy roundsBegun
 begun-after n h e p q =
     record {
       reply =
@@ -179,7 +179,7 @@ slot-formed state g = refl
 begin-does : (g : ℕ) → Sound FREE g
     → Does Lent decode soundWords (act C.Begin) (lent (slotWords FREE g)) (lent (slotWords OPEN (nextGeneration g)))
     (edit (given g))
-unfolding act
+unfolding actBy
 begin-does g h =
     word-does C.Begin (slotWords FREE g) (slotWords OPEN (nextGeneration g)) (edit (given g)) h
     (rw (slot-decodes FREE g) (sym (begin-replies g)))
@@ -192,7 +192,7 @@ abort-it g = C.Abort (record { 0 = given g }) Settle
 abort-does : (g : ℕ) → Sound OPEN (nextGeneration g)
     → Does Lent decode soundWords (act (abort-it g)) (lent (slotWords OPEN (nextGeneration g)))
     (lent (slotWords FREE (nextGeneration g))) ok
-unfolding act
+unfolding actBy
 abort-does g h =
     word-does (abort-it g) (slotWords OPEN (nextGeneration g)) (slotWords FREE (nextGeneration g)) ok h
     (rw (slot-decodes OPEN (nextGeneration g), abort-given g) refl)
@@ -202,7 +202,7 @@ abort-does g h =
 rounds-calls : (n g : ℕ) → Sound FREE g
     → Calls Lent decode soundWords (lent (slotWords FREE g)) (rounds n g ++ (C.Begin ∷ []))
     (run (rounds n g ++ (C.Begin ∷ [])) (with-slot FREE g)) (lent (slotWords OPEN ((g + suc n) % GENERATIONS)))
-unfolding rounds run act
+unfolding rounds runBy actBy
 rounds-calls zero g h = rw (begin-replies g) (then (begin-does g h) done)
 rounds-calls (suc n) g h =
     let q : (nextGeneration g + suc n) % GENERATIONS ≡ (g + suc (suc n)) % GENERATIONS = omega arith in

@@ -1,5 +1,5 @@
--- Demand 3 for the calls of the store: each call as steps of the serial core, the theorems, charts, and examples. Rests
--- on the crates `types`, `meaning`, `serial`, `tables` and `format`.
+-- Demand 3 for the calls of the store: each call as steps of the serial core, the theorems, charts, the old table of
+-- locks, and examples. Rests on the crates `types`, `meaning`, `serial`, `tables` and `format`.
 pub mod StoreSlots
 pub mod EveryCall
 pub mod EachRecord
@@ -19,6 +19,7 @@ pub mod CommitList
 pub mod Examples
 pub mod Handles
 pub mod OverStore
+pub mod OldTable
 pub mod WordSteps
 pub mod ExampleWords
 pub mod Charts

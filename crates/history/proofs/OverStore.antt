@@ -36,7 +36,7 @@ unfolding formatFits
 good c n h = and-left (goodCounts c) _ h
 
 -- so its words are sound and mean the fresh store
-formats : {c : Counts} {w w′ : List ℕ} → Formats c w w′ ok → contract.Formats Lent decode soundWords c (lent w′)
+pub formats : {c : Counts} {w w′ : List ℕ} → Formats c w w′ ok → contract.Formats Lent decode soundWords c (lent w′)
 formats {c} {w} {w′} f =
     let h = fits f in
     let g = good c (length w) h in

@@ -7,7 +7,7 @@ use Rattle.types.specs.Limits.{LAST}
 use Rattle.meaning.specs.Store.{Store, fresh}
 use Rattle.types.specs.Replies.{Reply}
 use Rattle.meaning.specs.Records.{viewing}
-use Rattle.meaning.specs.Calls.{act, run, after}
+use Rattle.meaning.specs.Calls.{act, run, runBy, after, afterBy}
 use Rattle.types.specs.declared.Counts.{Counts}
 use Rattle.types.specs.declared.Call.{Call}
 use Rattle.serial.specs.Serializable.{CommitOrder}
@@ -24,7 +24,7 @@ module _ (Lent : Type 0) (decode : Lent → Store) (soundLent : Lent → Bool) w
 
   follows : {w w′ : Lent} {cs : List Call} {qs : List Reply} → Calls Lent decode soundLent w cs qs w′
       → soundLent w ≡ true → Follows w w′ cs qs
-  unfolding run after
+  unfolding runBy afterBy
   follows done s = record { replies = refl; ends = refl; holds = s }
   follows (then {w = w} {w₁ = w₁} {c = c} {q = q} {cs = cs} {qs = qs} d r) s =
       let f = follows r (d .stays s) in

@@ -17,8 +17,9 @@ use Rattle.meaning.specs.Store.{accessOf, hasRead, first, versionOn}
 use Rattle.types.specs.Replies.{own, again}
 use Rattle.meaning.specs.Outcomes.{replies, Verdict, hasRecord}
 use Rattle.meaning.specs.Edits.{withAccess}
-use Rattle.meaning.specs.Locking.{withLock, readVersion, readEnd, readVerdict, readAccess, readStore, readNew, readOpen}
-use Rattle.meaning.specs.Locking.{readChecks, reading}
+use Rattle.meaning.specs.Locking.{withLock, withLockBy, readVersion, readEnd, readVerdict, readAccess, readStore}
+use Rattle.meaning.specs.Locking.{readStoreBy, readNew, readNewBy, readOpen, readOpenBy}
+use Rattle.meaning.specs.Locking.{readChecks, reading, readingBy}
 use Rattle.meaning.specs.Pointwise.{NewestIs, none, one}
 use Rattle.meaning.specs.SoundFacts.{SoundStore, Present}
 use Rattle.types.specs.declared.Value.{Value}
@@ -103,7 +104,7 @@ module _ (s : Store) (h r : ℕ) {rest : Verdict} (p : PassedOpen s h rest) (the
   after = readStore s k r (suc t) end
 
   is-done : editAt after k ≡ done
-  unfolding readStore withLock withRecords withEdit
+  unfolding readStoreBy withLockBy withRecords withEdit
   is-done = edit-same (s .edits) k done (p .known .range)
 
   here : accessOf (editAt after k) r ≡ a
@@ -145,7 +146,7 @@ module _ (s : Store) (h r : ℕ) {rest : Verdict} (p : PassedOpen s h rest) (the
 
     first-read : (x : Value) → StandsIn (slots s) r t (toldValue x)
         → FirstRead (slots s) (slots after) k h r t (toldValue x)
-    unfolding readStore withLock withRecords withEdit withAccess
+    unfolding readStoreBy withLockBy withRecords withEdit withAccess
     first-read x stands =
         record {
           grows =
@@ -165,7 +166,7 @@ module _ (s : Store) (h r : ℕ) {rest : Verdict} (p : PassedOpen s h rest) (the
 pub read-continues : {l : History Val} (h : Handle) (r : ℕ) (m : Point) (w : Extent) (s : Store) → Good s → Runs l s
     → SoundSlots (slots (reading (h .0) r (m .0) w s .store))
     → Continues l (C.Read h r m w) (reading (h .0) r (m .0) w s)
-unfolding reading readChecks readOpen readNew
+unfolding readingBy readChecks readOpenBy readNewBy
 read-continues h r m w s good run S =
     unless-continues c s run (readChecks s (h .0) r (m .0)) (readOpen s k r (m .0) w) S (λ e T.
     let p = forOpen-pass s (h .0) _ e in

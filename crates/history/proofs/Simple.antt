@@ -16,7 +16,8 @@ use Rattle.types.specs.Replies.{ok, edit, locked, at}
 use Rattle.meaning.specs.Outcomes.{pass, replies, hasRecord}
 use Rattle.meaning.specs.Edits.{withAccess, freeSlot, openedEdit, begun, beginChecks, beginning, writtenAccess, written}
 use Rattle.meaning.specs.Edits.{writeChecks, writing}
-use Rattle.meaning.specs.Locking.{withLock, lockVerdict, lockChecks, lockWanted, locking}
+use Rattle.meaning.specs.Locking.{withLock, withLockBy, lockVerdict, lockChecks, lockWanted, lockWantedBy, locking}
+use Rattle.meaning.specs.Locking.{lockingBy}
 use Rattle.meaning.specs.Records.{viewChecks, viewing}
 use Rattle.types.specs.declared.Lock.{Lock}
 use Rattle.types.specs.declared.Access.{Access}
@@ -158,7 +159,7 @@ write-continues h r v s run S =
 -- one record's locks grow
 module _ (s : Store) (r mode k low high : ℕ) (there : r < length (s .records)) where
   pub lock-grows : (i : ℕ) → Locked (recAt s i) (recAt (withLock s r mode k low high) i)
-  unfolding withLock withRecords
+  unfolding withLockBy withRecords
   lock-grows = each-rec (λ i y. Locked (recAt s i) y) (s .records) r _ there grown (λ i. locked-refl (recAt s i))
     where
       new : Lock
@@ -168,7 +169,7 @@ module _ (s : Store) (r mode k low high : ℕ) (there : r < length (s .records))
       grown = record { floor = refl; versions = refl; locks = λ l m. added-old new (recAt s r .locks) m }
 
   lock-moves : Moves (slots s) (slots (withLock s r mode k low high))
-  unfolding withLock withRecords
+  unfolding withLockBy withRecords
   lock-moves =
       moves-more (λ i. editAt s i) (λ i. editAt s i) (λ x. recAt s x) (λ x. recAt (withLock s r mode k low high) x)
       lock-grows
@@ -179,7 +180,7 @@ module _ (s : Store) (r mode k low high : ℕ) (there : r < length (s .records))
 pub lock-continues : {l : History Val} (h : Handle) (r : ℕ) (low high : Point) (w : Extent) (s : Store) → Runs l s
     → SoundSlots (slots (locking (h .0) r (low .0) (high .0) w s .store))
     → Continues l (C.Lock h r low high w) (locking (h .0) r (low .0) (high .0) w s)
-unfolding locking lockChecks lockWanted
+unfolding lockingBy lockChecks lockWantedBy
 lock-continues h r low high w s run S =
     let k = slotOf (h .0) in
     unless-continues c s run (lockChecks s (h .0) r (low .0) (high .0)) (lockWanted s k r (low .0) (high .0) w) S

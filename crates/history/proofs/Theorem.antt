@@ -14,7 +14,7 @@ use Rattle.meaning.specs.Store.{Rec, Edit, Store, fresh, freshRec, freshEdit, e
 use Rattle.types.specs.Values.{Val}
 use Rattle.types.specs.Replies.{at}
 use Rattle.meaning.specs.Records.{goodCounts, viewing}
-use Rattle.meaning.specs.Calls.{act, run, after}
+use Rattle.meaning.specs.Calls.{act, actBy, run, runBy, after, afterBy}
 use Rattle.meaning.specs.Pointwise.{NewestIs, none, one}
 use Rattle.types.specs.declared.Value.{Value}
 use Rattle.types.specs.declared.Version.{Version}
@@ -49,7 +49,7 @@ call-good c s g =
 -- every call goes on with the run
 call-continues : {l : History Val} (c : Call) (s : Store) → Good s → Runs l s → SoundSlots (slots (act c s .store))
     → Continues l c (act c s)
-unfolding act
+unfolding actBy
 call-continues C.Begin s g r S = begin-continues s r S
 call-continues (C.Write h k v) s g r S = write-continues h k v s r S
 call-continues (C.Lock h k low high w) s g r S = lock-continues h k low high w s r S
@@ -78,7 +78,7 @@ call-left {n} c s g =
 
 list-left : {n : ℕ} {l : History Val} (cs : List Call) (s : Store) → Left n l s
     → Left n (heardAfter l cs (run cs s)) (after cs s)
-unfolding run after
+unfolding runBy afterBy
 list-left [] s g = g
 list-left (c ∷ cs) s g = list-left cs (act c s .store) (call-left c s g)
 

@@ -12,8 +12,8 @@ use Rattle.meaning.specs.Store.{Rec, Store, fresh, freshRec, editAt, recOf, rec
 use Rattle.types.specs.Values.{Val}
 use Rattle.meaning.specs.Store.{withLocks, accessOf}
 use Rattle.meaning.specs.Points.{addLock}
-use Rattle.meaning.specs.Locking.{withLock}
-use Rattle.meaning.specs.Ending.{settledRec, settled, insert, newVersion, committedRec, committed}
+use Rattle.meaning.specs.Locking.{withLock, withLockBy}
+use Rattle.meaning.specs.Ending.{settledRec, settled, settledBy, insert, newVersion, committedRec, committed}
 use Rattle.meaning.specs.Records.{purgedRec}
 use Rattle.types.specs.declared.Counts.{Counts}
 use Rattle.types.specs.declared.Version.{Version}
@@ -41,7 +41,7 @@ module _ (s : Store) (h : Valued s) where
   rec-valued r x f i = rec-keeps Of of-fresh i s r x (λ q. f) (h i)
 
   lock-valued : (r mode k low high : ℕ) → Valued (withLock s r mode k low high)
-  unfolding withLock
+  unfolding withLockBy
   lock-valued r mode k low high =
       rec-valued r
       (withLocks (recAt s r) (addLock (record { low = low; high = high; mode = mode; owner = k }) (recAt s r .locks)))
@@ -86,7 +86,7 @@ abbrev pub Records : ℕ → Store → Type 0
 Records n s = length (s .records) ≡ n
 
 pub records-kept : (n : ℕ) → Kept (Records n) Always
-unfolding withEdit withRecords withLock committed settled
+unfolding withEdit withRecords withLockBy committed settledBy
 records-kept n =
     record {
       edit = λ s k e h. h;

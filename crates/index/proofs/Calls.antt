@@ -19,12 +19,16 @@ use Rattle.meaning.specs.Points.{dropOwner}
 use Rattle.meaning.specs.Outcomes.{Outcome, replies}
 use Rattle.meaning.specs.Edits.{beginning, beginChecks, begun, freeSlot, openedEdit, writing, writeChecks, written}
 use Rattle.meaning.specs.Edits.{writtenAccess}
-use Rattle.meaning.specs.Locking.{locking, lockChecks, lockWanted, lockVerdict, withLock, reading, readChecks, readOpen}
-use Rattle.meaning.specs.Locking.{readNew, readVerdict, readStore, readFrom, readEnd, readVersion, readAccess, lockFrom}
+use Rattle.meaning.specs.Locking.{locking, lockingBy, lockChecks, lockWanted, lockWantedBy, lockVerdict, withLock}
+use Rattle.meaning.specs.Locking.{withLockBy, reading, readingBy, readChecks, readOpen, readOpenBy}
+use Rattle.meaning.specs.Locking.{readNew, readNewBy, readVerdict, readStore, readStoreBy, readFrom, readEnd}
+use Rattle.meaning.specs.Locking.{readVersion, readAccess, lockFrom}
 use Rattle.meaning.specs.Locking.{lockEnd}
-use Rattle.meaning.specs.Ending.{committing, commitChecks, commitOpen, commitVerdict, chosen, noCommon, committed}
-use Rattle.meaning.specs.Ending.{committedRec, aborting, abortChecks, aborted, settling, settleChecks, settled}
-use Rattle.meaning.specs.Ending.{settledLocks, settledRec, locksLeft, finished, freed, ended}
+use Rattle.meaning.specs.Ending.{committing, committingBy, commitChecks, commitOpen, commitOpenBy, commitVerdict}
+use Rattle.meaning.specs.Ending.{chosen, noCommon, committed}
+use Rattle.meaning.specs.Ending.{committedRec, aborting, abortingBy, abortChecks, aborted, settling, settlingBy}
+use Rattle.meaning.specs.Ending.{settleChecks, settled, settledBy}
+use Rattle.meaning.specs.Ending.{settledLocks, settledLocksBy, settledRec, locksLeft, finished, freed, ended}
 use Rattle.meaning.specs.Records.{purging, purgeChecks, purgeTo, purgeVerdict, purgedRec, viewing, viewChecks}
 use Rattle.meaning.proofs.Lists.{not-both}
 use Rattle.meaning.proofs.Verdicts.{unless-keeps}
@@ -35,7 +39,7 @@ use Rattle.index.proofs.Touching.{by-locks, edit-change, rec-change, ma
 module _ (k r : ℕ) (h : 1 ≤ k) where
   -- changes of the store that end or settle an edit
   pub settled-after : (s : Store) (j : ℕ) → touched (settled s j) k r ≡ true → touched s k r ≡ true
-  unfolding settled settledLocks names
+  unfolding settledBy settledLocksBy names
   settled-after s j =
       edit-change (withRecords s (mapFrom 0 (settledRec j (editAt s j)) (s .records))) k r j (freed (editAt s j))
       (λ z p. absurd (not-both p refl)) (map-change s k r (settledRec j (editAt s j)) less (λ q. q))
@@ -86,19 +90,19 @@ module _ (k r : ℕ) (h : 1 ≤ k) where
         (λ q. q) (λ e. begun-after (freeSlot s))
 
     pub abort-after : (g : ℕ) (f : Finish) → After (aborting g f s .store)
-    unfolding aborting
+    unfolding abortingBy
     abort-after g f =
         unless-keeps After s (abortChecks s g) (replies (finished f (aborted s (slotOf g)) (slotOf g)) ok) (λ q. q)
         (λ e q. aborted-after s (slotOf g) (finished-after f (aborted s (slotOf g)) (slotOf g) q))
 
     pub settle-after : (g : ℕ) → After (settling g s .store)
-    unfolding settling
+    unfolding settlingBy
     settle-after g =
         unless-keeps After s (settleChecks s g) (replies (settled s (slotOf g)) ok) (λ q. q)
         (λ e. settled-after s (slotOf g))
 
     pub commit-after : (g : ℕ) (pick : Pick) (f : Finish) → After (committing g pick f s .store)
-    unfolding committing commitOpen
+    unfolding committingBy commitOpenBy
     commit-after g pick f =
         unless-keeps After s (commitChecks s g pick) (commitOpen s j pick f) (λ q. q) (λ e. go (noCommon s j))
       where
@@ -160,7 +164,7 @@ module _ (k r : ℕ) (h : 1 ≤ k) where
       Beyond s′ = touched s′ k r ≡ true → Touching
 
       lock-beyond : (mode low high : ℕ) → Beyond (withLock s i mode j low high)
-      unfolding withLock
+      unfolding withLockBy
       lock-beyond mode low high =
           rec-change s k r i _ (λ z p. go z (holds-added k _ (recAt s i .locks) p)) (λ q. inl q)
         where
@@ -180,7 +184,7 @@ module _ (k r : ℕ) (h : 1 ≤ k) where
           (named-put r (writtenAccess (editAt s j) i v) (editAt s j) p)) (λ q. inl q)
 
       read-beyond : (from end : ℕ) → Beyond (readStore s j i from end)
-      unfolding readStore
+      unfolding readStoreBy
       read-beyond from end =
           edit-change (withLock s i READ j from end) k r j _
           (λ z p. put-beyond z (readAccess i from) refl (named-put r (readAccess i from) (editAt s j) p))
@@ -193,7 +197,7 @@ module _ (k r : ℕ) (h : 1 ≤ k) where
         (λ e. written-beyond (slotOf g) i v)
 
     pub lock-after : (g i low high : ℕ) (w : Extent) → Beyond (slotOf g) i (locking g i low high w s .store)
-    unfolding locking lockWanted
+    unfolding lockingBy lockWantedBy
     lock-after g i low high w =
         unless-keeps (Beyond j i) s (lockChecks s g i low high) (lockWanted s j i low high w) (λ q. inl q) (λ e.
         unless-keeps (Beyond j i) s (lockVerdict s j i low high w)
@@ -209,7 +213,7 @@ module _ (k r : ℕ) (h : 1 ≤ k) where
         end = lockEnd w (slotOf g) (recAt s i) low high
 
     new-after : (j i m : ℕ) (w : Extent) → Beyond j i (readNew s j i m w .store)
-    unfolding readNew
+    unfolding readNewBy
     new-after j i m w =
         unless-keeps (Beyond j i) s (readVerdict s j i m w)
         (replies (readStore s j i (readFrom s i m) (readEnd s j i m w))
@@ -217,7 +221,7 @@ module _ (k r : ℕ) (h : 1 ≤ k) where
         (λ e. read-beyond j i (readFrom s i m) (readEnd s j i m w))
 
     pub read-after : (g i m : ℕ) (w : Extent) → Beyond (slotOf g) i (reading g i m w s .store)
-    unfolding reading readOpen
+    unfolding readingBy readOpenBy
     read-after g i m w =
         unless-keeps (Beyond (slotOf g) i) s (readChecks s g i m) (readOpen s (slotOf g) i m w) (λ q. inl q)
         (λ e. go (a .written) (hasRead a))

@@ -24,7 +24,7 @@ use Rattle.meaning.specs.Store.{Store, countsOf, handle, slotOf, nextGeneration
 use Rattle.meaning.specs.Points.{isOwned}
 use Rattle.meaning.specs.Outcomes.{Verdict, pass, refuse, unless, replies}
 use Rattle.meaning.specs.Edits.{beginning, beginChecks, begun, freeSlot}
-use Rattle.meaning.specs.Calls.{act}
+use Rattle.meaning.specs.Calls.{actBy}
 use Rattle.meaning.specs.Sound.{soundStore}
 use Rattle.meaning.proofs.Lists.{or-out, not-both, false-in, any-out}
 use Rattle.meaning.proofs.Verdicts.{needs-pass}
@@ -115,7 +115,7 @@ module _ (s : Store) (sound : soundStore s ≡ true) where
 -- each call
 module _ (ix ix′ : List ℕ) (r : Reply) where
   pub notes-begin : Begun ix ix′ r → Notes C.Begin r ix ix′
-  unfolding act
+  unfolding actBy
   notes-begin B = record { keeps = λ s g e I. go s g e I B }
     where
       go : (s : Store) → soundStore s ≡ true → r ≡ beginning s .reply → Indexed s ix → Begun ix ix′ r
@@ -126,13 +126,13 @@ module _ (ix ix′ : List ℕ) (r : Reply) where
           (new-untouched s g (z .0) (sym (z .1) ∙ e))
 
   pub notes-write : (h : Handle) (i v : ℕ) → Touched ix ix′ (h .0) i → Notes (C.Write h i v) r ix ix′
-  unfolding act
+  unfolding actBy
   notes-write h i v T =
       record { keeps = λ s g e I. touched-kept s _ ix ix′ I (h .0) i T (λ k q l. write-after k q l s (h .0) i v) }
 
   pub notes-lock : (h : Handle) (i : ℕ) (low high : Point) (w : Extent) → Touched ix ix′ (h .0) i
       → Notes (C.Lock h i low high w) r ix ix′
-  unfolding act
+  unfolding actBy
   notes-lock h i low high w T =
       record {
         keeps = λ s g e I.
@@ -141,7 +141,7 @@ module _ (ix ix′ : List ℕ) (r : Reply) where
 
   pub notes-read : (h : Handle) (i : ℕ) (m : Point) (w : Extent) → Touched ix ix′ (h .0) i
       → Notes (C.Read h i m w) r ix ix′
-  unfolding act
+  unfolding actBy
   notes-read h i m w T =
       record {
         keeps = λ s g e I. touched-kept s _ ix ix′ I (h .0) i T (λ k q l. read-after k q l s (h .0) i (m .0) w);
@@ -149,24 +149,24 @@ module _ (ix ix′ : List ℕ) (r : Reply) where
 
 module _ (ix : List ℕ) (r : Reply) where
   pub notes-commit : (h : Handle) (pick : Pick) (f : Finish) → Notes (C.Commit h pick f) r ix ix
-  unfolding act
+  unfolding actBy
   notes-commit h pick f =
       record { keeps = λ s g e I. kept s _ ix ix I (λ k q l. commit-after k q l s (h .0) pick f) }
 
   pub notes-abort : (h : Handle) (f : Finish) → Notes (C.Abort h f) r ix ix
-  unfolding act
+  unfolding actBy
   notes-abort h f = record { keeps = λ s g e I. kept s _ ix ix I (λ k q l. abort-after k q l s (h .0) f) }
 
   pub notes-settle : (h : Handle) → Notes (C.Settle h) r ix ix
-  unfolding act
+  unfolding actBy
   notes-settle h = record { keeps = λ s g e I. kept s _ ix ix I (λ k q l. settle-after k q l s (h .0)) }
 
   pub notes-purge : (i : ℕ) (b : Point) → Notes (C.Purge i b) r ix ix
-  unfolding act
+  unfolding actBy
   notes-purge i b = record { keeps = λ s g e I. kept s _ ix ix I (λ k q l. purge-after k q l s i (b .0)) }
 
   pub notes-view : (i : ℕ) (p : Point) → Notes (C.View i p) r ix ix
-  unfolding act
+  unfolding actBy
   notes-view i p = record { keeps = λ s g e I. kept s _ ix ix I (λ k q l. view-after k q l s i (p .0)) }
 
 -- the slot of a handle and a record as numbers

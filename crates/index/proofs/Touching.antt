@@ -2,19 +2,21 @@
 use Prim.Native.Nat.{ℕ, zero, suc, _≤_, _<_}
 use native.Mathlib.Omega.{arith}
 use native.Mathlib.Decide.{ℕ-discrete, decLt}
-use mathlib.Core.Path.{_≡_, refl, sym, _∙_}
+use mathlib.Core.Path.{_≡_, refl, sym, ap, _∙_}
 use mathlib.Core.Logic.{_⊎_, inl, inr}
 use mathlib.Core.Bool.{Bool, true, false, not, cond}
 use mathlib.Core.List.{List, [], _∷_, map}
 use lib.ListN.{length, set, length-set}
-use borrow.Author.Tests.{eqb-true, ne-eqb}
+use borrow.Author.Tests.{eqb-true}
 use Rattle.types.specs.Limits.{SETTLED}
-use Rattle.meaning.specs.Lists.{any, keep, mapFrom}
+use Rattle.meaning.specs.Lists.{_∈_, any, keep, mapFrom}
 use Rattle.meaning.specs.Store.{Lock, Access, Rec, Edit, Store, editAt, editOf, setEdit, recOf, recAt, names, isOf}
 use Rattle.meaning.specs.Store.{withEdit, withRecords, withRec}
-use Rattle.meaning.specs.Points.{isOwned, addLock, leaveSettled, dropOwner, trimTo, trimmed, emptied}
+use Rattle.meaning.specs.Points.{isOwned, addLock, leaveSettled, dropOwner, trimTo, trimmed, emptied, cut}
 use Rattle.meaning.specs.Edits.{withAccess}
 use Rattle.meaning.proofs.Lists.{or-out, or-left, or-right, not-both, any-in, any-out, keep-out}
+use Rattle.meaning.proofs.Joining.{put-out}
+use Rattle.meaning.proofs.LocksLeft.{leftRow, left-owner, leave-out}
 use Rattle.meaning.proofs.Stores.{edit-same, edit-other, edit-past, length-setEdit, rec-same, rec-other}
 use Rattle.meaning.proofs.Stores.{rec-past, rec-map, rec-map-past}
 use Rattle.index.specs.Index.{touched}
@@ -68,15 +70,27 @@ module _ (k : ℕ) where
 
   pub holds-settled : 1 ≤ k → (b : Bool) (mode low high : ℕ) (ls : List Lock)
       → Holds (leaveSettled b mode low high ls) → Holds ls
-  unfolding leaveSettled
-  holds-settled h false mode low high ls e = e
-  holds-settled h true mode low high ls e = rw (ne-eqb SETTLED k (λ z. omega arith)) at e
+  holds-settled h b mode low high ls e = go (leave-out b mode low high ls (m .0) (m .1))
+    where
+      m : (l : Lock) × (l ∈ leaveSettled b mode low high ls) × (isOwned k l ≡ true)
+      m = any-out (isOwned k) (leaveSettled b mode low high ls) e
+
+      go : ((b ≡ true) × (m .0 ≡ leftRow mode low high ls)) ⊎ (m .0 ∈ ls) → Holds ls
+      go (inl w) =
+          absurd (omega (
+            arith,
+            h,
+            eqb-true (m .0 .owner) k (m .2),
+            ap (λ l. l .owner) (w .1),
+            left-owner mode low high ls,
+          ))
+      go (inr i) = any-in (isOwned k) i (m .2)
 
   same-owner : (v : ℕ) (l : Lock) → isOwned k (trimmed v l) ≡ isOwned k l
   same-owner v l = go (isOwned SETTLED l)
     where
       go : (b : Bool) → isOwned k (cond b
-          (record { low = Prim.Native.Nat.max (l .low) (suc v); high = l .high; mode = l .mode; owner = l .owner }) l)
+          (cut v l) l)
           ≡ isOwned k l
       go true = refl
       go false = refl
@@ -98,11 +112,11 @@ module _ (k : ℕ) where
 
   pub holds-added : (l : Lock) (ls : List Lock) → Holds (addLock l ls) → (l .owner ≡ k) ⊎ Holds ls
   unfolding addLock
-  holds-added l ls e = go (or-out (isOwned k l) (any (isOwned k) ls) e)
+  holds-added l ls e = let m = any-out (isOwned k) (addLock l ls) e in go (m .0) (m .2) (put-out l ls (m .1))
     where
-      go : (isOwned k l ≡ true) ⊎ Holds ls → (l .owner ≡ k) ⊎ Holds ls
-      go (inl q) = inl (eqb-true (l .owner) k q)
-      go (inr q) = inr q
+      go : (x : Lock) → isOwned k x ≡ true → (x ≡ l) ⊎ (x ∈ ls) → (l .owner ≡ k) ⊎ Holds ls
+      go x q (inl z) = inl (eqb-true (l .owner) k (rw z at q))
+      go x q (inr i) = inr (any-in (isOwned k) i q)
 
 -- an access put
 module _ (r : ℕ) (a : Access) where

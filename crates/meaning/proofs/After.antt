@@ -21,11 +21,13 @@ use Rattle.meaning.specs.Store.{withRecords, accessOf, hasRead}
 use Rattle.meaning.specs.Outcomes.{Outcome, replies, Verdict, pass, refuse, needs, unless, knows, isOpen}
 use Rattle.meaning.specs.Outcomes.{hasRecord, accessRoom, lockRoom, judge}
 use Rattle.meaning.specs.Edits.{withAccess, writing, writeChecks, written}
-use Rattle.meaning.specs.Locking.{locking, lockChecks, lockWanted, lockVerdict, withLock, lockFrom, lockEnd}
-use Rattle.meaning.specs.Locking.{lockGranted, reading, readChecks, readOpen, readNew, readVerdict, readStore}
+use Rattle.meaning.specs.Locking.{locking, lockingBy, lockChecks, lockWanted, lockWantedBy, lockVerdict, withLock}
+use Rattle.meaning.specs.Locking.{withLockBy, lockFrom, lockEnd}
+use Rattle.meaning.specs.Locking.{lockGranted, reading, readingBy, readChecks, readOpen, readOpenBy, readNew}
+use Rattle.meaning.specs.Locking.{readNewBy, readVerdict, readStore, readStoreBy}
 use Rattle.meaning.specs.Locking.{readFrom, readEnd, readAccess}
-use Rattle.meaning.specs.Ending.{aborting, abortChecks, aborted, settled, freed, finished, committed}
-use Rattle.meaning.specs.Ending.{committing, commitChecks, commitOpen, commitVerdict, noCommon}
+use Rattle.meaning.specs.Ending.{abortingBy, abortChecks, aborted, settled, settledBy, freed, finished, committed}
+use Rattle.meaning.specs.Ending.{committingBy, commitChecks, commitOpenBy, commitVerdict, noCommon}
 use Rattle.meaning.specs.Points.{firstBlocked}
 use Rattle.meaning.specs.After.{OpenEdit, LockLeavesOpen, LockIsInside, WriteLacksARow, ReadLeavesOpen}
 use Rattle.meaning.specs.After.{AbortEnds, CommitEnds, CommitsWhereNamed, LockGrantsOrRefuses}
@@ -53,7 +55,7 @@ write-lacks-a-row s h r v n more i c e =
 
 -- Lock
 pub lock-grants-or-refuses : LockGrantsOrRefuses
-unfolding locking lockWanted
+unfolding lockingBy lockWantedBy
 lock-grants-or-refuses s h r low high w =
     go (lockChecks s h r low high) (lockVerdict s (slotOf h) r low high w) _ _ _
   where
@@ -66,15 +68,15 @@ lock-grants-or-refuses s h r low high w =
 
 module _ (s : Store) (h r low high : ℕ) (w : Extent) (a b : ℕ) (e : locking h r low high w s .reply ≡ locked a b) where
   checks : lockChecks s h r low high ≡ pass
-  unfolding locking
+  unfolding lockingBy
   checks = granted-pass s (lockChecks s h r low high) (lockWanted s (slotOf h) r low high w) (ap refused e)
 
   wanted : locking h r low high w s ≡ lockWanted s (slotOf h) r low high w
-  unfolding locking
+  unfolding lockingBy
   wanted = rw checks
 
   verdict : lockVerdict s (slotOf h) r low high w ≡ pass
-  unfolding lockWanted
+  unfolding lockWantedBy
   verdict =
       granted-pass s (lockVerdict s (slotOf h) r low high w) _
       (ap (λ (o : Outcome). refused (o .reply)) (sym wanted) ∙ ap refused e)
@@ -82,7 +84,7 @@ module _ (s : Store) (h r low high : ℕ) (w : Extent) (a b : ℕ) (e : locking 
   after : locking h r low high w s .store
       ≡ withLock s r WRITE (slotOf h) (lockFrom w (slotOf h) (recAt s r) low high)
       (lockEnd w (slotOf h) (recAt s r) low high)
-  unfolding lockWanted
+  unfolding lockWantedBy
   after = ap (λ (o : Outcome). o .store) wanted ∙ rw verdict
 
   passes : (knows s h ≡ true) × (isOpen s h ≡ true) × (hasRecord s r ≡ true) × (low ≤ high)
@@ -95,15 +97,15 @@ module _ (s : Store) (h r low high : ℕ) (w : Extent) (a b : ℕ) (e : locking 
       (k .0, i .0, c .0, leb-true low high (and-left (leb low high) (leb high LAST) (o .0)))
 
   there : (m k x y : ℕ) → hasRecord (withLock s r m k x y) r ≡ hasRecord s r
-  unfolding hasRecord withLock withRecords
+  unfolding hasRecord withLockBy withRecords
   there m k x y = rw length-set
 
   known : (m k x y : ℕ) → knows (withLock s r m k x y) h ≡ knows s h
-  unfolding knows withLock withRecords
+  unfolding knows withLockBy withRecords
   known m k x y = refl
 
   still-open : (m k x y : ℕ) → isOpen (withLock s r m k x y) h ≡ isOpen s h
-  unfolding isOpen withLock withRecords
+  unfolding isOpen withLockBy withRecords
   still-open m k x y = refl
 
   leaves : OpenEdit (locking h r low high w s .store) h × (hasRecord (locking h r low high w s .store) r ≡ true)
@@ -123,7 +125,7 @@ module _ (s : Store) (h r low high : ℕ) (w : Extent) (a b : ℕ) (e : locking 
 
   replied : locked a b
       ≡ locked (lockFrom w (slotOf h) (recAt s r) low high) (lockEnd w (slotOf h) (recAt s r) low high)
-  unfolding lockWanted
+  unfolding lockWantedBy
   replied = sym e ∙ ap (λ (o : Outcome). o .reply) wanted ∙ rw verdict
 
 pub lock-leaves-open : LockLeavesOpen
@@ -161,26 +163,26 @@ unfolding inUse
 free-slot es k e f = rw (eq-eqb (editOf (setEdit es k e) k .state) FREE (set-free es k e f))
 
 settled-unknown : (s : Store) (h : ℕ) → knows (settled s (slotOf h)) h ≡ false
-unfolding knows settled withEdit
+unfolding knows settledBy withEdit
 settled-unknown s h = rw (free-slot _ (slotOf h) (freed (editAt s (slotOf h))) refl)
 
 pub abort-ends : AbortEnds
-unfolding aborting abortChecks
+unfolding abortingBy abortChecks
 abort-ends s h i = rw (i .known, i .still) (refl, settled-unknown (aborted s (slotOf h)) h)
 
 -- Read
 module _ (s : Store) (h r m : ℕ) (w : Extent) (tr end : ℕ) (v : Value) (e : reading h r m w s .reply ≡ read tr end v)
   where
     read-checks : readChecks s h r m ≡ pass
-    unfolding reading
+    unfolding readingBy
     read-checks = granted-pass s (readChecks s h r m) (readOpen s (slotOf h) r m w) (ap refused e)
 
     read-open : reading h r m w s ≡ readOpen s (slotOf h) r m w
-    unfolding reading
+    unfolding readingBy
     read-open = rw read-checks
 
     read-new : readOpen s (slotOf h) r m w ≡ readNew s (slotOf h) r m w
-    unfolding readOpen
+    unfolding readOpenBy
     read-new =
         go (accessOf (editAt s (slotOf h)) r .written) (hasRead (accessOf (editAt s (slotOf h)) r)) _ _ _
         (ap (λ (o : Outcome). o .reply) (sym read-open) ∙ e)
@@ -198,14 +200,14 @@ module _ (s : Store) (h r m : ℕ) (w : Extent) (tr end : ℕ) (v : Value) (e : 
     read-is = read-open ∙ read-new
 
     read-verdict : readVerdict s (slotOf h) r m w ≡ pass
-    unfolding readNew
+    unfolding readNewBy
     read-verdict =
         granted-pass s (readVerdict s (slotOf h) r m w) _
         (ap (λ (o : Outcome). refused (o .reply)) (sym read-is) ∙ ap refused e)
 
     read-after : reading h r m w s .store
         ≡ readStore s (slotOf h) r (readFrom s r m) (readEnd s (slotOf h) r m w)
-    unfolding readNew
+    unfolding readNewBy
     read-after = ap (λ (o : Outcome). o .store) read-is ∙ rw read-verdict
 
     read-passes : OpenEdit s h
@@ -220,7 +222,7 @@ module _ (s : Store) (h r m : ℕ) (w : Extent) (tr end : ℕ) (v : Value) (e : 
       now = readStore s (slotOf h) r from upto
 
       read-edit : editAt now (slotOf h) ≡ withAccess (editAt s (slotOf h)) (readAccess r from)
-      unfolding readStore withEdit withLock withRecords
+      unfolding readStoreBy withEdit withLockBy withRecords
       read-edit = edit-same (s .edits) (slotOf h) _ (knows-out s h (read-passes .known) .range)
 
       read-state : editAt now (slotOf h) .state ≡ OPEN
@@ -251,7 +253,7 @@ read-leaves-open s h r m w tr end v e =
 
 -- Commit
 pub commit-ends : CommitEnds
-unfolding committing commitOpen
+unfolding committingBy commitOpenBy
 commit-ends s h pick e =
     go (commitChecks s h pick) (noCommon s (slotOf h)) (commitVerdict s (slotOf h) pick) _ e
   where
@@ -276,7 +278,7 @@ commit-ends s h pick e =
     go (refuse n more) b v t x = no x
 
 pub commits-where-named : CommitsWhereNamed
-unfolding committing commitOpen
+unfolding committingBy commitOpenBy
 commits-where-named s h p f t e =
     checked (commitChecks s h (Named p)) (noCommon s (slotOf h)) (commitVerdict s (slotOf h) (Named p)) e
   where

@@ -16,8 +16,10 @@ use Rattle.meaning.specs.Outcomes.{Outcome, pass, replies, orElse, needs
 use Rattle.meaning.specs.Outcomes.{lockRoom}
 use Rattle.meaning.specs.Edits.{freeSlot, begun, beginChecks, beginning, written, writeChecks, writing}
 use Rattle.meaning.specs.Locking.{lockFrom, lockEnd, lockGranted, withLock, lockVerdict, lockChecks, lockWanted}
-use Rattle.meaning.specs.Locking.{locking, readFrom, readEnd, readGranted, readVersion, readVerdict, readStore}
-use Rattle.meaning.specs.Locking.{readNew, readOpen, readChecks, reading}
+use Rattle.meaning.specs.Locking.{lockWantedBy}
+use Rattle.meaning.specs.Locking.{locking, lockingBy, readFrom, readEnd, readGranted, readVersion, readVerdict}
+use Rattle.meaning.specs.Locking.{readStore}
+use Rattle.meaning.specs.Locking.{readNew, readNewBy, readOpen, readOpenBy, readChecks, reading, readingBy}
 use Rattle.meaning.specs.Records.{viewChecks, viewing}
 use Rattle.meaning.specs.Sound.{soundStore}
 use Rattle.types.specs.declared.Extent.{Extent}
@@ -57,7 +59,7 @@ write-keeps h r v s f =
     (accessRoom-out s (slotOf h) r (b .0))))
 
 pub lock-keeps : (h r low high : ℕ) (w : Extent) (s : Store) → IsSound s → IsSound (locking h r low high w s .store)
-unfolding locking lockChecks lockWanted lockVerdict
+unfolding lockingBy lockChecks lockWantedBy lockVerdict
 lock-keeps h r low high w s f =
     unless-keeps IsSound s (lockChecks s h r low high) (lockWanted s k r low high w) f (λ e.
     let order = leb low high && leb high LAST in
@@ -93,7 +95,7 @@ module _ (s : Store) (f : IsSound s) (k r m : ℕ) (w : Extent) (there : r < len
     (used : editAt s k .state ≡ FREE → ⊥)
     (o : editAt s k .state ≡ OPEN) (last : m ≤ LAST) where
   new-read-keeps : IsSound (readNew s k r m w .store)
-  unfolding readNew readVerdict
+  unfolding readNewBy readVerdict
   new-read-keeps =
       unless-keeps IsSound s (readVerdict s k r m w)
       (replies (readStore s k r (readFrom s r m) (readEnd s k r m w))
@@ -126,7 +128,7 @@ either-keeps P s x y z false true h g = h
 either-keeps P s x y z false false h g = g
 
 pub read-keeps : (h r m : ℕ) (w : Extent) (s : Store) → IsSound s → IsSound (reading h r m w s .store)
-unfolding reading readChecks readOpen
+unfolding readingBy readChecks readOpenBy
 read-keeps h r m w s f =
     unless-keeps IsSound s (readChecks s h r m) (readOpen s (slotOf h) r m w) f (λ e.
     let k = slotOf h in

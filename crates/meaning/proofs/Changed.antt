@@ -10,7 +10,7 @@ use Rattle.meaning.specs.Lists.{_∈_, mapFrom}
 use Rattle.types.specs.Limits.{COMMITTED, ABORTED}
 use Rattle.meaning.specs.Store.{Access, Rec, Edit, Store, freshRec, countsOf, editAt, recAt, withEdit}
 use Rattle.meaning.specs.Store.{withRecords, withRec}
-use Rattle.meaning.specs.Ending.{ended, freed, settledRec, settled, committedRec, committed, aborted}
+use Rattle.meaning.specs.Ending.{ended, freed, settledRec, settled, settledBy, committedRec, committed, aborted}
 use Rattle.meaning.specs.Records.{goodCounts}
 use Rattle.meaning.proofs.Lists.{length-mapFrom}
 use Rattle.meaning.proofs.Stores.{InRange, edit-same, edit-other, length-setEdit, rec-same, rec-other, rec-past}
@@ -45,11 +45,11 @@ module _ (s : Store) (k t r : ℕ) where
 
 module _ (s : Store) (k r : ℕ) where
   pub rec-settled : r < length (s .records) → recAt (settled s k) r ≡ settledRec k (editAt s k) r (recAt s r)
-  unfolding settled withEdit withRecords
+  unfolding settledBy withEdit withRecords
   rec-settled h = rec-map (settledRec k (editAt s k)) (s .records) r h
 
   pub rec-settled-past : length (s .records) ≤ r → recAt (settled s k) r ≡ freshRec
-  unfolding settled withEdit withRecords
+  unfolding settledBy withEdit withRecords
   rec-settled-past h = rec-map-past (settledRec k (editAt s k)) (s .records) r h
 
   pub rec-settled-any : NamesExisting s k → recAt (settled s k) r ≡ settledRec k (editAt s k) r (recAt s r)
@@ -94,11 +94,11 @@ module _ (s : Store) (k t : ℕ) where
 
 module _ (s : Store) (k : ℕ) where
   pub edit-settled : InRange (s .edits) k → editAt (settled s k) k ≡ freed (editAt s k)
-  unfolding settled withEdit withRecords
+  unfolding settledBy withEdit withRecords
   edit-settled h = edit-same (s .edits) k (freed (editAt s k)) h
 
   pub edit-settled-other : (j : ℕ) → (j ≡ k → ⊥) → editAt (settled s k) j ≡ editAt s j
-  unfolding settled withEdit withRecords
+  unfolding settledBy withEdit withRecords
   edit-settled-other j h = edit-other (s .edits) k j (freed (editAt s k)) h
 
   pub edit-aborted : InRange (s .edits) k → editAt (aborted s k) k ≡ ended (editAt s k) ABORTED 0

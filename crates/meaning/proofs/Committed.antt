@@ -160,6 +160,8 @@ module _ (s : Store) (k t : ℕ) (good : SoundStore s) (st : editAt s k .state �
           owner = b .owner;
           apart = b .apart;
           backed = λ v m h. back v (insert-out new (x .versions) m) h;
+          rises = b .rises;
+          joined = b .joined;
         }
 
   rec-done : (r : ℕ) → SoundRec es′ r (committedRec e t r (recAt s r))

@@ -52,6 +52,8 @@ module _ (es es′ : List Edit) (kept : EditsKept es es′) (r : ℕ) where
         owner = λ l m. go l (h .owner l m);
         apart = h .apart;
         backed = λ v m a. backed-kept (v .point) (x .locks) (h .backed v m a);
+        rises = h .rises;
+        joined = h .joined;
       }
     where
       go : (l : Lock) → (l .owner ≡ SETTLED) ⊎ (editOf es (l .owner) .state ≡ FREE → ⊥)

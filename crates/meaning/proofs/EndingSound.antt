@@ -17,8 +17,9 @@ use Rattle.meaning.specs.Points.{isOwned, earliest, latest}
 use Rattle.meaning.specs.Outcomes.{replies, pass, needs, unless, knows, isOpen, hasRecord, versionRoom}
 use Rattle.types.specs.Replies.{ok, commit, nopoint, purged}
 use Rattle.meaning.specs.Ending.{finished, settled, committed, aborted, goodPick, chosen, allowed, noCommon}
-use Rattle.meaning.specs.Ending.{commitVerdict, commitOpen, commitChecks, committing, abortChecks, aborting}
-use Rattle.meaning.specs.Ending.{settleChecks, settling}
+use Rattle.meaning.specs.Ending.{commitVerdict, commitOpen, commitOpenBy, commitChecks, committing, committingBy}
+use Rattle.meaning.specs.Ending.{abortChecks, aborting, abortingBy}
+use Rattle.meaning.specs.Ending.{settleChecks, settling, settlingBy}
 use Rattle.meaning.specs.Records.{purgedRec, purgeVerdict, purgeTo, purgeChecks, purging}
 use Rattle.meaning.specs.Sound.{soundStore}
 use Rattle.meaning.specs.SoundFacts.{SoundStore}
@@ -103,7 +104,7 @@ module _ (s : Store) (k : ℕ) (holds : IsSound s) (st : editAt s k .state ≡ O
       ))
 
   open-keeps : (pick : Pick) (f : Finish) → IsSound (commitOpen s k pick f .store)
-  unfolding commitOpen commitVerdict
+  unfolding commitOpenBy commitVerdict
   open-keeps pick f = go (noCommon s k) refl
     where
       go : (b : Bool) → noCommon s k ≡ b
@@ -122,19 +123,19 @@ module _ (s : Store) (k : ℕ) (holds : IsSound s) (st : editAt s k .state ≡ O
 
 pub commit-keeps : (h : ℕ) (pick : Pick) (f : Finish) (s : Store) → soundStore s ≡ true
     → soundStore (committing h pick f s .store) ≡ true
-unfolding committing commitChecks
+unfolding committingBy commitChecks
 commit-keeps h pick f s holds =
     unless-keeps IsSound s (commitChecks s h pick) (commitOpen s (slotOf h) pick f) holds
     (λ e. open-keeps s (slotOf h) holds (forOpen-pass s h (needs (goodPick pick) 6 pass) e .state) pick f)
 
 pub abort-keeps : (h : ℕ) (f : Finish) (s : Store) → soundStore s ≡ true → soundStore (aborting h f s .store) ≡ true
-unfolding aborting abortChecks
+unfolding abortingBy abortChecks
 abort-keeps h f s holds =
     unless-keeps IsSound s (abortChecks s h) (replies (finished f (aborted s (slotOf h)) (slotOf h)) ok) holds
     (λ e. aborted-finished s (slotOf h) holds (forOpen-pass s h pass e .state) f)
 
 pub settle-keeps : (h : ℕ) (s : Store) → soundStore s ≡ true → soundStore (settling h s .store) ≡ true
-unfolding settling settleChecks
+unfolding settlingBy settleChecks
 settle-keeps h s holds =
     unless-keeps IsSound s (settleChecks s h) (replies (settled s (slotOf h)) ok) holds
     (λ e.

@@ -16,7 +16,7 @@ use Rattle.types.specs.Replies.{refusing, refused}
 use Rattle.meaning.specs.Outcomes.{handleAt}
 use Rattle.meaning.specs.Locking.{readFrom}
 use Rattle.meaning.specs.Records.{goodCounts}
-use Rattle.meaning.specs.Calls.{act}
+use Rattle.meaning.specs.Calls.{act, actBy}
 use Rattle.meaning.specs.Sound.{soundStore}
 use Rattle.meaning.specs.Pointwise.{Blocked, BlockedBy, LowestHolder}
 use Rattle.meaning.specs.Causes.{edits}
@@ -41,7 +41,7 @@ use Rattle.meaning.proofs.JudgeEnding.{judging-commit, judging-abort, j
 use Rattle.meaning.proofs.JudgeRecords.{judging-purge, judging-view}
 
 judging : (c : Call) (s : Store) → Judging c s (act c s) order
-unfolding act
+unfolding actBy
 judging C.Begin s = judging-begin s
 judging (C.Write h r v) s = judging-write h r v s
 judging (C.Lock h r low high w) s = judging-lock h r low high w s

@@ -3,94 +3,48 @@
 use Prim.Native.Nat.{ℕ, suc, _+_, _≤_, _<_}
 use native.Mathlib.Omega.{arith}
 use native.Mathlib.Nat.{le-refl}
-use mathlib.Core.Path.{_≡_, refl, ap}
+use mathlib.Core.Path.{_≡_, refl}
 use mathlib.Core.Logic.{_⊎_, inl, inr}
 use mathlib.Core.Bool.{Bool, true, false, cond, _&&_}
-use mathlib.Core.List.{List, [], _∷_, List·Memᴰ·head, List·Memᴰ·tail, List·Memᴰ·not-nil, List·Memᴰ·cases-cons}
+use mathlib.Core.List.{List, [], _∷_}
 use lib.Dec.{ltb, eqb}
 use lib.ListN.{length}
 use borrow.Author.Tests.{ltb-true, ltb-false, lt-ltb, eqb-true, ne-eqb}
-use Rattle.meaning.specs.Lists.{_∈_, all, keep, find, pairwise, total, mapFrom}
+use Rattle.meaning.specs.Lists.{_∈_, keep, find, pairwise, total, mapFrom}
 use Rattle.meaning.specs.Store.{Version, Access, Rec, Edit, isOf, noAccess, accessOf, writtenOf}
 use Rattle.meaning.specs.Ending.{insert, newVersion, committedRec}
-use Rattle.meaning.proofs.Lists.{and-in, and-left, and-right, test, all-in, all-out}
-
-pub length-insert : (v : Version) (ws : List Version) → length (insert v ws) ≡ suc (length ws)
-length-insert v [] = refl
-length-insert v (w ∷ ws) = go (ltb (w .point) (v .point)) (length-insert v ws)
-  where
-    go : (b : Bool) → length (insert v ws) ≡ suc (length ws)
-        → length (cond b (v ∷ w ∷ ws) (w ∷ insert v ws)) ≡ suc (suc (length ws))
-    go true ih = refl
-    go false ih = ap suc ih
-
-pub insert-new : (v : Version) (ws : List Version) → v ∈ insert v ws
-insert-new v [] = List·Memᴰ·head refl
-insert-new v (w ∷ ws) = go (ltb (w .point) (v .point)) (insert-new v ws)
-  where
-    go : (b : Bool) → v ∈ insert v ws → v ∈ cond b (v ∷ w ∷ ws) (w ∷ insert v ws)
-    go true ih = List·Memᴰ·head refl
-    go false ih = List·Memᴰ·tail ih
-
-pub insert-old : (v : Version) {x : Version} (ws : List Version) → x ∈ ws → x ∈ insert v ws
-insert-old v [] m = absurd (List·Memᴰ·not-nil m)
-insert-old v {x} (w ∷ ws) m = go (ltb (w .point) (v .point)) (List·Memᴰ·cases-cons m) (insert-old v ws)
-  where
-    go : (b : Bool) → (x ≡ w) ⊎ (x ∈ ws) → (x ∈ ws → x ∈ insert v ws) → x ∈ cond b (v ∷ w ∷ ws) (w ∷ insert v ws)
-    go true c ih = List·Memᴰ·tail m
-    go false (inl q) ih = List·Memᴰ·head q
-    go false (inr i) ih = List·Memᴰ·tail (ih i)
-
-pub insert-out : (v : Version) {x : Version} (ws : List Version) → x ∈ insert v ws → (x ≡ v) ⊎ (x ∈ ws)
-insert-out v [] m = List·Memᴰ·cases-cons m
-insert-out v {x} (w ∷ ws) m = go (ltb (w .point) (v .point)) m (insert-out v ws)
-  where
-    up : (x ≡ v) ⊎ (x ∈ ws) → (x ≡ v) ⊎ (x ∈ w ∷ ws)
-    up (inl q) = inl q
-    up (inr j) = inr (List·Memᴰ·tail j)
-
-    later : (x ≡ w) ⊎ (x ∈ insert v ws) → (x ∈ insert v ws → (x ≡ v) ⊎ (x ∈ ws)) → (x ≡ v) ⊎ (x ∈ w ∷ ws)
-    later (inl q) ih = inr (List·Memᴰ·head q)
-    later (inr i) ih = up (ih i)
-
-    go : (b : Bool) → x ∈ cond b (v ∷ w ∷ ws) (w ∷ insert v ws) → (x ∈ insert v ws → (x ≡ v) ⊎ (x ∈ ws))
-        → (x ≡ v) ⊎ (x ∈ w ∷ ws)
-    go true n ih = List·Memᴰ·cases-cons n
-    go false n ih = later (List·Memᴰ·cases-cons n) ih
+use Rattle.meaning.proofs.Lists.{length-put-before, put-before-new, put-before-old, put-before-out}
+use Rattle.meaning.proofs.Lists.{put-before-pairwise}
+use Rattle.meaning.proofs.Lists.{test}
 
 -- as in versionsFall
 abbrev pub newer : Version → Version → Bool
 newer v w = ltb (w .point) (v .point)
 
-pub insert-falls : (v : Version) (ws : List Version) → ((x : Version) → x ∈ ws → x .point ≡ v .point → ⊥)
-    → pairwise newer ws ≡ true → pairwise newer (insert v ws) ≡ true
-insert-falls v [] n e = refl
-insert-falls v (w ∷ ws) n e =
-    go (test (ltb (w .point) (v .point)))
-    (insert-falls v ws (λ x m. n x (List·Memᴰ·tail m)) (and-right (all (newer w) ws) (pairwise newer ws) e))
-  where
-    h : (x : Version) → x ∈ ws → x .point < w .point
-    h x m =
-        ltb-true (x .point) (w .point) (all-out (newer w) ws (and-left (all (newer w) ws) (pairwise newer ws) e) x m)
+module _ (v : Version) (ws : List Version) where
+  pub length-insert : length (insert v ws) ≡ suc (length ws)
+  length-insert = length-put-before (newer v) v ws
 
-    below : (x : Version) → v .point ≤ w .point → (w .point ≡ v .point → ⊥) → (x ≡ v) ⊎ (x ∈ ws) → newer w x ≡ true
-    below x le d (inl z) = rw z (lt-ltb (v .point) (w .point) (omega arith))
-    below x le d (inr m) = lt-ltb (x .point) (w .point) (h x m)
+  pub insert-new : v ∈ insert v ws
+  insert-new = put-before-new (newer v) v ws
 
-    go : (ltb (w .point) (v .point) ≡ true) ⊎ (ltb (w .point) (v .point) ≡ false) → pairwise newer (insert v ws) ≡ true
-        → pairwise newer (insert v (w ∷ ws)) ≡ true
-    go (inl q) ih =
-        rw q
-        (and-in
-        (and-in q (all-in (newer v) ws
-        (λ x m. lt-ltb (x .point) (v .point) (omega (arith, h x m, ltb-true (w .point) (v .point) q)))))
-        e)
-    go (inr q) ih =
-        rw q
-        (and-in
-        (all-in (newer w) (insert v ws)
-        (λ x m. below x (ltb-false (w .point) (v .point) q) (n w (List·Memᴰ·head refl)) (insert-out v ws m)))
-        ih)
+  pub insert-old : {x : Version} → x ∈ ws → x ∈ insert v ws
+  insert-old m = put-before-old (newer v) v ws m
+
+  pub insert-out : {x : Version} → x ∈ insert v ws → (x ≡ v) ⊎ (x ∈ ws)
+  insert-out m = put-before-out (newer v) v ws m
+
+  pub insert-falls : ((x : Version) → x ∈ ws → x .point ≡ v .point → ⊥) → pairwise newer ws ≡ true
+      → pairwise newer (insert v ws) ≡ true
+  insert-falls n e =
+      put-before-pairwise (newer v) v newer newer
+      (λ x y h q.
+      lt-ltb (y .point) (v .point) (omega (arith, ltb-true (y .point) (x .point) h, ltb-true (x .point) (v .point) q)))
+      ws (λ x i q. q)
+      (λ x i q.
+      let d = n x i in
+      lt-ltb (v .point) (x .point) (omega (arith, ltb-false (x .point) (v .point) q, d)))
+      e e
 
 -- how many of the records i, i + 1.. pass
 abbrev bit : Bool → ℕ

@@ -6,8 +6,10 @@ use mathlib.Core.Bool.{not}
 use Rattle.meaning.specs.Store.{Store, slotOf, editAt}
 use Rattle.types.specs.Replies.{nopoint}
 use Rattle.meaning.specs.Outcomes.{knows, isOpen, versionRoom}
-use Rattle.meaning.specs.Ending.{goodPick, chosen, allowed, noCommon, committing, commitChecks, commitOpen}
-use Rattle.meaning.specs.Ending.{commitVerdict, aborting, abortChecks, settling, settleChecks}
+use Rattle.meaning.specs.Ending.{goodPick, chosen, allowed, noCommon, committing, committingBy, commitChecks}
+use Rattle.meaning.specs.Ending.{commitOpenBy}
+use Rattle.meaning.specs.Ending.{commitVerdict, aborting, abortingBy, abortChecks, settling, settlingBy}
+use Rattle.meaning.specs.Ending.{settleChecks}
 use Rattle.meaning.specs.Causes.{BadPoint, NotCommon}
 use Rattle.meaning.specs.Order.{order}
 use Rattle.types.specs.declared.Handle.{Handle}
@@ -23,7 +25,7 @@ use Rattle.meaning.proofs.CauseTests.{Refutes, known-test, open-test, c
 use Rattle.meaning.proofs.Judging.{Judging, granted, answers, _next_, never, decided, by-test}
 
 pub judging-abort : (h : Handle) (f : Finish) (s : Store) → Judging (C.Abort h f) s (aborting (h .0) f s) order
-unfolding aborting abortChecks
+unfolding abortingBy abortChecks
 judging-abort h f s =
     not-both next
     never next
@@ -35,7 +37,7 @@ judging-abort h f s =
     granted (rw (a, b))
 
 pub judging-settle : (h : Handle) (s : Store) → Judging (C.Settle h) s (settling (h .0) s) order
-unfolding settling settleChecks
+unfolding settlingBy settleChecks
 judging-settle h s =
     not-both next
     never next
@@ -63,7 +65,7 @@ common-test h (Named p) f s =
 
 pub judging-commit : (h : Handle) (pick : Pick) (f : Finish) (s : Store)
     → Judging (C.Commit h pick f) s (committing (h .0) pick f s) order
-unfolding committing commitChecks commitOpen commitVerdict
+unfolding committingBy commitChecks commitOpenBy commitVerdict
 judging-commit h pick f s =
     let k : ℕ = slotOf (h .0) in
     not-both next

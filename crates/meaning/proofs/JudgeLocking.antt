@@ -10,7 +10,8 @@ use Rattle.types.specs.Limits.{LAST, WRITE}
 use Rattle.meaning.specs.Store.{Lock, Rec, Store, slotOf, recAt}
 use Rattle.meaning.specs.Points.{firstBlocked, frozen, holder}
 use Rattle.meaning.specs.Outcomes.{knows, isOpen, hasRecord, judge, handleAt, lockRoom}
-use Rattle.meaning.specs.Locking.{lockFrom, lockEnd, lockGranted, locking, lockChecks, lockWanted, lockVerdict}
+use Rattle.meaning.specs.Locking.{lockFrom, lockEnd, lockGranted, locking, lockingBy, lockChecks, lockWantedBy}
+use Rattle.meaning.specs.Locking.{lockVerdict}
 use Rattle.meaning.specs.Sound.{soundStore}
 use Rattle.meaning.specs.Pointwise.{Proper, Frozen}
 use Rattle.meaning.specs.Causes.{LockJudged}
@@ -38,7 +39,7 @@ frozen-lock s k r low high w p j =
 
 pub judging-lock : (h : Handle) (r : ℕ) (low high : Point) (w : Extent) (s : Store)
     → Judging (C.Lock h r low high w) s (locking (h .0) r (low .0) (high .0) w s) order
-unfolding locking lockChecks lockWanted lockVerdict judge
+unfolding lockingBy lockChecks lockWantedBy lockVerdict judge
 judging-lock h r low high w s =
     let k : ℕ = slotOf (h .0) in
     let x : Rec = recAt s r in

@@ -13,7 +13,8 @@ use Rattle.meaning.specs.Store.{Value, Access, Rec, Store, slotOf, editA
 use Rattle.meaning.specs.Points.{firstBlocked, frozen, holder}
 use Rattle.types.specs.Replies.{own, again}
 use Rattle.meaning.specs.Outcomes.{knows, isOpen, hasRecord, isPoint, judge, handleAt, accessRoom, lockRoom}
-use Rattle.meaning.specs.Locking.{readGranted, readVersion, readFrom, reading, readChecks, readOpen, readNew}
+use Rattle.meaning.specs.Locking.{readGranted, readVersion, readFrom, reading, readingBy, readChecks, readOpenBy}
+use Rattle.meaning.specs.Locking.{readNewBy}
 use Rattle.meaning.specs.Locking.{readVerdict}
 use Rattle.meaning.specs.Sound.{soundStore}
 use Rattle.meaning.specs.SoundFacts.{SoundStore}
@@ -53,7 +54,7 @@ frozen-read s k r m w p j =
 
 pub judging-read : (h : Handle) (r : ℕ) (m : Point) (w : Extent) (s : Store)
     → Judging (C.Read h r m w) s (reading (h .0) r (m .0) w s) order
-unfolding reading readChecks readOpen readNew readVerdict judge
+unfolding readingBy readChecks readOpenBy readNewBy readVerdict judge
 judging-read h r m w s =
     let k : ℕ = slotOf (h .0) in
     let x : Rec = recAt s r in

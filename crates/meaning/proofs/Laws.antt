@@ -5,7 +5,7 @@ use Rattle.meaning.specs.Laws.{LatestIsGreatest, NoCommonIsEmpty, Newest
 use Rattle.meaning.specs.Laws.{SoundIsFacts, FreshIsSound, CallsKeepSound, RefusalChangesNothing, RefusedForCause}
 use Rattle.meaning.specs.Laws.{GrantedWithoutCause, OnlyOwnNumbers, HolderIsLowest, FormatRefusedForCause}
 use Rattle.meaning.specs.Laws.{PointRefusedForCause, PointsOrderAsPairs, PointsRunToLast}
-use Rattle.meaning.specs.Calls.{act}
+use Rattle.meaning.specs.Calls.{actBy}
 use Rattle.types.specs.declared.Call.the-variants as C
 use Rattle.meaning.proofs.Points as points
 use Rattle.meaning.proofs.CommonSet as common
@@ -60,7 +60,7 @@ pub fresh-is-sound : FreshIsSound
 fresh-is-sound = parts.fresh-is-sound
 
 pub calls-keep-sound : CallsKeepSound
-unfolding act
+unfolding actBy
 calls-keep-sound C.Begin s h = calls.begin-keeps s h
 calls-keep-sound (C.Write e r v) s h = calls.write-keeps (e .0) r v s h
 calls-keep-sound (C.Lock e r low high w) s h = calls.lock-keeps (e .0) r (low .0) (high .0) w s h

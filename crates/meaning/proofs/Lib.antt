@@ -10,6 +10,8 @@ pub mod CommonSet
 pub mod CommonEnds
 pub mod Points
 pub mod Newest
+pub mod Joining
+pub mod Rows
 pub mod LockChanges
 pub mod Verdicts
 pub mod RecParts
@@ -44,3 +46,9 @@ pub mod ForCause
 pub mod FormatCauses
 pub mod Laws
 pub mod After
+pub mod Same
+pub mod Alike
+pub mod AlikeStores
+pub mod AlikeEnding
+pub mod OldTable
+pub mod JoinedRows

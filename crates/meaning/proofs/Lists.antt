@@ -11,8 +11,8 @@ use mathlib.Core.List.{List·Memᴰ·cases-cons, Memᴰ·cast}
 use lib.Dec.{leb}
 use lib.ListN.{length, getD, set}
 use borrow.Author.Tests.{leb-true, leb-false}
-use Rattle.meaning.specs.Lists.{_∈_, every, all, any, keep, find, pairwise, total, mapFrom, allFrom, least}
-use Rattle.meaning.specs.Lists.{greatest}
+use Rattle.meaning.specs.Lists.{_∈_, every, all, any, keep, find, putBefore, pairwise, total, mapFrom, allFrom}
+use Rattle.meaning.specs.Lists.{least, greatest}
 
 -- tests
 pub and-in : {a b : Bool} → a ≡ true → b ≡ true → (a && b) ≡ true
@@ -298,3 +298,86 @@ greatest-out d (x ∷ xs) = go (max-out x (greatest d xs)) (greatest-out d xs)
     go (inl e) ih = inr (List·Memᴰ·head e)
     go (inr e) (inl q) = inl (e ∙ q)
     go (inr e) (inr m) = inr (List·Memᴰ·tail (Memᴰ·cast e m))
+
+-- an element put before the first that passes
+module _ {A : Type 0} (p : A → Bool) (v : A) where
+  pub length-put-before : (ys : List A) → length (putBefore p v ys) ≡ suc (length ys)
+  length-put-before [] = refl
+  length-put-before (y ∷ ys) = go (p y) (length-put-before ys)
+    where
+      go : (b : Bool) → length (putBefore p v ys) ≡ suc (length ys)
+          → length (cond b (v ∷ y ∷ ys) (y ∷ putBefore p v ys)) ≡ suc (suc (length ys))
+      go true ih = refl
+      go false ih = ap suc ih
+
+  pub put-before-new : (ys : List A) → v ∈ putBefore p v ys
+  put-before-new [] = List·Memᴰ·head refl
+  put-before-new (y ∷ ys) = go (p y) (put-before-new ys)
+    where
+      go : (b : Bool) → v ∈ putBefore p v ys → v ∈ cond b (v ∷ y ∷ ys) (y ∷ putBefore p v ys)
+      go true ih = List·Memᴰ·head refl
+      go false ih = List·Memᴰ·tail ih
+
+  pub put-before-old : {x : A} (ys : List A) → x ∈ ys → x ∈ putBefore p v ys
+  put-before-old [] m = absurd (List·Memᴰ·not-nil m)
+  put-before-old {x} (y ∷ ys) m = go (p y) (List·Memᴰ·cases-cons m) (put-before-old ys)
+    where
+      go : (b : Bool) → (x ≡ y) ⊎ (x ∈ ys) → (x ∈ ys → x ∈ putBefore p v ys)
+          → x ∈ cond b (v ∷ y ∷ ys) (y ∷ putBefore p v ys)
+      go true c ih = List·Memᴰ·tail m
+      go false (inl q) ih = List·Memᴰ·head q
+      go false (inr i) ih = List·Memᴰ·tail (ih i)
+
+  pub put-before-out : {x : A} (ys : List A) → x ∈ putBefore p v ys → (x ≡ v) ⊎ (x ∈ ys)
+  put-before-out [] m = List·Memᴰ·cases-cons m
+  put-before-out {x} (y ∷ ys) m = go (p y) m (put-before-out ys)
+    where
+      up : (x ≡ v) ⊎ (x ∈ ys) → (x ≡ v) ⊎ (x ∈ y ∷ ys)
+      up (inl q) = inl q
+      up (inr j) = inr (List·Memᴰ·tail j)
+
+      later : (x ≡ y) ⊎ (x ∈ putBefore p v ys) → (x ∈ putBefore p v ys → (x ≡ v) ⊎ (x ∈ ys)) → (x ≡ v) ⊎ (x ∈ y ∷ ys)
+      later (inl q) ih = inr (List·Memᴰ·head q)
+      later (inr i) ih = up (ih i)
+
+      go : (b : Bool) → x ∈ cond b (v ∷ y ∷ ys) (y ∷ putBefore p v ys) → (x ∈ putBefore p v ys → (x ≡ v) ⊎ (x ∈ ys))
+          → (x ≡ v) ⊎ (x ∈ y ∷ ys)
+      go true n ih = List·Memᴰ·cases-cons n
+      go false n ih = later (List·Memᴰ·cases-cons n) ih
+
+  -- a relation that the new element has to those that pass, and those that do not have to it, where an element after
+  -- one that passes does too
+  pub put-before-pairwise : (s r : A → A → Bool) → ((x y : A) → s x y ≡ true → p x ≡ true → p y ≡ true) → (ys : List A)
+      → ((x : A) → x ∈ ys → p x ≡ true → r v x ≡ true) → ((x : A) → x ∈ ys → p x ≡ false → r x v ≡ true)
+      → pairwise s ys ≡ true → pairwise r ys ≡ true → pairwise r (putBefore p v ys) ≡ true
+  put-before-pairwise s r mono [] f g o e = refl
+  put-before-pairwise s r mono (y ∷ ys) f g o e =
+      go (test (p y))
+      (put-before-pairwise s r mono ys (λ x i. f x (List·Memᴰ·tail i)) (λ x i. g x (List·Memᴰ·tail i))
+      (and-right (all (s y) ys) (pairwise s ys) o) (and-right (all (r y) ys) (pairwise r ys) e))
+    where
+      passes : p y ≡ true → (x : A) → x ∈ ys → p x ≡ true
+      passes q x i = mono y x (all-out (s y) ys (and-left (all (s y) ys) (pairwise s ys) o) x i) q
+
+      older : p y ≡ false → (x : A) → (x ≡ v) ⊎ (x ∈ ys) → r y x ≡ true
+      older q x (inl z) = rw z (g y (List·Memᴰ·head refl) q)
+      older q x (inr i) = all-out (r y) ys (and-left (all (r y) ys) (pairwise r ys) e) x i
+
+      go : (p y ≡ true) ⊎ (p y ≡ false) → pairwise r (putBefore p v ys) ≡ true
+          → pairwise r (putBefore p v (y ∷ ys)) ≡ true
+      go (inl q) ih =
+          rw q
+          (and-in
+          (and-in (f y (List·Memᴰ·head refl) q) (all-in (r v) ys (λ x i. f x (List·Memᴰ·tail i) (passes q x i))))
+          e)
+      go (inr q) ih =
+          rw q (and-in (all-in (r y) (putBefore p v ys) (λ x i. older q x (put-before-out ys i))) ih)
+
+-- the least and the greatest of a list with one number more at hand
+pub least-shift : (b x : ℕ) (xs : List ℕ) → least (min b x) xs ≡ min x (least b xs)
+least-shift b x [] = omega arith
+least-shift b x (y ∷ xs) = omega (arith, least-shift b x xs)
+
+pub greatest-shift : (b x : ℕ) (xs : List ℕ) → greatest (max b x) xs ≡ max x (greatest b xs)
+greatest-shift b x [] = omega arith
+greatest-shift b x (y ∷ xs) = omega (arith, greatest-shift b x xs)

@@ -3,18 +3,24 @@ use Prim.Native.Nat.{ℕ, suc, _≤_, _<_}
 use native.Mathlib.Omega.{arith}
 use mathlib.Core.Path.{_≡_, refl, sym}
 use mathlib.Core.Logic.{_⊎_, inl, inr}
-use mathlib.Core.List.{List, List·Memᴰ·head, List·Memᴰ·tail, List·Memᴰ·cases-cons}
+use mathlib.Core.List.{List}
 use lib.ListN.{length, set, length-set}
 use Rattle.meaning.specs.Lists.{_∈_}
 use Rattle.types.specs.Limits.{READ, WRITE, SETTLED, FREE, OPEN}
 use Rattle.meaning.specs.Store.{Version, Lock, Rec, Edit, Store, editOf, recOf, editAt, recAt, withRecords}
 use Rattle.meaning.specs.Store.{withRec, withLocks, locksUsed, accessesUsed}
 use Rattle.meaning.specs.Points.{addLock}
-use Rattle.meaning.specs.Locking.{withLock, readAccess, readStore}
+use Rattle.meaning.specs.Locking.{withLock, withLockBy, readAccess, readStore, readStoreBy}
 use Rattle.meaning.specs.Pointwise.{NoneBlocked, VersionOn}
 use Rattle.meaning.specs.Sound.{versionsFall}
 use Rattle.meaning.specs.SoundFacts.{Backed, Span, SoundRec, Present, ReadStarts, SoundStore}
 use Rattle.meaning.proofs.Stores.{rec-same}
+use Rattle.meaning.proofs.Joining.{put-out, put-old, put-new, put-rises, length-put}
+use Rattle.meaning.proofs.Rows.{put-joined}
+use Rattle.meaning.specs.Points.{isSettledRead}
+use Rattle.meaning.proofs.Tests.{unowned-in}
+use native.Mathlib.Decide.{ℕ-discrete}
+use mathlib.Core.Bool.{false}
 use Rattle.meaning.proofs.StoresMore.{each-rec, locks-set, versions-set}
 use Rattle.meaning.proofs.Kept.{Keeps, edit-kept}
 use Rattle.meaning.proofs.AccessPut.{AccessRoom, access-put}
@@ -41,7 +47,7 @@ present-stays x l tr (inr z) = inr z
 pub added-each : (P : Lock → Type 0) (l : Lock) (ls : List Lock) → P l → ((m : Lock) → m ∈ ls → P m) → (m : Lock)
     → m ∈ addLock l ls → P m
 unfolding addLock
-added-each P l ls new old m i = go (List·Memᴰ·cases-cons i)
+added-each P l ls new old m i = go (put-out l ls i)
   where
     go : (m ≡ l) ⊎ (m ∈ ls) → P m
     go (inl q) = rw q new
@@ -49,7 +55,7 @@ added-each P l ls new old m i = go (List·Memᴰ·cases-cons i)
 
 pub added-old : (l : Lock) (ls : List Lock) {m : Lock} → m ∈ ls → m ∈ addLock l ls
 unfolding addLock
-added-old l ls i = List·Memᴰ·tail i
+added-old l ls i = put-old l ls i
 
 module _ (es : List Edit) (r : ℕ) (x : Rec) (l : Lock) (fit : LockFits es x l) (h : SoundRec es r x) where
   -- no write lock shares a point with a lock of another owner, of two locks
@@ -69,8 +75,19 @@ module _ (es : List Edit) (r : ℕ) (x : Rec) (l : Lock) (fit : LockFits es x l)
       fit .free p c d
       (m .owner, record { lock = m; member = i; owned = refl; other = o; against = inr w; from = a; upto = b })
 
+  unsettled : isSettledRead l ≡ false
+  unfolding editOf
+  unsettled = ne-settled (ℕ-discrete (l .owner) SETTLED)
+    where
+      free-settled : l .owner ≡ SETTLED → editOf es (l .owner) .state ≡ FREE
+      free-settled z = rw z refl
+
+      ne-settled : Dec (l .owner ≡ SETTLED) → isSettledRead l ≡ false
+      ne-settled (yes z) = absurd (fit .used (free-settled z))
+      ne-settled (no d) = rw (unowned-in SETTLED l d) refl
+
   pub rec-locked : SoundRec es r (lockedRec x l)
-  unfolding versionsFall
+  unfolding versionsFall addLock
   rec-locked =
       record {
         mode = added-each (λ m. (m .mode ≡ READ) ⊎ (m .mode ≡ WRITE)) l (x .locks) (fit .mode) (h .mode);
@@ -85,6 +102,8 @@ module _ (es : List Edit) (r : ℕ) (x : Rec) (l : Lock) (fit : LockFits es x l)
             (inr (fit .used)) (h .owner);
         apart = λ a b i j. added-each (λ c. Parted c b) l (x .locks) (newer b j) (λ c n. older c n b j) a i;
         backed = λ v m f. backed v (h .backed v m f);
+        rises = put-rises l (x .locks) (h .rises);
+        joined = put-joined l (x .locks) unsettled (h .rises) (h .joined);
       }
     where
       newer : (b : Lock) → b ∈ addLock l (x .locks) → Parted l b
@@ -130,7 +149,8 @@ module _ (s : Store) (h : SoundStore s) (r : ℕ) (there : r < length (s .record
         record {
           counts = rw (length-set (s .records) r (lockedRec (recAt s r) l)) (h .counts);
           versions-fit = omega (arith, h .versions-fit, versions-set s r (lockedRec (recAt s r) l) there);
-          locks-fit = omega (arith, room, locks-set s r (lockedRec (recAt s r) l) there);
+          locks-fit =
+              omega (arith, room, length-put l (recAt s r .locks), locks-set s r (lockedRec (recAt s r) l) there);
           accesses-fit = h .accesses-fit;
           recs =
               each-rec (λ i y. SoundRec (s .edits) i y) (s .records) r (lockedRec (recAt s r) l) there
@@ -143,7 +163,7 @@ module _ (s : Store) (h : SoundStore s) (r : ℕ) (there : r < length (s .record
     pub locked-sound : (mode : ℕ)
         → LockFits (s .edits) (recAt s r) (record { low = low; high = high; mode = mode; owner = k })
         → SoundStore (withLock s r mode k low high)
-    unfolding withLock
+    unfolding withLockBy
     locked-sound mode fit = lock-added (record { low = low; high = high; mode = mode; owner = k }) fit room
 
     abbrev new : Lock
@@ -152,12 +172,19 @@ module _ (s : Store) (h : SoundStore s) (r : ℕ) (there : r < length (s .record
     starts : (t : ℕ) → low ≡ suc t → ReadStarts k (suc t) (addLock new (recAt s r .locks))
     unfolding addLock
     starts t z =
-        record { lock = new; member = List·Memᴰ·head refl; owned = refl; mode = λ w. omega (arith, w); starts = z }
+        record {
+          lock =
+              new;
+          member = put-new new (recAt s r .locks);
+          owned = refl;
+          mode = λ w. omega (arith, w);
+          starts = z;
+        }
 
     -- Read: the edit gets the access of the point read besides
     pub read-sound : (tr : ℕ) → low ≡ suc tr → Present (recAt s r) tr → LockFits (s .edits) (recAt s r) new
         → editAt s k .state ≡ OPEN → AccessRoom s k r → SoundStore (readStore s k r low high)
-    unfolding readStore withLock withRecords accessesUsed
+    unfolding readStoreBy withLockBy withRecords accessesUsed
     read-sound tr q present fit o access =
         let same = rec-same (s .records) r (lockedRec (recAt s r) new) there in
         access-put (withLock s r READ k low high) (locked-sound READ fit) k o (readAccess r low)

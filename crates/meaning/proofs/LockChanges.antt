@@ -1,34 +1,23 @@
 -- The four changes of a record's locks, point by point: which owner has a lock of which mode on which point after a
 -- change, in terms of before; and lock by lock. Rests on Lists and Tests.
-use Prim.Native.Nat.{ℕ, suc, _≤_, _<_, max}
+use Prim.Native.Nat.{ℕ, _<_}
 use native.Mathlib.Omega.{arith}
 use mathlib.Core.Path.{_≡_, refl, sym, ap, _∙_}
 use mathlib.Core.Logic.{_⊎_, inl, inr, _↔_}
 use mathlib.Core.Bool.{Bool, true, false, not, cond, false≢true}
-use mathlib.Core.List.{List, _∷_, List·Memᴰ·head, List·Memᴰ·tail, List·Memᴰ·cases-cons, Memᴰ·map, Memᴰ·of-map}
-use lib.Dec.{leb}
-use borrow.Author.Tests.{lt-leb, not-true}
+use mathlib.Core.List.{List, Memᴰ·map, Memᴰ·of-map}
+use lib.Dec.{leb, eqb}
+use borrow.Author.Tests.{lt-leb, not-true, eqb-true}
 use Rattle.meaning.specs.Lists.{_∈_, keep}
-use Rattle.types.specs.Limits.{SETTLED}
+use Rattle.types.specs.Limits.{READ, SETTLED}
+use Rattle.meaning.specs.Points.{settledLock, putLock, joinRead, cut}
+pub use Rattle.meaning.proofs.Joining.{IsOn, lock-on, is-on, LeftOn}
+use Rattle.meaning.proofs.Joining.{put-is, join-is}
 use Rattle.meaning.specs.Store.{Lock}
 use Rattle.meaning.specs.Points.{isOwned, addLock, leaveSettled, dropOwner, emptied, trimmed, trimTo}
 use Rattle.meaning.specs.Pointwise.{LockOn, HeldOn}
-use Rattle.meaning.proofs.Lists.{false-in, not-both, and-left, and-right, keep-in, keep-out}
+use Rattle.meaning.proofs.Lists.{test, false-in, not-both, and-left, and-right, keep-in, keep-out}
 use Rattle.meaning.proofs.Tests.{owned-out, unowned-out, other-out, other-in}
-
--- this lock is of the owner o and the mode m, on the point p
-pub record IsOn (l : Lock) (o m p : ℕ) : Type 0 where
-  pub owned : l .owner ≡ o
-  pub moded : l .mode ≡ m
-  pub from : l .low ≤ p
-  pub upto : p ≤ l .high
-
-pub lock-on : {ls : List Lock} {l : Lock} {o m p : ℕ} → l ∈ ls → IsOn l o m p → LockOn ls o m p
-lock-on {l = l} i w =
-    record { lock = l; member = i; owned = w .owned; moded = w .moded; from = w .from; upto = w .upto }
-
-pub is-on : {ls : List Lock} {o m p : ℕ} → (w : LockOn ls o m p) → IsOn (w .lock) o m p
-is-on w = record { owned = w .owned; moded = w .moded; from = w .from; upto = w .upto }
 
 -- held is locked in some mode
 pub held-is : (ls : List Lock) (o p : ℕ) → HeldOn ls o p ↔ ((m : ℕ) × LockOn ls o m p)
@@ -40,51 +29,62 @@ held-is ls o p = (
   λ w. record { lock = w .1 .lock; member = w .1 .member; owned = w .1 .owned; from = w .1 .from; upto = w .1 .upto },
 )
 
--- a lock in front
-cons-is : (l : Lock) (ls : List Lock) (o m p : ℕ) → LockOn (l ∷ ls) o m p ↔ (IsOn l o m p ⊎ LockOn ls o m p)
-cons-is l ls o m p = (λ w. out w (List·Memᴰ·cases-cons (w .member)), back)
-  where
-    out : (w : LockOn (l ∷ ls) o m p) → (w .lock ≡ l) ⊎ (w .lock ∈ ls) → IsOn l o m p ⊎ LockOn ls o m p
-    out w (inl e) = inl (rw e at (is-on w))
-    out w (inr i) = inr (lock-on i (is-on w))
-
-    back : IsOn l o m p ⊎ LockOn ls o m p → LockOn (l ∷ ls) o m p
-    back (inl w) = lock-on (List·Memᴰ·head refl) w
-    back (inr w) = lock-on (List·Memᴰ·tail (w .member)) (is-on w)
-
 -- a lock is added: it counts besides those before
 pub add-lock-is : (l : Lock) (ls : List Lock) (o m p : ℕ)
     → LockOn (addLock l ls) o m p ↔ (IsOn l o m p ⊎ LockOn ls o m p)
 unfolding addLock
-add-lock-is l ls o m p = cons-is l ls o m p
+add-lock-is l ls o m p = put-is l ls o m p
 
 -- a settled lock on low..high is left where the test holds
-pub record LeftOn (b : Bool) (mode low high o m p : ℕ) : Type 0 where
-  pub left : b ≡ true
-  pub owned : o ≡ SETTLED
-  pub moded : m ≡ mode
-  pub from : low ≤ p
-  pub upto : p ≤ high
-
 pub leave-settled-is : (b : Bool) (mode low high : ℕ) (ls : List Lock) (o m p : ℕ)
     → LockOn (leaveSettled b mode low high ls) o m p ↔ (LeftOn b mode low high o m p ⊎ LockOn ls o m p)
 unfolding leaveSettled
-leave-settled-is true mode low high ls o m p = (λ w. out (is .0 w), λ w. is .1 (back w))
+leave-settled-is true mode low high ls o m p = go (test (eqb mode READ))
   where
-    is : LockOn (record { low = low; high = high; mode = mode; owner = SETTLED } ∷ ls) o m p
-        ↔ (IsOn (record { low = low; high = high; mode = mode; owner = SETTLED }) o m p ⊎ LockOn ls o m p)
-    is = cons-is (record { low = low; high = high; mode = mode; owner = SETTLED }) ls o m p
-
-    out : IsOn (record { low = low; high = high; mode = mode; owner = SETTLED }) o m p ⊎ LockOn ls o m p
+    sides : IsOn (settledLock mode low high) o m p ⊎ LockOn ls o m p
         → LeftOn true mode low high o m p ⊎ LockOn ls o m p
-    out (inl w) =
+    sides (inl w) =
         inl (record { left = refl; owned = sym (w .owned); moded = sym (w .moded); from = w .from; upto = w .upto })
-    out (inr w) = inr w
+    sides (inr w) = inr w
 
-    back : LeftOn true mode low high o m p ⊎ LockOn ls o m p
-        → IsOn (record { low = low; high = high; mode = mode; owner = SETTLED }) o m p ⊎ LockOn ls o m p
-    back (inl w) = inl (record { owned = sym (w .owned); moded = sym (w .moded); from = w .from; upto = w .upto })
-    back (inr w) = inr w
+    sides-back : LeftOn true mode low high o m p ⊎ LockOn ls o m p
+        → IsOn (settledLock mode low high) o m p ⊎ LockOn ls o m p
+    sides-back (inl w) = inl (record { owned = sym (w .owned); moded = sym (w .moded); from = w .from; upto = w .upto })
+    sides-back (inr w) = inr w
+
+    as-read : mode ≡ READ → LeftOn true mode low high o m p ⊎ LockOn ls o m p
+        → LeftOn true READ low high o m p ⊎ LockOn ls o m p
+    as-read z (inl w) = inl (record {
+      left = refl;
+      owned = w .owned;
+      moded = w .moded ∙ z;
+      from = w .from;
+      upto = w
+          .upto;
+    })
+    as-read z (inr w) = inr w
+
+    as-mode : mode ≡ READ → LeftOn true READ low high o m p ⊎ LockOn ls o m p
+        → LeftOn true mode low high o m p ⊎ LockOn ls o m p
+    as-mode z (inl w) = inl (record {
+      left = refl;
+      owned = w .owned;
+      moded = w .moded ∙ sym z;
+      from = w .from;
+      upto =
+          w .upto;
+    })
+    as-mode z (inr w) = inr w
+
+    go : (eqb mode READ ≡ true) ⊎ (eqb mode READ ≡ false)
+        → LockOn (cond (eqb mode READ) (joinRead low high ls) (putLock (settledLock mode low high) ls)) o m p
+        ↔ (LeftOn true mode low high o m p ⊎ LockOn ls o m p)
+    go (inl e) =
+        let z = eqb-true mode READ e in
+        rw e (λ w. as-mode z (join-is low high ls o m p .0 w), λ w. join-is low high ls o m p .1 (as-read z w))
+    go (inr e) =
+        let is = put-is (settledLock mode low high) ls o m p in
+        rw e (λ w. sides (is .0 w), λ w. is .1 (sides-back w))
 leave-settled-is false mode low high ls o m p = (inr, back)
   where
     back : LeftOn false mode low high o m p ⊎ LockOn ls o m p → LockOn ls o m p
@@ -130,7 +130,7 @@ trimmed-is : (v : ℕ) (l : Lock) (o m p : ℕ) → IsOn (trimmed v l) o m p ↔
 trimmed-is v l o m p = go (isOwned SETTLED l) refl
   where
     go : (b : Bool) → isOwned SETTLED l ≡ b
-        → IsOn (cond b (record { low = max (l .low) (suc v); high = l .high; mode = l .mode; owner = l .owner }) l) o m
+        → IsOn (cond b (cut v l) l) o m
         p
         ↔ (IsOn l o m p × (o ≡ SETTLED → v < p))
     go true e = (

@@ -232,26 +232,26 @@ frozen-is s r mode p =
 
 -- held: where every owner that blocks is a slot, the least of them is named
 module _ (mode k : ℕ) (x : Rec) (p : ℕ) where
-  abbrev owners : List ℕ
+  abbrev pub owners : List ℕ
   owners = map (λ l. l .owner) (keep (covers p) (blockers mode k x))
 
-  owner-in : (o : ℕ) → BlockedBy mode k x p o → o ∈ owners
+  pub owner-in : (o : ℕ) → BlockedBy mode k x p o → o ∈ owners
   owner-in o w =
       let u : Under p (w .lock) = record { from = w .from; upto = w .upto } in
       Memᴰ·cast (sym (w .owned))
       (Memᴰ·map (λ l. l .owner) (keep-in (covers p) (by-blocker mode k x p o w) (covers-in p (w .lock) u)))
 
-  owner-out : {o : ℕ} → o ∈ owners → BlockedBy mode k x p o
+  pub owner-out : {o : ℕ} → o ∈ owners → BlockedBy mode k x p o
   owner-out m =
       let w = Memᴰ·of-map (λ l. l .owner) (keep (covers p) (blockers mode k x)) m in
       let n = keep-out (covers p) (blockers mode k x) (w .1) in
       rw (w .2) at (blocked-by mode k x p (n .0) (covers-out p (w .0) (n .1)))
 
-  holder-le : (o : ℕ) → BlockedBy mode k x p o → holder mode k x p ≤ o
+  pub holder-le : (o : ℕ) → BlockedBy mode k x p o → holder mode k x p ≤ o
   unfolding holder
   holder-le o w = least-le SLOTS (owner-in o w)
 
-  holder-out : (holder mode k x p ≡ SLOTS) ⊎ (holder mode k x p ∈ owners)
+  pub holder-out : (holder mode k x p ≡ SLOTS) ⊎ (holder mode k x p ∈ owners)
   unfolding holder
   holder-out = least-out SLOTS owners
 

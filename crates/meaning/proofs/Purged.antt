@@ -23,7 +23,7 @@ use Rattle.meaning.proofs.Stores.{rec-same, rec-other}
 use Rattle.meaning.proofs.StoresMore.{each-rec, locks-set, versions-set}
 use Rattle.meaning.proofs.Changed.{counts-purged}
 use Rattle.meaning.proofs.Kept.{Keeps, edit-kept}
-use Rattle.meaning.proofs.Trimmed.{Rest, trim-out, trim-in, trim-length}
+use Rattle.meaning.proofs.Trimmed.{Rest, trim-out, trim-in, trim-length, trim-rises, trim-joined}
 
 module _ (s : Store) (r v : ℕ) (good : SoundStore s) (range : r < length (s .records))
     (stands : VersionOn (recAt s r) v) (above : recAt s r .floor < v)
@@ -122,6 +122,8 @@ module _ (s : Store) (r v : ℕ) (good : SoundStore s) (range : r < length (s .r
             (omega (arith, f .2 .low)) (omega (arith, f .2 .high)) (omega (arith, g .2 .low))
             (omega (arith, g .2 .high));
         backed = λ w m h. backs w (kept-out w m .0) h;
+        rises = trim-rises v (x .locks) free (b .rises);
+        joined = trim-joined v (x .locks) (b .joined);
       }
 
   -- an edit with an access is no settled owner: its locks stay, and it read the version v or a later one

@@ -14,6 +14,7 @@ use Rattle.types.specs.Limits.{LAST, READ, WRITE, SETTLED, FREE, COMMITTED}
 use Rattle.meaning.specs.Store.{Version, Lock, Rec, Edit, editOf, inUse, accessOf}
 use Rattle.meaning.specs.Points.{isWrite, isOwned, covers, meets}
 use Rattle.meaning.specs.Pointwise.{VersionOn}
+use Rattle.meaning.specs.Sound.{locksRise, readsJoined}
 use Rattle.meaning.specs.Sound.{modesListed, versionsFall, versionsLie, endsAt, versionsEnd, noneAtZero, locksLie}
 use Rattle.meaning.specs.Sound.{ownersInUse, agree, writesApart, wroteAt, backs, versionsBacked, soundRec}
 use Rattle.meaning.specs.SoundFacts.{WroteAt, Backed, Span, SoundRec}
@@ -199,6 +200,8 @@ recTests es r x =
     ∷ ownersInUse es x
     ∷ writesApart x
     ∷ versionsBacked es r x
+    ∷ locksRise x
+    ∷ readsJoined x
     ∷ []
 
 module _ (es : List Edit) (r : ℕ) (x : Rec) where
@@ -220,7 +223,7 @@ module _ (es : List Edit) (r : ℕ) (x : Rec) where
 
   pub rec-out : soundRec es r x ≡ true → SoundRec es r x
   unfolding soundRec modesListed versionsFall versionsLie versionsEnd noneAtZero locksLie ownersInUse writesApart
-      versionsBacked
+      versionsBacked locksRise readsJoined
   rec-out e =
       record {
         mode =
@@ -242,6 +245,8 @@ module _ (es : List Edit) (r : ℕ) (x : Rec) where
         backed =
             λ v m h. backing v h (or-out (leb (v .point) (x .floor)) (any (backs es r (v .point)) (x .locks))
             (all-out backed (x .versions) (tests 8) v m));
+        rises = tests 9;
+        joined = tests 10;
       }
     where
       tests : (i : ℕ) → getD (recTests es r x) i true ≡ true
@@ -278,7 +283,7 @@ module _ (es : List Edit) (r : ℕ) (x : Rec) where
 
   pub rec-in : SoundRec es r x → soundRec es r x ≡ true
   unfolding soundRec modesListed versionsFall versionsLie versionsEnd noneAtZero locksLie ownersInUse writesApart
-      versionsBacked
+      versionsBacked locksRise readsJoined
   rec-in s =
       all-in listed (x .locks) (λ l m. modes l (s .mode l m))
       also s .falls
@@ -291,6 +296,8 @@ module _ (es : List Edit) (r : ℕ) (x : Rec) where
       also pairwise-in agree (x .locks)
       (λ l m a b. agree-in l m (s .span l a .some) (s .span m b .some) (parts l m a b))
       also all-in backed (x .versions) (λ v m. backing v m (test (leb (v .point) (x .floor))))
+      also s .rises
+      also s .joined
       also refl
     where
       modes : (l : Lock) → (l .mode ≡ READ) ⊎ (l .mode ≡ WRITE) → listed l ≡ true

@@ -36,6 +36,8 @@ fresh-rec es r =
       owner = λ l m. absurd (List·Memᴰ·not-nil m);
       apart = λ l m i. absurd (List·Memᴰ·not-nil i);
       backed = λ v m. absurd (List·Memᴰ·not-nil m);
+      rises = refl;
+      joined = refl;
     }
 
 pub fresh-edit : (rs : List Rec) (k : ℕ) → SoundEdit rs k freshEdit

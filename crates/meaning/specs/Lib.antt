@@ -18,3 +18,5 @@ pub mod Laws
 pub mod After
 pub mod Contract
 pub mod Session
+pub mod OldTable
+pub mod JoinedRows

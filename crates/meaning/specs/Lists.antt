@@ -34,6 +34,11 @@ module _ {A : Type 0} where
   find p d [] = d
   find p d (x ∷ xs) = cond (p x) x (find p d xs)
 
+  -- x put before the first element that passes, or last; for the order of locks of Points and of versions of Ending
+  abbrev pub putBefore : (A → Bool) → A → List A → List A
+  putBefore p x [] = x ∷ []
+  putBefore p x (y ∷ ys) = cond (p y) (x ∷ y ∷ ys) (y ∷ putBefore p x ys)
+
   -- every element stands in the relation to each later one; for Sound.versionsFall, writesApart and namesOnce
   abbrev pub pairwise : (A → A → Bool) → List A → Bool
   pairwise r [] = true

@@ -1,11 +1,12 @@
--- The calls Lock and Read. Rests on Outcomes and Edits.
+-- The calls Lock and Read; those that add a lock are over a way to keep locks, and the store's is `joined`. Rests on
+-- Outcomes and Edits.
 use Prim.Native.Nat.{ℕ, suc, _-_}
 use mathlib.Core.Bool.{Bool, false, cond, _&&_}
 use lib.Dec.{leb, ltb}
 use Rattle.types.specs.Limits.{LAST, READ, WRITE}
 use Rattle.meaning.specs.Store.{blank, Version, Access, Rec, Store, slotOf, editAt, recAt, withEdit}
 use Rattle.meaning.specs.Store.{withRec, withLocks, accessOf, hasRead, newestBelow, versionOn}
-use Rattle.meaning.specs.Points.{firstBlocked, firstOpen, addLock}
+use Rattle.meaning.specs.Points.{firstBlocked, firstOpen, Keeping, joined}
 use Rattle.types.specs.Replies.{locked, read, own, again}
 use Rattle.meaning.specs.Outcomes.{Outcome, replies, Verdict, pass, orElse, needs, unless, forOpen, hasRecord}
 use Rattle.meaning.specs.Outcomes.{isPoint, judge, accessRoom, lockRoom}
@@ -38,10 +39,10 @@ readGranted All k x low high = ltb high (firstBlocked READ k x low high)
 readGranted Part k x low high = ltb low (firstBlocked READ k x low high)
 
 -- slot k gets a lock on low..high of record r: "one lock for each grant"
-unfoldable pub withLock : Store → ℕ → ℕ → ℕ → ℕ → ℕ → Store
-withLock s r mode k low high =
+unfoldable pub withLockBy : Keeping → Store → ℕ → ℕ → ℕ → ℕ → ℕ → Store
+withLockBy K s r mode k low high =
     withRec s r
-    (withLocks (recAt s r) (addLock (record { low = low; high = high; mode = mode; owner = k }) (recAt s r .locks)))
+    (withLocks (recAt s r) (K .add (record { low = low; high = high; mode = mode; owner = k }) (recAt s r .locks)))
 
 -- Lock: 9 or 8, 11
 unfoldable pub lockVerdict : Store → ℕ → ℕ → ℕ → ℕ → Extent → Verdict
@@ -56,15 +57,15 @@ lockChecks s h r low high =
     (needs (hasRecord s r) 5 (needs (leb low high && leb high LAST) 6 (needs (ltb (recAt s r .floor) low) 7 pass)))
 
 -- "Lock write-locks low..high", reply `locked` low high: for slot k, once 2 to 7 are passed
-unfoldable pub lockWanted : Store → ℕ → ℕ → ℕ → ℕ → Extent → Outcome
-lockWanted s k r low high w =
+unfoldable pub lockWantedBy : Keeping → Store → ℕ → ℕ → ℕ → ℕ → Extent → Outcome
+lockWantedBy K s k r low high w =
     let from : ℕ = lockFrom w k (recAt s r) low high in
     let end : ℕ = lockEnd w k (recAt s r) low high in
-    unless s (lockVerdict s k r low high w) (replies (withLock s r WRITE k from end) (locked from end))
+    unless s (lockVerdict s k r low high w) (replies (withLockBy K s r WRITE k from end) (locked from end))
 
 -- "Lock write-locks low..high": the call, with all its checks
-unfoldable pub locking : ℕ → ℕ → ℕ → ℕ → Extent → Store → Outcome
-locking h r low high w s = unless s (lockChecks s h r low high) (lockWanted s (slotOf h) r low high w)
+unfoldable pub lockingBy : Keeping → ℕ → ℕ → ℕ → ℕ → Extent → Store → Outcome
+lockingBy K h r low high w s = unless s (lockChecks s h r low high) (lockWantedBy K s (slotOf h) r low high w)
 
 -- Read: "the version is the newest below m"
 abbrev pub readVersion : Store → ℕ → ℕ → Version
@@ -91,29 +92,53 @@ abbrev pub readAccess : ℕ → ℕ → Access
 readAccess r from = record { rec = r; from = from; written = false; value = blank }
 
 -- Read: the store after a new read, with its lock and its access
-unfoldable pub readStore : Store → ℕ → ℕ → ℕ → ℕ → Store
-readStore s k r from end = withEdit (withLock s r READ k from end) k (withAccess (editAt s k) (readAccess r from))
+unfoldable pub readStoreBy : Keeping → Store → ℕ → ℕ → ℕ → ℕ → Store
+readStoreBy K s k r from end =
+    withEdit (withLockBy K s r READ k from end) k (withAccess (editAt s k) (readAccess r from))
 
 -- "Otherwise the version is the newest below m, at tr, and tr + 1..m is read-locked", reply `read` tr end value
-unfoldable pub readNew : Store → ℕ → ℕ → ℕ → Extent → Outcome
-readNew s k r m w =
+unfoldable pub readNewBy : Keeping → Store → ℕ → ℕ → ℕ → Extent → Outcome
+readNewBy K s k r m w =
     let v : Version = readVersion s r m in
     let end : ℕ = readEnd s k r m w in
-    unless s (readVerdict s k r m w) (replies (readStore s k r (readFrom s r m) end) (read (v .point) end (v .value)))
+    unless s (readVerdict s k r m w)
+    (replies (readStoreBy K s k r (readFrom s r m) end) (read (v .point) end (v .value)))
 
 -- "an own pending value is the answer if there is one. A record read before gives the same version again. Neither
 -- locks."
-unfoldable pub readOpen : Store → ℕ → ℕ → ℕ → Extent → Outcome
-readOpen s k r m w =
+unfoldable pub readOpenBy : Keeping → Store → ℕ → ℕ → ℕ → Extent → Outcome
+readOpenBy K s k r m w =
     let a : Access = accessOf (editAt s k) r in
     let v : Version = versionOn (recAt s r .versions) (a .from - 1) in
     cond (a .written) (replies s (own (a .value)))
-    (cond (hasRead a) (replies s (again (a .from - 1) (v .value))) (readNew s k r m w))
+    (cond (hasRead a) (replies s (again (a .from - 1) (v .value))) (readNewBy K s k r m w))
 
 -- Read: 2, 3, 5, 6
 unfoldable pub readChecks : Store → ℕ → ℕ → ℕ → Verdict
 readChecks s h r m = forOpen s h (needs (hasRecord s r) 5 (needs (isPoint m) 6 pass))
 
 -- "Read up to m": the call, with all its checks
-unfoldable pub reading : ℕ → ℕ → ℕ → Extent → Store → Outcome
-reading h r m w s = unless s (readChecks s h r m) (readOpen s (slotOf h) r m w)
+unfoldable pub readingBy : Keeping → ℕ → ℕ → ℕ → Extent → Store → Outcome
+readingBy K h r m w s = unless s (readChecks s h r m) (readOpenBy K s (slotOf h) r m w)
+
+-- the same with the store's way to keep locks
+abbrev pub withLock : Store → ℕ → ℕ → ℕ → ℕ → ℕ → Store
+withLock = withLockBy joined
+
+abbrev pub lockWanted : Store → ℕ → ℕ → ℕ → ℕ → Extent → Outcome
+lockWanted = lockWantedBy joined
+
+abbrev pub locking : ℕ → ℕ → ℕ → ℕ → Extent → Store → Outcome
+locking = lockingBy joined
+
+abbrev pub readStore : Store → ℕ → ℕ → ℕ → ℕ → Store
+readStore = readStoreBy joined
+
+abbrev pub readNew : Store → ℕ → ℕ → ℕ → Extent → Outcome
+readNew = readNewBy joined
+
+abbrev pub readOpen : Store → ℕ → ℕ → ℕ → Extent → Outcome
+readOpen = readOpenBy joined
+
+abbrev pub reading : ℕ → ℕ → ℕ → Extent → Store → Outcome
+reading = readingBy joined

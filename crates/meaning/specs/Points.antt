@@ -4,8 +4,8 @@ use Prim.Native.Nat.{ℕ, suc, _-_, max}
 use mathlib.Core.Bool.{Bool, not, cond, _&&_, _||_}
 use mathlib.Core.List.{List, [], _∷_, map, _++_}
 use lib.Dec.{leb, ltb, eqb}
-use Rattle.meaning.specs.Lists.{all, any, keep, least, greatest}
-use Rattle.types.specs.Limits.{LAST, SLOTS, WRITE, SETTLED}
+use Rattle.meaning.specs.Lists.{all, any, keep, putBefore, least, greatest}
+use Rattle.types.specs.Limits.{LAST, SLOTS, READ, WRITE, SETTLED}
 use Rattle.meaning.specs.Store.{Lock, Access, Rec, Edit, Store, recOf, recAt, hasRead}
 
 -- Layout, lock: "mode (1 read, 2 write)": a write lock
@@ -76,14 +76,64 @@ frozen s r mode p =
 unfoldable pub holder : ℕ → ℕ → Rec → ℕ → ℕ
 holder mode k x p = least SLOTS (map (λ l. l .owner) (keep (covers p) (blockers mode k x)))
 
--- Lock "write-locks low..high", Read: "tr + 1..m is read-locked": one row more. A record's locks are changed only by
--- this, leaveSettled, dropOwner and trimTo
-unfoldable pub addLock : Lock → List Lock → List Lock
-addLock l ls = l ∷ ls
+-- A record's locks are changed only by addLock, leaveSettled, dropOwner and trimTo. Document 02, M-105: "Keep each
+-- record's locks in rising order of low point, and join settled read rows that overlap or adjoin."
 
--- "Settling leaves ... a settled read lock ... and a settled write lock": one of them, where b says so
+-- l starts no later than m
+abbrev pub noLater : Lock → Lock → Bool
+noLater l m = leb (l .low) (m .low)
+
+-- a row at its place in that order: before the first that starts at its low point or later
+abbrev pub putLock : Lock → List Lock → List Lock
+putLock l ls = putBefore (noLater l) l ls
+
+-- Lock "write-locks low..high", Read: "tr + 1..m is read-locked": one row more
+unfoldable pub addLock : Lock → List Lock → List Lock
+addLock l ls = putLock l ls
+
+abbrev pub settledLock : ℕ → ℕ → ℕ → Lock
+settledLock mode low high = record { low = low; high = high; mode = mode; owner = SETTLED }
+
+abbrev pub isSettledRead : Lock → Bool
+isSettledRead l = isOwned SETTLED l && eqb (l .mode) READ
+
+-- a settled read lock that overlaps low..high or adjoins it: there is no point between them
+abbrev pub touches : ℕ → ℕ → Lock → Bool
+touches low high l = isSettledRead l && (leb (l .low) (suc high) && leb low (suc (l .high)))
+
+-- low..high and every row that touches it, as one row
+abbrev pub joinedRow : ℕ → ℕ → List Lock → Lock
+joinedRow low high ls =
+    settledLock READ
+    (least low (map (λ l. l .low) (keep (touches low high) ls)))
+    (greatest high (map (λ l. l .high) (keep (touches low high) ls)))
+
+-- that row in place of those which it takes in
+abbrev pub joinRead : ℕ → ℕ → List Lock → List Lock
+joinRead low high ls = putLock (joinedRow low high ls) (keep (λ l. not (touches low high l)) ls)
+
+-- of two settled read locks, one ends before the point below the other
+abbrev pub apartReads : Lock → Lock → Bool
+apartReads l m =
+    not (isSettledRead l && isSettledRead m) || (ltb (suc (l .high)) (m .low) || ltb (suc (m .high)) (l .low))
+
+-- "Settling leaves ... a settled read lock ... and a settled write lock": one of them, where b says so; a read lock is
+-- joined
 unfoldable pub leaveSettled : Bool → ℕ → ℕ → ℕ → List Lock → List Lock
-leaveSettled b mode low high ls = cond b (record { low = low; high = high; mode = mode; owner = SETTLED } ∷ ls) ls
+leaveSettled b mode low high ls =
+    cond b (cond (eqb mode READ) (joinRead low high ls) (putLock (settledLock mode low high) ls)) ls
+
+-- the ways to keep a record's locks: how a row joins them, and how a settled one does
+pub record Keeping : Type 0 where
+  pub add : Lock → List Lock → List Lock
+  pub leave : Bool → ℕ → ℕ → ℕ → List Lock → List Lock
+
+-- the store's; and document 01's by itself, a row in front, to compare it with (OldTable)
+abbrev pub joined : Keeping
+joined = record { add = addLock; leave = leaveSettled }
+
+abbrev pub plain : Keeping
+plain = record { add = λ l ls. l ∷ ls; leave = λ b mode low high ls. cond b (settledLock mode low high ∷ ls) ls }
 
 -- "all its other locks ... become free": the locks of owner k go
 unfoldable pub dropOwner : ℕ → List Lock → List Lock
@@ -93,10 +143,13 @@ dropOwner k ls = keep (λ l. not (isOwned k l)) ls
 abbrev pub emptied : ℕ → Lock → Bool
 emptied v l = isOwned SETTLED l && leb (l .high) v
 
+-- a lock without its points up to v
+abbrev pub cut : ℕ → Lock → Lock
+cut v l = record { low = max (l .low) (suc v); high = l .high; mode = l .mode; owner = l .owner }
+
 -- "settled locks lose their points up to v": this lock afterwards
 abbrev pub trimmed : ℕ → Lock → Lock
-trimmed v l =
-    cond (isOwned SETTLED l) (record { low = max (l .low) (suc v); high = l .high; mode = l .mode; owner = l .owner }) l
+trimmed v l = cond (isOwned SETTLED l) (cut v l) l
 
 -- Purge: "settled locks lose their points up to v, rows left empty go"
 unfoldable pub trimTo : ℕ → List Lock → List Lock

@@ -10,7 +10,7 @@ use Rattle.meaning.specs.Lists.{every, all, any, pairwise, allFrom}
 use Rattle.types.specs.Limits.{LAST, GENERATIONS, READ, WRITE, SETTLED, FREE, COMMITTED, ABORTED}
 use Rattle.meaning.specs.Store.{Version, Lock, Rec, Edit, Store, countsOf, editOf, recOf, inUse, accessOf}
 use Rattle.meaning.specs.Store.{hasRead, versionsUsed, locksUsed, accessesUsed}
-use Rattle.meaning.specs.Points.{isWrite, isOwned, covers, meets, inCommon}
+use Rattle.meaning.specs.Points.{isWrite, isOwned, covers, meets, inCommon, noLater, apartReads}
 use Rattle.meaning.specs.Records.{goodCounts}
 
 -- "every row is on exactly one chain": what the meaning shows of it, rows in use are rows of the table
@@ -74,6 +74,12 @@ agree l m = isOwned (l .owner) m || (not (isWrite l || isWrite m) || not (meets 
 unfoldable pub writesApart : Rec → Bool
 writesApart x = pairwise agree (x .locks)
 
+unfoldable pub locksRise : Rec → Bool
+locksRise x = pairwise noLater (x .locks)
+
+unfoldable pub readsJoined : Rec → Bool
+readsJoined x = pairwise apartReads (x .locks)
+
 -- "of an edit that wrote the record and committed at that point": slot k, record r, point t
 unfoldable pub wroteAt : List Edit → ℕ → ℕ → ℕ → Bool
 wroteAt es k r t =
@@ -134,6 +140,8 @@ soundRec es r x =
     ∷ ownersInUse es x
     ∷ writesApart x
     ∷ versionsBacked es r x
+    ∷ locksRise x
+    ∷ readsJoined x
     ∷ [])
 
 -- the clauses of slot k, over the records rs

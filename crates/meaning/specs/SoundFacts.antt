@@ -6,7 +6,8 @@ use mathlib.Core.Logic.{_⊎_}
 use mathlib.Core.Bool.{true}
 use mathlib.Core.List.{List, []}
 use lib.ListN.{length}
-use Rattle.meaning.specs.Lists.{_∈_}
+use Rattle.meaning.specs.Lists.{_∈_, pairwise}
+use Rattle.meaning.specs.Points.{noLater, apartReads}
 use Rattle.types.specs.Limits.{LAST, GENERATIONS, READ, WRITE, SETTLED, FREE, COMMITTED, ABORTED}
 use Rattle.meaning.specs.Store.{Version, Lock, Access, Rec, Edit, Store, countsOf, editOf, recOf, editAt, recAt}
 use Rattle.meaning.specs.Store.{accessOf, versionsUsed, locksUsed, accessesUsed}
@@ -48,6 +49,8 @@ pub record SoundRec (es : List Edit) (r : ℕ) (x : Rec) : Type 0 where
   pub apart : (l m : Lock) → l ∈ x .locks → m ∈ x .locks → l .mode ≡ WRITE → (l .owner ≡ m .owner → ⊥) → (p : ℕ)
       → l .low ≤ p → p ≤ l .high → m .low ≤ p → p ≤ m .high → ⊥
   pub backed : (v : Version) → v ∈ x .versions → x .floor < v .point → Backed es r (v .point) (x .locks)
+  pub rises : pairwise noLater (x .locks) ≡ true
+  pub joined : pairwise apartReads (x .locks) ≡ true
 
 -- "a present version, or 0 under floor 0": tr
 abbrev pub Present : Rec → ℕ → Type 0

@@ -16,7 +16,7 @@ use Rattle.types.specs.declared.Point.{Point}
 use Rattle.meaning.specs.Lists.{all}
 use Rattle.meaning.specs.Store.{Store}
 use Rattle.meaning.specs.Locking.{reading}
-use Rattle.meaning.specs.Calls.{act}
+use Rattle.meaning.specs.Calls.{actBy}
 use Rattle.meaning.specs.Order.{Refuses, concerns}
 use Rattle.meaning.proofs.Lists.{all-out}
 use Rattle.meaning.proofs.Laws.{only-own-numbers}
@@ -121,7 +121,7 @@ not-emptied (refusing n more) f e = with-low n more (f n (more, refl)) e
 once-alone : (s : Session) {q : Reply} (t : Store) → ReadOr q → (codeOf q ≡ EMPTIED → ⊥)
     → codeOfReport (play (onceRead s q) t .told .report) ≡ EMPTIED
     → play (onceRead s q) t .told .report ≡ emptied
-unfolding play act
+unfolding play actBy
 once-alone s t (new tr end v) k e = go (ended (within s (suc tr) end)) e
   where
     go : (b : Bool)
@@ -139,7 +139,7 @@ once-alone s t (cases.passed {q} f) k e =
 read-alone : (s : Session) (rec : ℕ) (t : Store)
     → codeOfReport (play (deskRead s rec) t .told .report) ≡ EMPTIED
     → play (deskRead s rec) t .told .report ≡ emptied
-unfolding act
+unfolding actBy
 read-alone s rec t e = go (ended s) refl
   where
     q : Reply

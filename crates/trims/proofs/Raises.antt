@@ -1,7 +1,7 @@
 -- The loop that raises the low ends of a record's settled locks: the chains stay, and row by row the low end becomes
 -- that of the trimmed lock. In each, `d` is what the code's test `more` ensures and `e` how it went. Rests on OneTable
 -- and Locks of `changes` and Frames of `chains`.
-use Prim.Native.Nat.{ℕ, suc, _+_, _-_, _≤_, _<_, max}
+use Prim.Native.Nat.{ℕ, suc, _+_, _-_, _≤_, _<_}
 use mathlib.Core.Path.{_≡_, refl, sym, ap, _∙_}
 use mathlib.Core.Bool.{Bool, true, false, cond}
 use mathlib.Core.List.{List, [], _∷_, _++_, map, append-nil}
@@ -22,7 +22,7 @@ use Rattle.chains.proofs.Frames.{OnlyTable, only-put, only-trans, same-chains}
 use Rattle.chains.proofs.Entries.{entries-kept}
 use Rattle.types.specs.Limits.{SETTLED}
 use Rattle.meaning.specs.Store.{withRec, withLocks, recAt}
-use Rattle.meaning.specs.Points.{isOwned, trimmed}
+use Rattle.meaning.specs.Points.{isOwned, trimmed, cut}
 use Rattle.types.specs.declared.Lock.{Lock}
 use Rattle.types.specs.declared.Counts.{Counts}
 use Rattle.tables.specs.Layout.{lockTable, lockHeads, Fits, LOCK, L-LOW, L-HIGH, L-MODE, L-RECORD, L-NEXT}
@@ -40,9 +40,9 @@ trimmed-parts : (v : ℕ) (l : Lock)
     → trimmed v l ≡ record { low = trimmed v l .low; high = l .high; mode = l .mode; owner = l .owner }
 trimmed-parts v l = go (isOwned SETTLED l)
   where
-    go : (b : Bool) → cond b (record { low = max (l .low) (suc v); high = l .high; mode = l .mode; owner = l .owner }) l
+    go : (b : Bool) → cond b (cut v l) l
         ≡ record {
-          low = cond b (record { low = max (l .low) (suc v); high = l .high; mode = l .mode; owner = l .owner })
+          low = cond b (cut v l)
               l .low;
           high = l .high;
           mode = l .mode;

@@ -1,7 +1,7 @@
 -- `opened::commit` meets its contract. Rests on Within and on Noting of `index`.
 use mathlib.Core.Path.{refl}
 use Rattle.types.specs.declared.Call.the-variants as C
-use Rattle.meaning.specs.Calls.{act}
+use Rattle.meaning.specs.Calls.{actBy}
 use Rattle.index.proofs.Noting.{notes-commit}
 use Rattle.opened.proofs.Within.{within}
 use borrow.Author.Needs.{needs}
@@ -18,7 +18,7 @@ same-length-2 : tie.Need-same-length-2
 same-length-2 c = search needs
 
 returns : tie.Need-returns
-unfolding act
+unfolding actBy
 returns c =
     within (C.Commit _ _ _) (λ s. refl) (c .before .before .before .before .before .before .before .pre) (c .before
     .before .commit .ensures) (notes-commit _ _ _ _ _)

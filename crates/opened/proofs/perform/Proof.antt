@@ -1,6 +1,6 @@
 -- `perform` meets its contract.
 use mathlib.Core.Path.{refl}
-use Rattle.meaning.specs.Calls.{act}
+use Rattle.meaning.specs.Calls.{actBy}
 use Rattle.opened.proofs.Within.{within-matched, view-within}
 use borrow.Author.Needs.{needs}
 use Rattle.opened.proofs.perform.Statement.{statement}
@@ -67,7 +67,7 @@ same-length-2 : tie.Need-same-length-2
 same-length-2 c = search needs
 
 returns : tie.Need-returns
-unfolding act
+unfolding actBy
 returns c =
     within-matched (c .before .before .before .before .before .before .before .enum-told .given .1) (λ s. refl) (c
     .before .before .before .before .begin .ensures)
@@ -79,7 +79,7 @@ same-length-4 : tie.Need-same-length-4
 same-length-4 c = search needs
 
 returns-2 : tie.Need-returns-2
-unfolding act
+unfolding actBy
 returns-2 c =
     within-matched (c .before .before .before .before .before .before .before .before .call .given .1) (λ s. refl) (c
     .before .before .before .before .write .ensures)
@@ -91,7 +91,7 @@ same-length-6 : tie.Need-same-length-6
 same-length-6 c = search needs
 
 returns-3 : tie.Need-returns-3
-unfolding act
+unfolding actBy
 returns-3 c =
     within-matched (c .before .before .before .before .before .before .before .before .call2 .given .1) (λ s. refl) (c
     .before .before .before .before .lock .ensures)
@@ -103,7 +103,7 @@ same-length-8 : tie.Need-same-length-8
 same-length-8 c = search needs
 
 returns-4 : tie.Need-returns-4
-unfolding act
+unfolding actBy
 returns-4 c =
     within-matched (c .before .before .before .before .before .before .before .before .call3 .given .1) (λ s. refl) (c
     .before .before .before .before .read .ensures)
@@ -115,7 +115,7 @@ same-length-10 : tie.Need-same-length-10
 same-length-10 c = search needs
 
 returns-5 : tie.Need-returns-5
-unfolding act
+unfolding actBy
 returns-5 c =
     within-matched (c .before .before .before .before .before .before .before .before .call4 .given .1) (λ s. refl) (c
     .before .before .before .before .commit .ensures)
@@ -127,7 +127,7 @@ same-length-12 : tie.Need-same-length-12
 same-length-12 c = search needs
 
 returns-6 : tie.Need-returns-6
-unfolding act
+unfolding actBy
 returns-6 c =
     within-matched (c .before .before .before .before .before .before .before .before .call5 .given .1) (λ s. refl) (c
     .before .before .before .before .abort .ensures)
@@ -139,7 +139,7 @@ same-length-14 : tie.Need-same-length-14
 same-length-14 c = search needs
 
 returns-7 : tie.Need-returns-7
-unfolding act
+unfolding actBy
 returns-7 c =
     within-matched (c .before .before .before .before .before .before .before .before .call6 .given .1) (λ s. refl) (c
     .before .before .before .before .settle .ensures)
@@ -151,7 +151,7 @@ same-length-16 : tie.Need-same-length-16
 same-length-16 c = search needs
 
 returns-8 : tie.Need-returns-8
-unfolding act
+unfolding actBy
 returns-8 c =
     within-matched (c .before .before .before .before .before .before .before .before .call7 .given .1) (λ s. refl) (c
     .before .before .before .before .purge .ensures)
@@ -160,7 +160,7 @@ same-length-17 : tie.Need-same-length-17
 same-length-17 c = search needs
 
 returns-9 : tie.Need-returns-9
-unfolding act
+unfolding actBy
 returns-9 c =
     within-matched (c .before .before .before .call8 .given .1) (λ s. refl) (view-within _ _ (c .before .before
     .before .before .before .before .before .pre) (c .view .ensures))

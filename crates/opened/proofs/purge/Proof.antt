@@ -1,7 +1,7 @@
 -- `opened::purge` meets its contract. Rests on Within and on Noting of `index`.
 use mathlib.Core.Path.{refl}
 use Rattle.types.specs.declared.Call.the-variants as C
-use Rattle.meaning.specs.Calls.{act}
+use Rattle.meaning.specs.Calls.{actBy}
 use Rattle.index.proofs.Noting.{notes-purge}
 use Rattle.opened.proofs.Within.{within}
 use borrow.Author.Needs.{needs}
@@ -15,7 +15,7 @@ same-length : tie.Need-same-length
 same-length c = search needs
 
 returns : tie.Need-returns
-unfolding act
+unfolding actBy
 returns c =
     within (C.Purge _ _) (λ s. refl) (c .before .before .before .before .before .before .pre) (c .before .before
     .purge .ensures) (notes-purge _ _ _ _)

@@ -1,7 +1,7 @@
 -- `opened::settle` meets its contract. Rests on Within and on Noting of `index`.
 use mathlib.Core.Path.{refl}
 use Rattle.types.specs.declared.Call.the-variants as C
-use Rattle.meaning.specs.Calls.{act}
+use Rattle.meaning.specs.Calls.{actBy}
 use Rattle.index.proofs.Noting.{notes-settle}
 use Rattle.opened.proofs.Within.{within}
 use borrow.Author.Needs.{needs}
@@ -18,7 +18,7 @@ same-length-2 : tie.Need-same-length-2
 same-length-2 c = search needs
 
 returns : tie.Need-returns
-unfolding act
+unfolding actBy
 returns c =
     within (C.Settle _) (λ s. refl) (c .before .before .before .before .before .before .before .pre) (c .before
     .before .settle .ensures) (notes-settle _ _ _)

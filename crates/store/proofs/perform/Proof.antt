@@ -1,6 +1,6 @@
 -- `perform` meets its contract: each arm is the public call of its kind. Assumes nothing.
 use mathlib.Core.Path.{refl}
-use Rattle.meaning.specs.Calls.{act}
+use Rattle.meaning.specs.Calls.{actBy}
 use Rattle.store.proofs.Performing.{does-same, does-matched, shows-does}
 use borrow.Author.Needs.{needs}
 use Rattle.store.proofs.perform.Statement.{statement}
@@ -64,7 +64,7 @@ same-length : tie.Need-same-length
 same-length c = search needs
 
 returns : tie.Need-returns
-unfolding act
+unfolding actBy
 returns c =
     does-matched (c .before .before .before .before .enum-told .given .1)
     (does-same (λ s. refl) (c .before .before .begin .ensures))
@@ -73,7 +73,7 @@ same-length-2 : tie.Need-same-length-2
 same-length-2 c = search needs
 
 returns-2 : tie.Need-returns-2
-unfolding act
+unfolding actBy
 returns-2 c =
     does-matched (c .before .before .before .before .before .call .given .1)
     (does-same (λ s. refl) (c .before .before .write .ensures))
@@ -82,7 +82,7 @@ same-length-3 : tie.Need-same-length-3
 same-length-3 c = search needs
 
 returns-3 : tie.Need-returns-3
-unfolding act
+unfolding actBy
 returns-3 c =
     does-matched (c .before .before .before .before .before .call2 .given .1)
     (does-same (λ s. refl) (c .before .before .lock .ensures))
@@ -91,7 +91,7 @@ same-length-4 : tie.Need-same-length-4
 same-length-4 c = search needs
 
 returns-4 : tie.Need-returns-4
-unfolding act
+unfolding actBy
 returns-4 c =
     does-matched (c .before .before .before .before .before .call3 .given .1)
     (does-same (λ s. refl) (c .before .before .read .ensures))
@@ -100,7 +100,7 @@ same-length-5 : tie.Need-same-length-5
 same-length-5 c = search needs
 
 returns-5 : tie.Need-returns-5
-unfolding act
+unfolding actBy
 returns-5 c =
     does-matched (c .before .before .before .before .before .call4 .given .1)
     (does-same (λ s. refl) (c .before .before .commit .ensures))
@@ -109,7 +109,7 @@ same-length-6 : tie.Need-same-length-6
 same-length-6 c = search needs
 
 returns-6 : tie.Need-returns-6
-unfolding act
+unfolding actBy
 returns-6 c =
     does-matched (c .before .before .before .before .before .call5 .given .1)
     (does-same (λ s. refl) (c .before .before .abort .ensures))
@@ -118,7 +118,7 @@ same-length-7 : tie.Need-same-length-7
 same-length-7 c = search needs
 
 returns-7 : tie.Need-returns-7
-unfolding act
+unfolding actBy
 returns-7 c =
     does-matched (c .before .before .before .before .before .call6 .given .1)
     (does-same (λ s. refl) (c .before .before .settle .ensures))
@@ -127,7 +127,7 @@ same-length-8 : tie.Need-same-length-8
 same-length-8 c = search needs
 
 returns-8 : tie.Need-returns-8
-unfolding act
+unfolding actBy
 returns-8 c =
     does-matched (c .before .before .before .before .before .call7 .given .1)
     (does-same (λ s. refl) (c .before .before .purge .ensures))
@@ -136,7 +136,7 @@ same-length-9 : tie.Need-same-length-9
 same-length-9 c = search needs
 
 returns-9 : tie.Need-returns-9
-unfolding act
+unfolding actBy
 returns-9 c =
     does-matched (c .before .before .before .call8 .given .1)
     (does-same (λ s. refl) (shows-does _ _ (c .view .ensures)))
