@@ -1,5 +1,5 @@
 -- Chains as lists of what their rows hold, so that no row number is left in a statement: an entry is read off a row's
--- words by any function. Rests on Words and Frames.
+-- words by any function. Rests on Words, Places and Frames.
 use Prim.Native.Nat.{ℕ, _+_, _≤_, _<_}
 use mathlib.Core.Path.{_≡_, refl, sym, ap, _∙_}
 use mathlib.Core.Bool.{Bool, true, false}
@@ -8,7 +8,7 @@ use native.Mathlib.Omega.{arith}
 use lib.ListN.{set}
 use Rattle.chains.specs.declared.Table.{Table}
 use Rattle.chains.specs.declared.Heads.{Heads}
-use Rattle.chains.specs.Lists.{occ, allOf, takeWhile, dropWhile, dropIf}
+use Rattle.chains.specs.Lists.{occ, allOf, takeWhile, dropWhile, insertAfter, dropIf}
 use Rattle.chains.specs.Walk.{IsRow}
 use Rattle.chains.specs.Table.{place, field, rowsOf}
 use Rattle.chains.specs.Partition.{partition}
@@ -16,6 +16,7 @@ use Rattle.chains.specs.Change.{Ready, Changed, Same, UnlinkedBy}
 use Rattle.chains.proofs.Occurs.{occ-same, occ-here, occ-there, occ-append}
 use Rattle.chains.proofs.Cells.{laid-same, lies, field-same, field-other}
 use Rattle.chains.proofs.Words.{on-chain, on-once, on-one}
+use Rattle.chains.proofs.Places.{take-drop}
 use Rattle.chains.proofs.Frames.{OnlyTable, only-elsewhere, only-put, only-trans, put-same, field-kept}
 
 -- rows that hold the same give the same entries
@@ -217,3 +218,24 @@ inserted-entries {t = t} {h} {w} {w′} {a} {b} {i} f g ks ys rd tk sp k e =
       entries-kept f g ks (λ x o. same x (omega (arith, oc x))),
       entries-kept f g ys (λ x o. same x (omega (arith, oc x))),
     )
+
+-- and where it stands after the front of rows whose entries pass a test
+pub sorted-entries {ℓ} : {X : Type ℓ} {t : Table} {h : Heads} {w w′ : List ℕ} {a b i : ℕ} {zs : List ℕ} (f g : ℕ → X)
+    (p : X → Bool) → Ready t h w a b → rowsOf t h w b ≡ i ∷ tail (rowsOf t h w b)
+    → Filled t h w w′ a b (insertAfter (λ x. p (g x)) i (rowsOf t h w a)) zs i
+    → ((x : ℕ) → IsRow (t .count) x → (x ≡ i → ⊥) → f x ≡ g x)
+    → map f (rowsOf t h w′ a) ≡ insertAfter p (f i) (map g (rowsOf t h w a))
+sorted-entries {t = t} {h} {w} {w′} {a} {b} {i} f g p rd tk k e =
+    let rows = rowsOf t h w a in
+    inserted-entries f g (takeWhile (λ x. p (g x)) rows) (dropWhile (λ x. p (g x)) rows) rd tk
+    (take-drop (λ x. p (g x)) rows) k e
+    ∙ rw (entries-take g p rows, entries-beyond g p rows) refl
+
+-- the entries of every other chain are as before
+pub taken-others {ℓ} : {X : Type ℓ} {t : Table} {h : Heads} {w w′ : List ℕ} {a b i : ℕ} {A B : List ℕ} (f g : ℕ → X)
+    → Ready t h w a b → rowsOf t h w b ≡ i ∷ tail (rowsOf t h w b) → Filled t h w w′ a b A B i
+    → ((x : ℕ) → IsRow (t .count) x → (x ≡ i → ⊥) → f x ≡ g x) → (j : ℕ) → j ≤ h .owners → (j ≡ a → ⊥) → (j ≡ b → ⊥)
+    → map f (rowsOf t h w′ j) ≡ map g (rowsOf t h w j)
+taken-others {t = t} {h} {w} {w′} {a} {b} {i} f g rd tk k e j q na nb =
+    other-entries k f g (rd .parted) b (rd .b-in) (rw tk (occ-here i (tail (rowsOf t h w b)))) e j q na nb
+    (λ z. nb (sym z))

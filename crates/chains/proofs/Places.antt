@@ -7,7 +7,7 @@ use mathlib.Core.List.{List, [], _∷_, _++_}
 use Rattle.chains.specs.declared.Table.{Table}
 use Rattle.chains.specs.declared.Heads.{Heads}
 use Rattle.chains.specs.Lists.{lastOr, takeWhile, dropWhile}
-use Rattle.chains.specs.Table.{chain, headOf, rowsOf, above}
+use Rattle.chains.specs.Table.{chain, headOf, rowsOf, standsBefore}
 use Rattle.chains.specs.Change.{Ready, Split, Place, Taken, Inserted, InsertedSorted}
 use Rattle.chains.proofs.Words.{head-cons}
 
@@ -41,15 +41,19 @@ unfolding lastOr
 start-place t h w a = record { upto = []; beyond = rowsOf t h w a; split = record { parts = refl; last = refl } }
 
 -- the code's steps of `insert_sorted`, where there is a row to insert
-pub sorted-law : {t : Table} {h : Heads} {w w′ : List ℕ} {a b r x p : ℕ} (o q : ℕ) → Ready t h w a b → r ≡ headOf h w b
-    → (r ≡ 0 → ⊥) → x ≡ headOf h w a
-    → p ≡ lastOr 0 (takeWhile (above t w o q) (chain t w x)) → Inserted t h w w′ a b p r
-    → Taken h w w′ b r (InsertedSorted t h w w′ a b o q r)
+pub sorted-law : {t : Table} {h : Heads} {w w′ : List ℕ} {a b r x p : ℕ} (o q : ℕ) (rising : Bool)
+    → Ready t h w a b → r ≡ headOf h w b → (r ≡ 0 → ⊥) → x ≡ headOf h w a
+    → p ≡ lastOr 0 (takeWhile (standsBefore rising t w o q) (chain t w x)) → Inserted t h w w′ a b p r
+    → Taken h w w′ b r (InsertedSorted t h w w′ a b o q rising r)
 unfolding Inserted
-sorted-law {t} {h} {w} {w′} {a} {b} {r} o q rd e z ex ep i =
+sorted-law {t} {h} {w} {w′} {a} {b} {r} o q rising rd e z ex ep i =
     let c = head-cons t h w (rd .parted) b r (rd .b-in) e z in
     record {
       head = e;
       empty = λ k. absurd (z k);
-      done = λ _. record { row = c .1; taken = c .0; changed = i _ _ (front-split t h w a (above t w o q) ex ep) };
+      done = λ _. record {
+        row = c .1;
+        taken = c .0;
+        changed = i _ _ (front-split t h w a (standsBefore rising t w o q) ex ep);
+      };
     }

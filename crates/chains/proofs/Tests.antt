@@ -1,13 +1,12 @@
 -- The tests on one word of a row, as the code makes them: f is the word that was read. Rests on nothing.
-use Prim.Native.Nat.{ℕ, _≤_, _<_}
+use Prim.Native.Nat.{ℕ}
 use mathlib.Core.Path.{_≡_, sym, ap, _∙_}
-use mathlib.Core.Bool.{true, false}
+use mathlib.Core.Bool.{Bool, true, false}
 use mathlib.Core.List.{List}
-use native.Mathlib.Omega.{arith}
 use lib.Dec.{eqb}
-use borrow.Author.Tests.{eq-eqb, ne-eqb, lt-ltb, le-ltb}
+use borrow.Author.Tests.{eq-eqb, ne-eqb}
 use Rattle.chains.specs.declared.Table.{Table}
-use Rattle.chains.specs.Table.{field, holds, above}
+use Rattle.chains.specs.Table.{field, holds, precedes, standsBefore}
 
 module _ (t : Table) (w : List ℕ) (o v x f : ℕ) (e : f ≡ field t w x o) where
   pub holds-yes : f ≡ v → holds t w o v x ≡ true
@@ -23,10 +22,6 @@ module _ (t : Table) (w : List ℕ) (o v x f : ℕ) (e : f ≡ field t w x o) wh
   unfolding holds
   holds-same w₀ k = ap (λ y. eqb y v) (e ∙ k)
 
-  pub above-yes : v < f → above t w o v x ≡ true
-  unfolding above
-  above-yes l = lt-ltb v (field t w x o) (omega arith)
-
-  pub above-no : f ≤ v → above t w o v x ≡ false
-  unfolding above
-  above-no l = le-ltb v (field t w x o) (omega arith)
+  pub stands-before : (rising : Bool) {b c : Bool} → b ≡ precedes rising f v → b ≡ c → standsBefore rising t w o v x ≡ c
+  unfolding standsBefore
+  stands-before rising k q = ap (λ y. precedes rising y v) (sym e) ∙ sym k ∙ q

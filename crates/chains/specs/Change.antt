@@ -7,9 +7,9 @@ use mathlib.Core.List.{List, _∷_, _++_, tail, reverseAux}
 use lib.ListN.{length, getD, set}
 use Rattle.chains.specs.declared.Table.{Table}
 use Rattle.chains.specs.declared.Heads.{Heads}
-use Rattle.chains.specs.Lists.{lastOr, takeWhile, dropWhile, dropIf, pushIf}
+use Rattle.chains.specs.Lists.{lastOr, insertAfter, dropIf, pushIf}
 use Rattle.chains.specs.Walk.{IsRow}
-use Rattle.chains.specs.Table.{linkCell, headCell, headOf, rowsOf, Laid, afterCell, above}
+use Rattle.chains.specs.Table.{linkCell, headCell, headOf, rowsOf, Laid, afterCell, standsBefore}
 use Rattle.chains.specs.Partition.{partition}
 
 -- what every mutator asks for: the table is laid out, every row is on exactly one chain, and a and b are two of its
@@ -78,13 +78,12 @@ unfoldable pub Inserted : Table → Heads → List ℕ → List ℕ → ℕ → 
 Inserted t h w w′ a b p r =
     (ks ys : List ℕ) → Split t h w a p ks ys → Changed t h w w′ a b (ks ++ r ∷ ys) (tail (rowsOf t h w b))
 
--- r, the first row of chain b, now stands on chain a after the front of rows whose word o is above q
-pub record InsertedSorted (t : Table) (h : Heads) (w w′ : List ℕ) (a b o q r : ℕ) : Type 0 where
+-- r, the first row of chain b, now stands on chain a after the front of rows whose word o comes before q
+pub record InsertedSorted (t : Table) (h : Heads) (w w′ : List ℕ) (a b o q : ℕ) (rising : Bool) (r : ℕ) : Type 0 where
   pub row : IsRow (t .count) r
   pub taken : rowsOf t h w b ≡ r ∷ tail (rowsOf t h w b)
-  pub changed : Changed t h w w′ a b
-      (takeWhile (above t w o q) (rowsOf t h w a) ++ r ∷ dropWhile (above t w o q) (rowsOf t h w a))
-      (tail (rowsOf t h w b))
+  pub changed :
+      Changed t h w w′ a b (insertAfter (standsBefore rising t w o q) r (rowsOf t h w a)) (tail (rowsOf t h w b))
 
 -- row r, after place p of chain a, has become the first of chain b
 unfoldable pub Unlinked : Table → Heads → List ℕ → List ℕ → ℕ → ℕ → ℕ → ℕ → Type 0

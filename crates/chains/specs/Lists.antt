@@ -1,7 +1,7 @@
 -- Lists of rows, and sums and tests over the numbers below a bound. Rests on nothing.
 use Prim.Native.Nat.{ℕ, zero, suc, _+_}
 use mathlib.Core.Bool.{Bool, true, false, _&&_}
-use mathlib.Core.List.{List, [], _∷_}
+use mathlib.Core.List.{List, [], _∷_, _++_}
 use lib.Dec.{eqb}
 
 -- how often r stands in a list
@@ -52,6 +52,10 @@ takeWhile p (x ∷ xs) = elim (p x) [ true ↦ x ∷ takeWhile p xs | false ↦ 
 unfoldable pub dropWhile {ℓ} : {A : Type ℓ} → (A → Bool) → List A → List A
 dropWhile p [] = []
 dropWhile p (x ∷ xs) = elim (p x) [ true ↦ dropWhile p xs | false ↦ x ∷ xs ]
+
+-- the list with x more, after that front
+abbrev pub insertAfter {ℓ} : {A : Type ℓ} → (A → Bool) → A → List A → List A
+insertAfter p x xs = takeWhile p xs ++ x ∷ dropWhile p xs
 
 -- the elements of which p fails, in order
 unfoldable pub dropIf {ℓ} : {A : Type ℓ} → (A → Bool) → List A → List A

@@ -1,7 +1,7 @@
 -- A table of rows in a list of words, its chains, and the words at which they start.
 -- The chains of a table are numbered: 0 is the free chain, k + 1 the chain of owner k. Rests on Walk.
 use Prim.Native.Nat.{ℕ, zero, suc, _+_, _*_, _-_, _≤_, _<_, max}
-use mathlib.Core.Bool.{Bool, true, false}
+use mathlib.Core.Bool.{Bool, true, false, cond}
 use mathlib.Core.List.{List}
 use lib.ListN.{length, getD}
 use lib.Dec.{ltb, eqb}
@@ -79,12 +79,17 @@ unfoldable pub afterCell : Table → Heads → ℕ → ℕ → ℕ
 afterCell t h a zero = headCell h a
 afterCell t h a (suc p) = linkCell t (suc p)
 
--- word o of row x is v; is above q
+-- word o of row x is v
 unfoldable pub holds : Table → List ℕ → ℕ → ℕ → ℕ → Bool
 holds t w o v x = eqb (field t w x o) v
 
-unfoldable pub above : Table → List ℕ → ℕ → ℕ → ℕ → Bool
-above t w o q x = ltb q (field t w x o)
+-- x comes before q on a chain: below it where words rise, above it where they fall
+unfoldable pub precedes : Bool → ℕ → ℕ → Bool
+precedes rising x q = cond rising (ltb x q) (ltb q x)
+
+-- word o of row i comes before q
+unfoldable pub standsBefore : Bool → Table → List ℕ → ℕ → ℕ → ℕ → Bool
+standsBefore rising t w o q i = precedes rising (field t w i o) q
 
 -- the largest word o among the rows of the chain from h, or 0
 unfoldable pub larger : Table → List ℕ → ℕ → ℕ → ℕ → ℕ

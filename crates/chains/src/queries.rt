@@ -4,7 +4,7 @@ ghost use mathlib.Core.Path.{_≡_};
 ghost use Prim.Native.Nat.{_<_};
 ghost use Rattle.chains.specs.Lists.{allOf, firstOf, lastOr, takeWhile};
 ghost use Rattle.chains.specs.Walk.{IsRow};
-ghost use Rattle.chains.specs.Table.{Lies, chain, lenOf, holds, above, larger, largest};
+ghost use Rattle.chains.specs.Table.{Lies, chain, lenOf, holds, precedes, standsBefore, larger, largest};
 use crate::Len;
 use crate::Table;
 use crate::get;
@@ -92,17 +92,27 @@ pub fn first_with(w: &[u64], t: Table, o: usize, v: usize, head: usize) -> usize
     0
 }
 
-// The place after the front of rows whose word o is above q.
-pub fn find_place(w: &[u64], t: Table, o: usize, q: usize, head: usize) -> usize
+// Whether x comes before q on a chain: below it where words rise, above it where they fall.
+fn precedes(rising: bool, x: usize, q: usize) -> bool
+    ensures { λ r. ⌜ r ≡ precedes rising x q ⌝ }
+{
+    if rising { x < q } else { q < x }
+}
+
+// The place after the front of rows whose word o comes before q.
+pub fn find_place(w: &[u64], t: Table, o: usize, q: usize, rising: bool, head: usize) -> usize
     requires { ⌜ Lies t (now w) × (o < t .stride) ⌝ }
-    ensures { λ r. ⌜ r ≡ lastOr 0 (takeWhile (above t (now (w .entry)) o q) (chain t (now (w .entry)) head)) ⌝ }
+    ensures { λ r. ⌜
+        r ≡ lastOr 0 (takeWhile (standsBefore rising t (now (w .entry)) o q) (chain t (now (w .entry)) head))
+        ⌝ }
 {
     let n = t.count;
     let mut place = 0;
     let mut cur = head;
     let mut left = n;
     while more(n, left, cur) {
-        if get(w, t, cur, o) <= q {
+        let x = get(w, t, cur, o);
+        if !precedes(rising, x, q) {
             return place;
         }
         place = cur;

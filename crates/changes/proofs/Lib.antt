@@ -7,4 +7,6 @@ pub mod Stored
 pub mod Lists
 pub mod Locks
 pub mod Turns
+pub mod Besides
+pub mod Joins
 pub mod Versions

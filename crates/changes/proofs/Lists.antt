@@ -1,31 +1,41 @@
 -- Lists of entries as the meaning changes them, against rows as the chains do: a test of all rows after one was added
--- or some were dropped, dropping against keeping, and insertion of a version. Rests on Entries of `chains`.
-use Prim.Native.Nat.{ℕ, suc, _-_, _≤_}
+-- or some were dropped, dropping against keeping, and insertion of a version or a lock. Rests on Entries of `chains`.
+use Prim.Native.Nat.{ℕ, suc, _≤_}
 use mathlib.Core.Path.{_≡_, refl, sym, ap, _∙_}
 use mathlib.Core.Bool.{Bool, true, false, not, cond, false≢true}
 use mathlib.Core.List.{List, [], _∷_, _++_, map}
 use mathlib.Core.Logic.{_⊎_, inl, inr}
 use native.Mathlib.Omega.{arith}
 use native.Mathlib.Decide.{ℕ-discrete}
-use lib.Dec.{ltb}
-use borrow.Author.Tests.{ltb-true, ltb-false, lt-ltb, le-ltb}
-use Rattle.chains.specs.Lists.{occ, allOf, dropIf, takeWhile, dropWhile}
+use lib.Dec.{ltb, leb}
+use borrow.Author.Tests.{ltb-true, ltb-false, lt-ltb, le-ltb, leb-true, leb-false}
+use Rattle.chains.specs.Lists.{occ, allOf, dropIf, takeWhile, dropWhile, insertAfter}
 use Rattle.chains.proofs.Occurs.{occ-nil, occ-other, occ-here, occ-there, occ-swap}
-use Rattle.chains.proofs.Entries.{entries-all}
+use Rattle.chains.proofs.Entries.{entries-all, map-append}
 use Rattle.meaning.specs.Lists.{all, any, keep, pairwise}
 use Rattle.meaning.proofs.Lists.{and-left, and-right, or-left, or-right}
+use Rattle.meaning.specs.Points.{putLock}
 use Rattle.meaning.specs.Ending.{insert}
+use Rattle.types.specs.declared.Lock.{Lock}
 use Rattle.types.specs.declared.Version.{Version}
 
 -- tests of all rows
+all-between : (xs ys : List Bool) → allOf (λ x. x) (xs ++ true ∷ ys) ≡ allOf (λ x. x) (xs ++ ys)
+unfolding allOf
+all-between [] ys = refl
+all-between (true ∷ xs) ys = all-between xs ys
+all-between (false ∷ xs) ys = refl
+
+pub all-inserted : (f g : ℕ → Bool) (ks ys rs′ : List ℕ) (b : Bool) → map f rs′ ≡ map g ks ++ b ∷ map g ys → b ≡ true
+    → allOf g (ks ++ ys) ≡ true → allOf f rs′ ≡ true
+all-inserted f g ks ys rs′ b e z h =
+    entries-all f (λ x. x) rs′ ∙ ap (allOf (λ x. x)) (e ∙ ap (λ y. map g ks ++ y ∷ map g ys) z)
+    ∙ all-between (map g ks) (map g ys) ∙ ap (allOf (λ x. x)) (sym (map-append g ks ys))
+    ∙ sym (entries-all g (λ x. x) (ks ++ ys)) ∙ h
+
 pub all-pushed : (f g : ℕ → Bool) (rs rs′ : List ℕ) (b : Bool) → map f rs′ ≡ b ∷ map g rs → b ≡ true → allOf g rs ≡ true
     → allOf f rs′ ≡ true
-unfolding allOf
-all-pushed f g rs rs′ b e z h =
-    entries-all f (λ x. x) rs′ ∙ ap (allOf (λ x. x)) e ∙ one b z ∙ sym (entries-all g (λ x. x) rs) ∙ h
-  where
-    one : (b : Bool) → b ≡ true → allOf (λ x. x) (b ∷ map g rs) ≡ allOf (λ x. x) (map g rs)
-    one b z = rw (z, allOf)
+all-pushed f g rs rs′ b e z h = all-inserted f g [] rs rs′ b e z h
 
 pub all-dropped : (f p : ℕ → Bool) (rs : List ℕ) → allOf f rs ≡ true → allOf f (dropIf p rs) ≡ true
 unfolding allOf dropIf
@@ -49,23 +59,39 @@ module _ {A : Type 0} (p : A → Bool) where
       go true e ih = rw (e, dropIf) (rw (h x ∙ ap not e) ih)
       go false e ih = rw (e, dropIf) (rw (h x ∙ ap not e) (ap (λ y. x ∷ y) ih))
 
+-- one more, before the first of which c holds, stands after the front of those of which c fails
+module _ {A : Type 0} (p c : A → Bool) (pc : (x : A) → p x ≡ not (c x)) (v : A) (put : List A → List A)
+    (none : put [] ≡ v ∷ []) (some : (x : A) (xs : List A) → put (x ∷ xs) ≡ cond (c x) (v ∷ x ∷ xs) (x ∷ put xs)) where
+  put-after : (xs : List A) → insertAfter p v xs ≡ put xs
+  unfolding takeWhile dropWhile
+  put-after [] = sym none
+  put-after (x ∷ xs) = go (c x) refl (put-after xs)
+    where
+      go : (b : Bool) → c x ≡ b → insertAfter p v xs ≡ put xs → insertAfter p v (x ∷ xs) ≡ put (x ∷ xs)
+      go true e ih = rw (some x xs, e) (rw (pc x ∙ ap not e, takeWhile, dropWhile) refl)
+      go false e ih = rw (some x xs, e) (rw (pc x ∙ ap not e, takeWhile, dropWhile) (ap (λ y. x ∷ y) ih))
+
 -- a version stands after the front of versions above q, one less than its point
 pub insert-after : (q : ℕ) (v : Version) → v .point ≡ suc q → (vs : List Version)
-    → takeWhile (λ x. ltb q (x .point)) vs ++ v ∷ dropWhile (λ x. ltb q (x .point)) vs ≡ insert v vs
-unfolding takeWhile dropWhile
-insert-after q v h [] = refl
-insert-after q v h (x ∷ vs) = go (ltb (x .point) (v .point)) refl (insert-after q v h vs)
+    → insertAfter (λ x. ltb q (x .point)) v vs ≡ insert v vs
+insert-after q v h =
+    put-after (λ x. ltb q (x .point)) (λ x. ltb (x .point) (v .point)) (λ x. other x (ltb (x .point) (v .point)) refl) v
+    (insert v) refl (λ x xs. refl)
   where
-    go : (b : Bool) → ltb (x .point) (v .point) ≡ b
-        → takeWhile (λ x. ltb q (x .point)) vs ++ v ∷ dropWhile (λ x. ltb q (x .point)) vs ≡ insert v vs
-        → takeWhile (λ x. ltb q (x .point)) (x ∷ vs) ++ v ∷ dropWhile (λ x. ltb q (x .point)) (x ∷ vs)
-        ≡ cond (ltb (x .point) (v .point)) (v ∷ x ∷ vs) (x ∷ insert v vs)
-    go true e ih =
-        let l : ltb q (x .point) ≡ false = le-ltb q (x .point) (omega (arith, ltb-true (x .point) (v .point) e)) in
-        rw e (rw (l, takeWhile, dropWhile) refl)
-    go false e ih =
-        let l : ltb q (x .point) ≡ true = lt-ltb q (x .point) (omega (arith, ltb-false (x .point) (v .point) e)) in
-        rw e (rw (l, takeWhile, dropWhile) (ap (λ y. x ∷ y) ih))
+    other : (x : Version) (b : Bool) → ltb (x .point) (v .point) ≡ b → ltb q (x .point) ≡ not b
+    other x true e = le-ltb q (x .point) (omega (arith, h, ltb-true (x .point) (v .point) e))
+    other x false e = lt-ltb q (x .point) (omega (arith, h, ltb-false (x .point) (v .point) e))
+
+-- a lock stands after the front of locks with low points below q, its own
+pub lock-after : (q : ℕ) (l : Lock) → l .low ≡ q → (ls : List Lock)
+    → insertAfter (λ x. ltb (x .low) q) l ls ≡ putLock l ls
+lock-after q l h =
+    put-after (λ x. ltb (x .low) q) (λ x. leb (l .low) (x .low)) (λ x. other x (leb (l .low) (x .low)) refl) l
+    (putLock l) refl (λ x xs. refl)
+  where
+    other : (x : Lock) (b : Bool) → leb (l .low) (x .low) ≡ b → ltb (x .low) q ≡ not b
+    other x true e = le-ltb (x .low) q (omega (arith, h, leb-true (l .low) (x .low) e))
+    other x false e = lt-ltb (x .low) q (omega (arith, h, leb-false (l .low) (x .low) e))
 
 -- dropping adds no row
 pub occ-drop : (x : ℕ) (p : ℕ → Bool) (rs : List ℕ) → occ x (dropIf p rs) ≤ occ x rs

@@ -1,23 +1,24 @@
--- Changes of one record's locks: a row taken, filled and put first; rows dropped by a test. Rests on OneTable, Stored,
--- Rooms and Lists.
+-- Changes of one record's locks: a row taken, put at its place and filled; rows dropped by a test. Rests on OneTable,
+-- Stored, Rooms and Lists.
 use Prim.Native.Nat.{ℕ, suc, _≤_, _<_}
 use mathlib.Core.Path.{_≡_, refl, sym, ap, _∙_}
 use mathlib.Core.Bool.{Bool, true}
-use mathlib.Core.List.{List, _∷_, map, tail}
+use mathlib.Core.List.{List, map, tail}
 use native.Mathlib.Omega.{arith}
 use native.Mathlib.Decide.{ℕ-discrete}
-use lib.Dec.{eqb}
+use lib.Dec.{eqb, ltb}
 use borrow.Author.Tests.{eq-eqb}
-use Rattle.chains.specs.Lists.{occ, allOf, dropIf, pushIf}
+use Rattle.chains.specs.Lists.{occ, allOf, dropIf, pushIf, takeWhile, dropWhile, insertAfter}
 use Rattle.chains.specs.Walk.{IsRow}
-use Rattle.chains.specs.Table.{field, rowsOf}
-use Rattle.chains.specs.Change.{Ready, Elsewhere, Changed, Moved, Taken}
-use Rattle.chains.proofs.Occurs.{occ-here}
+use Rattle.chains.specs.Table.{field, rowsOf, precedes, standsBefore}
+use Rattle.chains.specs.Change.{Ready, Elsewhere, Changed, InsertedSorted, Taken}
+use Rattle.chains.proofs.Places.{take-drop}
 use Rattle.chains.proofs.Words.{on-chain}
 use Rattle.chains.proofs.Frames.{only-elsewhere, field-kept, apart-kept}
-use Rattle.chains.proofs.Entries.{Filled, filled-start, pushed-entries, other-entries, entries-kept, entries-drop}
+use Rattle.chains.proofs.Entries.{Filled, filled-start, inserted-entries, sorted-entries, taken-others, entries-kept}
+use Rattle.chains.proofs.Entries.{entries-drop}
 use Rattle.meaning.specs.Store.{withRec, withLocks, recAt, locksUsed}
-use Rattle.meaning.specs.Points.{addLock}
+use Rattle.meaning.specs.Points.{putLock, addLock}
 use Rattle.types.specs.declared.Lock.{Lock}
 use Rattle.types.specs.declared.Counts.{Counts}
 use Rattle.tables.specs.Layout.{lockTable, lockHeads, Fits, MODES, L-LOW, L-HIGH, L-MODE, L-RECORD}
@@ -26,13 +27,13 @@ use Rattle.writes.specs.Rows.{lockStored}
 use Rattle.tables.specs.Words.{Well, namesRecord}
 use Rattle.tables.proofs.Places.{locks-laid}
 use Rattle.tables.proofs.Decoded.{rec-at}
-use Rattle.changes.specs.Becomes.{AccessesKept, Becomes}
+use Rattle.changes.specs.Becomes.{Becomes, Beside}
 use Rattle.changes.proofs.Apart.{locks-accesses}
 use Rattle.changes.proofs.Parts.{accesses-kept, all-same}
 use Rattle.changes.proofs.OneTable.{locks-become, locks-fit}
 use Rattle.tables.proofs.Rooms.{free-lock}
 use Rattle.changes.proofs.Stored.{lock-stored-at, lock-stored-record, lock-filled, lock-rest}
-use Rattle.changes.proofs.Lists.{all-pushed, all-dropped, occ-drop}
+use Rattle.changes.proofs.Lists.{all-inserted, all-dropped, occ-drop, lock-after}
 
 -- the decoded locks of a record
 pub locks-at : (c : Counts) (w : List ℕ) (r : ℕ) → r < c .records → recAt (decodeAt c w) r .locks ≡ locksOf c w r
@@ -58,17 +59,7 @@ lock-kept {c} {w} {w′} f e x q =
     )
 
 module _ {c : Counts} {w : List ℕ} (W : Well c w) {r : ℕ} (l : r < c .records) where
-  -- the free chain and record r's, either way
-  pub lock-ready : Ready (lockTable c) (lockHeads c) w 0 (suc r)
-  unfolding lockHeads
-  lock-ready = record {
-    laid = locks-laid (W .fits);
-    parted = W .locks-parted;
-    a-in = omega arith;
-    b-in = omega arith;
-    differ = λ e. omega arith;
-  }
-
+  -- record r's chain and the free one
   pub lock-ready-back : Ready (lockTable c) (lockHeads c) w (suc r) 0
   unfolding lockHeads
   lock-ready-back = record {
@@ -80,75 +71,76 @@ module _ {c : Counts} {w : List ℕ} (W : Well c w) {r : ℕ} (l : r < c .record
   }
 
   -- where there is room, a row was taken
-  module _ {w₁ : List ℕ} {i : ℕ} (k : Taken (lockHeads c) w w₁ 0 i (Moved (lockTable c) (lockHeads c) w w₁ 0 (suc r) i))
+  module _ {w₁ : List ℕ} {q i : ℕ}
+      (k : Taken (lockHeads c) w w₁ 0 i (InsertedSorted (lockTable c) (lockHeads c) w w₁ (suc r) 0 L-LOW q true i))
       (room : locksUsed (decodeAt c w) < c .locks) where
-    pub lock-moved : Moved (lockTable c) (lockHeads c) w w₁ 0 (suc r) i
-    lock-moved = let z : i ≡ 0 → ⊥ = λ e. free-lock W room (sym (k .head) ∙ e) in k .done (omega arith)
+    lock-inserted : InsertedSorted (lockTable c) (lockHeads c) w w₁ (suc r) 0 L-LOW q true i
+    lock-inserted = let z : i ≡ 0 → ⊥ = λ e. free-lock W room (sym (k .head) ∙ e) in k .done (omega arith)
 
     pub lock-row : IsRow (c .locks) i
     unfolding lockTable
-    lock-row = lock-moved .row
+    lock-row = lock-inserted .row
 
-    pub lock-moved-fits : Fits c w₁
+    pub lock-inserted-fits : Fits c w₁
     unfolding lockTable
-    lock-moved-fits = locks-fit (W .fits) (only-elsewhere (omega arith) (lock-moved .changed .elsewhere))
+    lock-inserted-fits = locks-fit (W .fits) (only-elsewhere (omega arith) (lock-inserted .changed .elsewhere))
 
-    -- and once filled it is the first of record r's locks
+    -- and once filled it stands where its low point belongs
     module _ (x : Lock) where
-      pushed : Filled (lockTable c) (lockHeads c) w (lockStored c w₁ i r x) 0 (suc r)
-          (tail (rowsOf (lockTable c) (lockHeads c) w 0)) (i ∷ rowsOf (lockTable c) (lockHeads c) w (suc r)) i
-      pushed = lock-filled c lock-ready (filled-start lock-ready i (lock-moved .changed)) lock-row r x
+      inserted : Filled (lockTable c) (lockHeads c) w (lockStored c w₁ i r x) (suc r) 0
+          (insertAfter (standsBefore true (lockTable c) w L-LOW q) i (rowsOf (lockTable c) (lockHeads c) w (suc r)))
+          (tail (rowsOf (lockTable c) (lockHeads c) w 0)) i
+      inserted = lock-filled c lock-ready-back (filled-start lock-ready-back i (lock-inserted .changed)) lock-row r x
 
-      pushed-on : 1 ≤ occ i (rowsOf (lockTable c) (lockHeads c) w 0)
-      pushed-on = rw (lock-moved .taken) (occ-here i (tail (rowsOf (lockTable c) (lockHeads c) w 0)))
+      inserted-here : x .mode < MODES → x .low ≡ q → locksOf c (lockStored c w₁ i r x) r ≡ putLock x (locksOf c w r)
+      unfolding locksOf lockRows lockAt lockTable standsBefore precedes
+      inserted-here m e =
+          let rows = rowsOf (lockTable c) (lockHeads c) w (suc r) in
+          sorted-entries (lockAt c (lockStored c w₁ i r x)) (lockAt c w) (λ y. ltb (y .low) q) lock-ready-back
+          (lock-inserted .taken) inserted (λ y q n. lock-rest c inserted y q n .0)
+          ∙ ap (λ y. insertAfter (λ z. ltb (z .low) q) y (map (lockAt c w) rows))
+          (lock-stored-at lock-inserted-fits lock-row r x m)
+          ∙ lock-after q x e (map (lockAt c w) rows)
 
-      pushed-here : x .mode < MODES → locksOf c (lockStored c w₁ i r x) r ≡ x ∷ locksOf c w r
-      unfolding locksOf lockRows lockTable
-      pushed-here m =
-          let w₂ = lockStored c w₁ i r x in
-          pushed-entries (lockAt c w₂) (lockAt c w) lock-ready (lock-moved .taken) pushed
-          (λ y q n. lock-rest c pushed y q n .0)
-          ∙ ap (λ y. y ∷ map (lockAt c w) (rowsOf (lockTable c) (lockHeads c) w (suc r)))
-          (lock-stored-at lock-moved-fits lock-row r x m)
-
-      pushed-others : (j : ℕ) → j < c .records → (j ≡ r → ⊥) → locksOf c (lockStored c w₁ i r x) j ≡ locksOf c w j
-      unfolding locksOf lockRows lockHeads lockTable
-      pushed-others j q n =
-          let w₂ = lockStored c w₁ i r x in
-          other-entries pushed (lockAt c w₂) (lockAt c w) (W .locks-parted) 0 (omega arith) pushed-on
-          (λ y q n. lock-rest c pushed y q n .0) (suc j) (omega arith) (λ e. omega arith) (λ e. n (omega arith))
-          (λ e. omega arith)
-
-      pushed-named : (j : ℕ) → j < c .records
-          → allOf (namesRecord c (lockStored c w₁ i r x) j) (lockRows c (lockStored c w₁ i r x) j) ≡ true
+      inserted-others : {A : Type 0} (f g : ℕ → A) → ((y : ℕ) → IsRow (c .locks) y → (y ≡ i → ⊥) → f y ≡ g y) → (j : ℕ)
+          → j < c .records → (j ≡ r → ⊥) → map f (lockRows c (lockStored c w₁ i r x) j) ≡ map g (lockRows c w j)
       unfolding lockRows lockHeads lockTable
-      pushed-named j q =
+      inserted-others f g e j q n =
+          taken-others f g lock-ready-back (lock-inserted .taken) inserted e (suc j) (omega arith)
+          (λ z. n (omega arith)) (λ z. omega arith)
+
+      inserted-named : (j : ℕ) → j < c .records
+          → allOf (namesRecord c (lockStored c w₁ i r x) j) (lockRows c (lockStored c w₁ i r x) j) ≡ true
+      unfolding lockRows lockTable
+      inserted-named j p =
           let w₂ = lockStored c w₁ i r x in
-          let same : (y : ℕ) → IsRow (c .locks) y → (y ≡ i → ⊥) → namesRecord c w₂ j y ≡ namesRecord c w j y =
-          λ y q n. lock-rest c pushed y q n .1 j in
+          let test = standsBefore true (lockTable c) w L-LOW q in
+          let rows = rowsOf (lockTable c) (lockHeads c) w (suc r) in
           elim (ℕ-discrete j r) [
-            | yes z ↦ all-pushed (namesRecord c w₂ j) (namesRecord c w j) (lockRows c w j) (lockRows c w₂ j)
-                (namesRecord c w₂ j i)
-                (rw z (pushed-entries (namesRecord c w₂ r) (namesRecord c w r) lock-ready (lock-moved .taken) pushed
-                (λ y q n. lock-rest c pushed y q n .1 r)))
-                (eq-eqb (field (lockTable c) w₂ i L-RECORD) j (lock-stored-record lock-moved-fits lock-row r x ∙ sym z))
-                (W .named j q)
+            | yes z ↦ rw z (all-inserted (namesRecord c w₂ r) (namesRecord c w r) (takeWhile test rows)
+                (dropWhile test rows) (lockRows c w₂ r) (namesRecord c w₂ r i)
+                (inserted-entries (namesRecord c w₂ r) (namesRecord c w r) (takeWhile test rows) (dropWhile test rows)
+                lock-ready-back (lock-inserted .taken) (take-drop test rows) inserted
+                (λ y q n. lock-rest c inserted y q n .1 r))
+                (eq-eqb (field (lockTable c) w₂ i L-RECORD) r (lock-stored-record lock-inserted-fits lock-row r x))
+                (ap (allOf (namesRecord c w r)) (sym (take-drop test rows)) ∙ W .named r l))
             | no z ↦ all-same (namesRecord c w₂ j) (namesRecord c w j) (lockRows c w j) (lockRows c w₂ j)
-                (other-entries pushed (namesRecord c w₂ j) (namesRecord c w j) (W .locks-parted) 0 (omega arith)
-                pushed-on same (suc j) (omega arith) (λ e. omega arith) (λ e. z (omega arith)) (λ e. omega arith))
-                (W .named j q)
+                (inserted-others (namesRecord c w₂ j) (namesRecord c w j)
+                (λ y q n. lock-rest c inserted y q n .1 j) j p z)
+                (W .named j p)
           ]
 
-      pub add-lock-law : {w₂ : List ℕ} → x .mode < MODES → w₂ ≡ lockStored c w₁ i r x
-          → Becomes c w₂
+      pub add-lock-law : {w₂ : List ℕ} → x .mode < MODES → x .low ≡ q → w₂ ≡ lockStored c w₁ i r x
+          → Beside c w w₂
           (withRec (decodeAt c w) r (withLocks (recAt (decodeAt c w) r) (addLock x (recAt (decodeAt c w) r .locks))))
-      unfolding addLock
-      add-lock-law m e =
-          rw e (locks-become W (pushed .only) r l (pushed .parted) pushed-named pushed-others
-          (pushed-here m ∙ ap (λ y. x ∷ y) (sym (locks-at c w r l))))
-
-      pub add-lock-kept : {w₂ : List ℕ} → w₂ ≡ lockStored c w₁ i r x → AccessesKept c w w₂
-      add-lock-kept e = rw e (accesses-kept (apart-kept (locks-accesses c) (pushed .only)))
+      unfolding locksOf addLock
+      add-lock-law m z e = rw e (record {
+        becomes =
+            locks-become W (inserted .only) r l (inserted .parted) inserted-named
+            (inserted-others (lockAt c (lockStored c w₁ i r x)) (lockAt c w) (λ y q n. lock-rest c inserted y q n .0))
+            (inserted-here m z ∙ ap (putLock x) (sym (locks-at c w r l)));
+        accesses = accesses-kept (apart-kept (locks-accesses c) (inserted .only));
+      })
 
   -- rows that pass a test were sent to the free chain
   module _ {w′ : List ℕ} (test : ℕ → Bool) (unlinked : Changed (lockTable c) (lockHeads c) w w′ (suc r) 0

@@ -50,7 +50,7 @@ module _ {c : Counts} {p : Lock → Bool} {w₀ : List ℕ} {r : ℕ} {w : List 
     lock-turns-ready e = let q = turn-ready (i .turns) d e in (lock-turns-fits, i .within, q .0, q .1)
 
     -- the row's entry is as before the loop
-    lock-turns-entry : b ≡ true → lockAt c w cur ≡ lockAt c w₀ cur
+    pub lock-turns-entry : b ≡ true → lockAt c w cur ≡ lockAt c w₀ cur
     lock-turns-entry e = lock-kept (i .well .fits) (i .turns .elsewhere) cur (more-out (c .locks) left cur d e .row) .0
 
     pub lock-turns-again : {w′ : List ℕ} {nxt place′ : ℕ} {hit : Bool} → b ≡ true → nxt ≡ link (lockTable c) w cur

@@ -2,20 +2,17 @@
 -- OneTable, Stored, Rooms and Lists.
 use Prim.Native.Nat.{ℕ, suc, _≤_, _<_}
 use mathlib.Core.Path.{_≡_, refl, sym, ap, _∙_}
-use mathlib.Core.Bool.{Bool}
-use mathlib.Core.List.{List, _∷_, _++_, map, tail}
+use mathlib.Core.Bool.{Bool, false}
+use mathlib.Core.List.{List, map, tail}
 use native.Mathlib.Omega.{arith}
 use lib.Dec.{ltb}
-use Rattle.chains.specs.Lists.{occ, dropIf, pushIf, takeWhile, dropWhile}
+use Rattle.chains.specs.Lists.{occ, dropIf, pushIf, insertAfter}
 use Rattle.chains.specs.Walk.{IsRow}
-use Rattle.chains.specs.Table.{field, rowsOf, above}
+use Rattle.chains.specs.Table.{field, rowsOf, precedes, standsBefore}
 use Rattle.chains.specs.Change.{Ready, Changed, InsertedSorted, Taken}
-use Rattle.chains.proofs.Occurs.{occ-here}
-use Rattle.chains.proofs.Places.{take-drop}
 use Rattle.chains.proofs.Words.{on-chain}
 use Rattle.chains.proofs.Frames.{only-elsewhere, field-kept, apart-kept}
-use Rattle.chains.proofs.Entries.{Filled, filled-start, inserted-entries, other-entries, entries-kept, entries-drop}
-use Rattle.chains.proofs.Entries.{entries-take, entries-beyond}
+use Rattle.chains.proofs.Entries.{Filled, filled-start, sorted-entries, taken-others, entries-kept, entries-drop}
 use Rattle.meaning.specs.Store.{withRec, recAt, versionsUsed}
 use Rattle.meaning.specs.Ending.{insert}
 use Rattle.types.specs.declared.Version.{Version}
@@ -55,9 +52,9 @@ module _ {c : Counts} {w : List ℕ} (W : Well c w) {r : ℕ} (l : r < c .record
   -- where there is room, a row was taken
   module _ {w₁ : List ℕ} {q i : ℕ}
       (k : Taken (versionHeads c) w w₁ 0 i
-      (InsertedSorted (versionTable c) (versionHeads c) w w₁ (suc r) 0 V-POINT q i))
+      (InsertedSorted (versionTable c) (versionHeads c) w w₁ (suc r) 0 V-POINT q false i))
       (room : versionsUsed (decodeAt c w) < c .versions) where
-    version-inserted : InsertedSorted (versionTable c) (versionHeads c) w w₁ (suc r) 0 V-POINT q i
+    version-inserted : InsertedSorted (versionTable c) (versionHeads c) w w₁ (suc r) 0 V-POINT q false i
     version-inserted = let z : i ≡ 0 → ⊥ = λ e. free-version W room (sym (k .head) ∙ e) in k .done (omega arith)
 
     pub version-row : IsRow (c .versions) i
@@ -71,45 +68,31 @@ module _ {c : Counts} {w : List ℕ} (W : Well c w) {r : ℕ} (l : r < c .record
     -- and once filled it stands where its point belongs
     module _ (point value : ℕ) where
       inserted : Filled (versionTable c) (versionHeads c) w (versionStored c w₁ i point value) (suc r) 0
-          (takeWhile (above (versionTable c) w V-POINT q) (rowsOf (versionTable c) (versionHeads c) w (suc r)) ++ i
-          ∷ dropWhile (above (versionTable c) w V-POINT q) (rowsOf (versionTable c) (versionHeads c) w (suc r)))
+          (insertAfter (standsBefore false (versionTable c) w V-POINT q) i
+          (rowsOf (versionTable c) (versionHeads c) w (suc r)))
           (tail (rowsOf (versionTable c) (versionHeads c) w 0)) i
       inserted =
           version-filled c version-ready (filled-start version-ready i (version-inserted .changed)) version-row point
           value
 
-      inserted-rows : versionsOf c (versionStored c w₁ i point value) r
-          ≡ map (versionAt c w) (takeWhile (above (versionTable c) w V-POINT q) (versionRows c w r))
-          ++ versionOf point value
-          ∷ map (versionAt c w) (dropWhile (above (versionTable c) w V-POINT q) (versionRows c w r))
-      unfolding versionsOf versionRows versionTable
-      inserted-rows =
-          let test = above (versionTable c) w V-POINT q in
-          let rows = rowsOf (versionTable c) (versionHeads c) w (suc r) in
-          inserted-entries (versionAt c (versionStored c w₁ i point value)) (versionAt c w) (takeWhile test rows)
-          (dropWhile test rows) version-ready (version-inserted .taken) (take-drop test rows) inserted
-          (λ y q n. version-rest c inserted y q n)
-          ∙ ap (λ y. map (versionAt c w) (takeWhile test rows) ++ y ∷ map (versionAt c w) (dropWhile test rows))
-          (version-stored-at version-inserted-fits version-row point value)
-
       inserted-here : point ≡ suc q
           → versionsOf c (versionStored c w₁ i point value) r ≡ insert (versionOf point value) (versionsOf c w r)
-      unfolding versionsOf versionAt above
-      inserted-here e = inserted-rows
-          ∙ rw (
-            entries-take (versionAt c w) (λ x. ltb q (x .point)) (versionRows c w r),
-            entries-beyond (versionAt c w) (λ x. ltb q (x .point)) (versionRows c w r),
-          ) (insert-after q (versionOf point value) e (map (versionAt c w) (versionRows c w r)))
+      unfolding versionsOf versionRows versionAt versionTable standsBefore precedes
+      inserted-here e =
+          let rows = rowsOf (versionTable c) (versionHeads c) w (suc r) in
+          sorted-entries (versionAt c (versionStored c w₁ i point value)) (versionAt c w) (λ x. ltb q (x .point))
+          version-ready (version-inserted .taken) inserted (λ y q n. version-rest c inserted y q n)
+          ∙ ap (λ y. insertAfter (λ x. ltb q (x .point)) y (map (versionAt c w) rows))
+          (version-stored-at version-inserted-fits version-row point value)
+          ∙ insert-after q (versionOf point value) e (map (versionAt c w) rows)
 
       inserted-others : (j : ℕ) → j < c .records → (j ≡ r → ⊥)
           → versionsOf c (versionStored c w₁ i point value) j ≡ versionsOf c w j
       unfolding versionsOf versionRows versionHeads versionTable
       inserted-others j q n =
-          other-entries inserted (versionAt c (versionStored c w₁ i point value)) (versionAt c w) (W .versions-parted) 0
-          (omega arith)
-          (rw (version-inserted .taken) (occ-here i (tail (rowsOf (versionTable c) (versionHeads c) w 0))))
-          (λ y q n. version-rest c inserted y q n) (suc j) (omega arith) (λ e. n (omega arith)) (λ e. omega arith)
-          (λ e. omega arith)
+          taken-others (versionAt c (versionStored c w₁ i point value)) (versionAt c w) version-ready
+          (version-inserted .taken) inserted (λ y q n. version-rest c inserted y q n) (suc j) (omega arith)
+          (λ e. n (omega arith)) (λ e. omega arith)
 
       pub add-version-law : {w₂ : List ℕ} → point ≡ suc q → w₂ ≡ versionStored c w₁ i point value
           → Becomes c w₂ (withRec (decodeAt c w) r

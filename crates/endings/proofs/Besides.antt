@@ -2,38 +2,24 @@
 -- Leaving.
 use Prim.Native.Nat.{ℕ, _+_, _≤_, _<_}
 use native.Mathlib.Omega.{arith}
-use mathlib.Core.Path.{_≡_, refl, ap, _∙_}
+use mathlib.Core.Path.{_≡_, refl}
 use mathlib.Core.Bool.{Bool, true, false}
 use mathlib.Core.List.{List, [], _∷_, List·Memᴰ·head}
-use lib.ListN.{length, set}
 use Rattle.types.specs.Limits.{READ, WRITE}
 use Rattle.types.specs.declared.Access.{Access}
+use Rattle.types.specs.declared.Lock.{Lock}
 use Rattle.types.specs.declared.Counts.{Counts}
-use Rattle.meaning.specs.Store.{Rec, Store, recAt, withRec, withRecords, withLocks, hasRead, locksUsed}
+use Rattle.meaning.specs.Store.{Store, recAt, hasRead, locksUsed}
 use Rattle.meaning.specs.Points.{leaveSettled}
-use Rattle.meaning.proofs.Stores.{rec-same}
-use Rattle.meaning.proofs.StoresMore.{locks-set}
 use Rattle.tables.specs.Layout.{MODES}
 use Rattle.tables.specs.Decode.{accessAt, decodeAt}
 use Rattle.tables.specs.Words.{Well}
-use Rattle.changes.specs.Becomes.{AccessesKept, Beside, onLocks}
-use Rattle.changes.proofs.OneWord.{rec-twice}
+use Rattle.changes.specs.Becomes.{Beside, onLocks}
+use Rattle.changes.proofs.Besides.{beside-none, then-locks, locks-after}
 use Rattle.calls.proofs.Acting.{records-counted}
 use Rattle.endings.specs.Steps.{changed, leftRec, mark, LeaveNeed}
 use Rattle.endings.proofs.Folds.{rec-again}
 use Rattle.endings.proofs.Leaving.{leave-length}
-
-module _ {c : Counts} where
-  pub beside-none : {w : List ℕ} → Well c w → Beside c w w (decodeAt c w)
-  beside-none W =
-      record {
-        becomes = record { well = W; means = refl };
-        accesses = record { entry = λ i q. refl; next = λ i q. refl };
-      }
-
-  pub kept-trans : {u v w : List ℕ} → AccessesKept c u v → AccessesKept c v w → AccessesKept c u w
-  kept-trans a b =
-      record { entry = λ i q. b .entry i q ∙ a .entry i q; next = λ i q. b .next i q ∙ a .next i q }
 
 module _ (c : Counts) (w : List ℕ) where
   pub lock-rows : decodeAt c w .lockRows ≡ c .locks
@@ -43,10 +29,6 @@ module _ (c : Counts) (w : List ℕ) where
   pub version-rows : decodeAt c w .versionRows ≡ c .versions
   unfolding decodeAt
   version-rows = refl
-
-pub rec-changed : (s : Store) (r : ℕ) (x : Rec) → r < length (s .records) → recAt (withRec s r x) r ≡ x
-unfolding withRecords
-rec-changed s r x h = rec-same (s .records) r x h
 
 pub room-one : {b : Bool} {n m : ℕ} → b ≡ true → n + mark b ≤ m → n < m
 room-one {b} {n} {m} e h = let k : n + 1 ≤ m = rw e at h in omega arith
@@ -63,42 +45,22 @@ module _ (c : Counts) (w w₁ : List ℕ) (a : Access) (r t : ℕ) (e : r ≡ a 
   abbrev s : Store
   s = decodeAt c w
 
-  abbrev x : Rec
-  x = withLocks (recAt s r) (leaveSettled (hasRead a) READ (a .from) t (recAt s r .locks))
-
-  inside : r < length (s .records)
-  inside = omega (arith, records-counted c w)
+  abbrev leaveRead : List Lock → List Lock
+  leaveRead = leaveSettled (hasRead a) READ (a .from) t
 
   pub left-room : locksUsed s + (mark (hasRead a) + mark (a .written)) ≤ c .locks
       → locksUsed (decodeAt c w₁) + mark (a .written) ≤ c .locks
   left-room h =
       omega (
         arith,
-        ap locksUsed (B .becomes .means),
-        locks-set s r x inside,
+        locks-after r leaveRead here B,
         leave-length (hasRead a) READ (a .from) t (recAt s r .locks),
       )
 
-  then-write : onLocks (withRec s r x) r (leaveSettled (a .written) WRITE t t) ≡ changed (leftRec t) a s
-  unfolding changed leftRec
-  then-write =
-      rw (rec-changed s r x inside, rec-twice s r x (withLocks x (leaveSettled (a .written) WRITE t t (x .locks))), ← e)
-      refl
-
   pub left-both : (w₂ : List ℕ) → Beside c w₁ w₂ (onLocks (decodeAt c w₁) r (leaveSettled (a .written) WRITE t t))
       → Beside c w w₂ (changed (leftRec t) a s)
-  left-both w₂ D =
-      record {
-        becomes =
-            record {
-              well = D .becomes .well;
-              means =
-                  D .becomes .means
-                  ∙ ap (λ (y : Store). onLocks y r (leaveSettled (a .written) WRITE t t)) (B .becomes .means)
-                  ∙ then-write;
-            };
-        accesses = kept-trans (B .accesses) (D .accesses);
-      }
+  unfolding changed leftRec
+  left-both w₂ D = rw (← e) (then-locks r leaveRead here B (leaveSettled (a .written) WRITE t t) D)
 
 -- what access row i leaves: a is its access, r its record
 module _ (c : Counts) (w : List ℕ) (i : ℕ) (a : Access) (r t : ℕ) (W : Well c w)

@@ -1,10 +1,10 @@
 -- Settle's loop over the accesses of a committed edit: it ends with the settled locks of every record accessed, and
--- there is a free row at each step, since the edit's own locks have gone before. Rests on Folds and on Laws of
--- `meaning`.
-use Prim.Native.Nat.{ℕ, suc, _+_, _<_}
+-- there is a free row at each step, since the edit's own locks have gone before. Rests on Folds, Giving, and on Joining
+-- of `meaning`.
+use Prim.Native.Nat.{ℕ, suc, _+_, _≤_, _<_}
 use native.Mathlib.Omega.{arith}
 use mathlib.Core.Path.{_≡_, refl, sym, ap, _∙_}
-use mathlib.Core.Bool.{Bool, true, false}
+use mathlib.Core.Bool.{Bool, true, false, cond}
 use mathlib.Core.List.{List, [], _∷_, List·Memᴰ·head, List·Memᴰ·eq-of-singleton}
 use lib.Dec.{eqb}
 use lib.ListN.{length}
@@ -13,19 +13,19 @@ use Rattle.meaning.specs.Lists.{total, mapFrom}
 use Rattle.types.specs.Limits.{READ, WRITE, COMMITTED}
 use Rattle.types.specs.declared.Access.{Access}
 use Rattle.types.specs.declared.Lock.{Lock}
-use Rattle.meaning.specs.Store.{Rec, Edit, Store, editAt, recAt, withEdit, withRecords}
+use Rattle.meaning.specs.Store.{Rec, Edit, Store, freshRec, recOf, editAt, recAt, withEdit, withRecords, withLocks}
 use Rattle.meaning.specs.Store.{noAccess, accessOf, hasRead, locksUsed}
-use Rattle.meaning.specs.Points.{leaveSettled}
-use Rattle.meaning.specs.Ending.{freed, settledLocks, settledRec, settled}
+use Rattle.meaning.specs.Points.{putLock, joinRead, leaveSettled}
+use Rattle.meaning.specs.Ending.{freed, settledLocksBy, settledRec, settled, settledBy}
 use Rattle.meaning.specs.Sound.{namesOnce, soundStore}
 use Rattle.meaning.specs.SoundFacts.{SoundStore}
-use Rattle.meaning.proofs.Lists.{length-mapFrom}
-use Rattle.meaning.proofs.Stores.{used-in}
+use Rattle.meaning.proofs.Lists.{length-mapFrom, total-mapFrom}
 use Rattle.meaning.proofs.SoundParts.{sound-out}
-use Rattle.meaning.proofs.Laws.{settling-needs-no-row}
+use Rattle.meaning.proofs.Joining.{length-put, length-join}
 use Rattle.meaning.proofs.StoresMore.{locks-set}
 use Rattle.endings.specs.Steps.{Existing, changed, along, leftRec, freedRec, freedAll, mark, rowsLeft, LeaveNeed}
 use Rattle.endings.proofs.Folds.{along-all, existing-rest}
+use Rattle.endings.proofs.Giving.{rows-given}
 
 idle : (t r : ℕ) (x : Rec) → leftRec t (noAccess r) x ≡ x
 unfolding leftRec leaveSettled
@@ -46,11 +46,11 @@ map-ext f g h i (x ∷ rs) = rw (h i x, map-ext f g h (suc i) rs)
 -- leaves
 module _ (k : ℕ) (e : Edit) (r : ℕ) (x : Rec) where
   rec-aborted : (e .state ≡ COMMITTED → ⊥) → freedRec k x ≡ settledRec k e r x
-  unfolding freedRec settledLocks
+  unfolding freedRec settledLocksBy
   rec-aborted n = rw (ne-eqb (e .state) COMMITTED n) refl
 
   rec-committed : e .state ≡ COMMITTED → leftRec (e .point) (accessOf e r) (freedRec k x) ≡ settledRec k e r x
-  unfolding freedRec settledLocks leftRec
+  unfolding freedRec settledLocksBy leftRec
   rec-committed st = rw (eq-eqb (e .state) COMMITTED st) refl
 
 module _ (s : Store) (k : ℕ) where
@@ -79,42 +79,72 @@ module _ (s : Store) (k : ℕ) where
       (λ r x. rec-committed k e r x st) 0 (s .records))
 
   pub settled-aborted : (e .state ≡ COMMITTED → ⊥) → settled s k ≡ withEdit (freedAll k s) k (freed e)
-  unfolding settled
+  unfolding settledBy
   settled-aborted n = ap (λ (x : Store). withEdit x k (freed e)) (sym (aborted-records n))
 
   pub settled-committed : SoundStore s → e .state ≡ COMMITTED
       → settled s k ≡ withEdit (along (leftRec (e .point)) (e .accesses) (freedAll k s)) k (freed e)
-  unfolding settled
+  unfolding settledBy
   settled-committed good st = ap (λ (x : Store). withEdit x k (freed e)) (sym (committed-records good st))
 
+-- a read may be joined with others, so that fewer rows are left
+grown-length : (joins : Bool) (low high : ℕ) (row : Lock) (ls : List Lock)
+    → length (cond joins (joinRead low high ls) (putLock row ls)) ≤ 1 + length ls
+grown-length true low high row ls = omega (arith, length-join low high ls)
+grown-length false low high row ls = omega (arith, length-put row ls)
+
 pub leave-length : (b : Bool) (mode low high : ℕ) (ls : List Lock)
-    → length (leaveSettled b mode low high ls) ≡ mark b + length ls
+    → length (leaveSettled b mode low high ls) ≤ mark b + length ls
 unfolding leaveSettled
-leave-length true mode low high ls = omega arith
+leave-length true mode low high ls = grown-length (eqb mode READ) low high _ ls
 leave-length false mode low high ls = omega arith
 
-module _ (a : Access) (acc : List Access) (s : Store) (here : a .rec < length (s .records)) where
-  pub left-used : (t : ℕ) → locksUsed (changed (leftRec t) a s) ≡ locksUsed s + rowsLeft a
-  unfolding changed leftRec
-  left-used t =
-      let x = recAt s (a .rec) in
-      let ls = leaveSettled (hasRead a) READ (a .from) t (x .locks) in
-      omega (
-        arith,
-        locks-set s (a .rec) (leftRec t a x) here,
-        leave-length (a .written) WRITE t t ls,
-        leave-length (hasRead a) READ (a .from) t (x .locks),
-      )
-
-pub along-used : (t : ℕ) (acc : List Access) (s : Store) → Existing (s .records) acc
-    → locksUsed (along (leftRec t) acc s) ≡ locksUsed s + total rowsLeft acc
-unfolding along
-along-used t [] s f = omega arith
-along-used t (a ∷ acc) s f =
+left-used : (a : Access) (s : Store) (t : ℕ) → a .rec < length (s .records)
+    → locksUsed (changed (leftRec t) a s) ≤ locksUsed s + rowsLeft a
+unfolding changed leftRec
+left-used a s t here =
+    let x = recAt s (a .rec) in
+    let ls = leaveSettled (hasRead a) READ (a .from) t (x .locks) in
     omega (
       arith,
-      along-used t acc (changed (leftRec t) a s) (existing-rest (leftRec t) (idle t) a acc s f),
-      left-used a acc s (f a (List·Memᴰ·head refl)) t,
+      locks-set s (a .rec) (leftRec t a x) here,
+      leave-length (a .written) WRITE t t ls,
+      leave-length (hasRead a) READ (a .from) t (x .locks),
+    )
+
+-- the rows that accesses leave at most, as blank ones put beside the locks to count them
+abbrev oneMore : Bool → List Lock → List Lock
+oneMore b ls = cond b (record { low = 0; high = 0; mode = 0; owner = 0 } ∷ ls) ls
+
+abbrev countedRec : Access → Rec → Rec
+countedRec a x = withLocks x (oneMore (a .written) (oneMore (hasRead a) (x .locks)))
+
+counted-idle : (r : ℕ) (x : Rec) → countedRec (noAccess r) x ≡ x
+counted-idle r x = refl
+
+more-length : (b : Bool) (ls : List Lock) → length (oneMore b ls) ≡ mark b + length ls
+more-length true ls = omega arith
+more-length false ls = omega arith
+
+counted-length : (a : Access) (x : Rec) → length (countedRec a x .locks) ≡ rowsLeft a + length (x .locks)
+counted-length a x =
+    omega (
+      arith,
+      more-length (a .written) (oneMore (hasRead a) (x .locks)),
+      more-length (hasRead a) (x .locks),
+    )
+
+counted-used : (acc : List Access) (s : Store) → Existing (s .records) acc
+    → locksUsed (along countedRec acc s) ≡ locksUsed s + total rowsLeft acc
+unfolding along changed
+counted-used [] s f = omega arith
+counted-used (a ∷ acc) s f =
+    let x = recAt s (a .rec) in
+    omega (
+      arith,
+      counted-used acc (changed countedRec a s) (existing-rest countedRec counted-idle a acc s f),
+      locks-set s (a .rec) (countedRec a x) (f a (List·Memᴰ·head refl)),
+      counted-length a x,
     )
 
 module _ (a : Access) (acc : List Access) (s : Store) (n : LeaveNeed (a ∷ acc) s) where
@@ -130,32 +160,42 @@ module _ (a : Access) (acc : List Access) (s : Store) (n : LeaveNeed (a ∷ acc)
   leave-step t =
       record {
         existing = existing-rest (leftRec t) (idle t) a acc s (n .existing);
-        room = omega (arith, n .room, left-used a acc s leave-record t);
+        room = omega (arith, n .room, left-used a s t leave-record);
       }
 
--- Settling needs no row, so there is one for each that is left
+-- The edit's own locks are gone, and there is a row for each that is left
+module _ (s : Store) (k : ℕ) (good : SoundStore s) (st : editAt s k .state ≡ COMMITTED) where
+  abbrev acc : List Access
+  acc = editAt s k .accesses
+
+  counted-few : locksUsed (along countedRec acc (freedAll k s)) ≤ locksUsed s
+  unfolding freedAll freedRec withRecords namesOnce accessOf locksUsed recOf
+  counted-few =
+      rw (
+        along-all countedRec counted-idle acc (freedAll k s) (freed-existing s k good) (good .edits k .once),
+        map-map (λ r x. countedRec (accessOf (editAt s k) r) x) (λ r x. freedRec k x) 0 (s .records),
+      )
+      (total-mapFrom (λ x. length (x .locks)) (λ r x. countedRec (accessOf (editAt s k) r) (freedRec k x)) 0
+      (s .records) freshRec
+      (λ r h. let z : 0 + r ≡ r = omega arith in
+      rw z (omega (
+        arith,
+        counted-length (accessOf (editAt s k) r) (freedRec k (recAt s r)),
+        rows-given s k good st r,
+      ))))
+
 pub leave-start : (s : Store) (k : ℕ) → soundStore s ≡ true → editAt s k .state ≡ COMMITTED
     → LeaveNeed (editAt s k .accesses) (freedAll k s)
-unfolding settled withEdit withRecords locksUsed freedAll
+unfolding withRecords freedAll
 leave-start s k h st =
     let good = sound-out s h in
-    let e = editAt s k in
+    let existing = freed-existing s k good in
     record {
-      existing = freed-existing s k good;
+      existing = existing;
       room = omega (
         arith,
-        along-used (e .point) (e .accesses) (freedAll k s) (freed-existing s k good),
-        ap locksUsed (committed-records s k good st),
-        settling-needs-no-row s k h (used-in (s .edits) k (λ z. omega (arith, st, z))) .1,
+        counted-used (editAt s k .accesses) (freedAll k s) existing,
+        counted-few s k good st,
         good .locks-fit,
-        settled-used s k,
-        freed-rows s k,
       );
     }
-  where
-    settled-used : (s : Store) (k : ℕ)
-        → locksUsed (settled s k) ≡ locksUsed (withRecords s (mapFrom 0 (settledRec k (editAt s k)) (s .records)))
-    settled-used s k = refl
-
-    freed-rows : (s : Store) (k : ℕ) → freedAll k s .lockRows ≡ s .lockRows
-    freed-rows s k = refl

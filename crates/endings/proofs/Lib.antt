@@ -2,6 +2,7 @@
 -- `changes`, `lookups`, `index` and `calls`.
 pub mod Folds
 pub mod Saving
+pub mod Giving
 pub mod Leaving
 pub mod EndExits
 pub mod AccessLoop

@@ -22,10 +22,11 @@ use Rattle.types.specs.declared.Counts.{Counts}
 use Rattle.tables.specs.Decode.{accessAt, decodeAt}
 use Rattle.tables.specs.Words.{Well}
 use Rattle.changes.specs.Becomes.{Beside, onVersions, versionOf}
+use Rattle.changes.proofs.Besides.{beside-none}
 use Rattle.calls.proofs.Acting.{records-counted}
 use Rattle.endings.specs.Steps.{changed, along, savedRec, wroteOf, SaveNeed}
 use Rattle.endings.proofs.Folds.{rec-again, along-all, existing-rest}
-use Rattle.endings.proofs.Besides.{version-rows, beside-none}
+use Rattle.endings.proofs.Besides.{version-rows}
 
 idle : (t r : ℕ) (x : Rec) → savedRec t (noAccess r) x ≡ x
 unfolding savedRec

@@ -1,10 +1,33 @@
-// What one lock is to a point, to a slot and to another lock, by the definitions of `meaning`. Rests on the crates
-// `types` and `meaning`; it is a crate of its own so that its wrong programs are tried quickly.
+// What one lock is to a point, to a slot and to a span of points, by the definitions of `meaning`, and the smaller and
+// the larger of two ends. Rests on the crates `types` and `meaning`; it is a crate of its own so that its wrong
+// programs are tried quickly.
 ghost use mathlib.Core.Path.{_≡_};
-ghost use Rattle.meaning.specs.Points.{covers, conflicts, blocks};
-ghost use Rattle.meaning.specs.Sound.{agree, startsRead};
+ghost use Prim.Native.Nat.{suc, min, max};
+ghost use lib.Dec.{leb};
+ghost use Rattle.meaning.specs.Points.{covers, conflicts, blocks, isSettledRead, touches};
+ghost use Rattle.meaning.specs.Sound.{startsRead};
 use types::Lock;
+use types::READ;
+use types::SETTLED;
 use types::WRITE;
+
+pub fn smaller(a: u64, b: u64) -> u64
+    ensures { λ q. ⌜ q ≡ min a b ⌝ }
+{
+    if a < b {
+        return a;
+    }
+    b
+}
+
+pub fn larger(a: u64, b: u64) -> u64
+    ensures { λ q. ⌜ q ≡ max a b ⌝ }
+{
+    if a < b {
+        return b;
+    }
+    a
+}
 
 // The point lies in the lock.
 pub fn covers(p: u64, l: Lock) -> bool
@@ -36,22 +59,6 @@ pub fn blocks(mode: u64, k: u64, l: Lock) -> bool
     conflicts(mode, l)
 }
 
-// No write lock shares a point with a lock of another owner.
-pub fn agree(l: Lock, m: Lock) -> bool
-    ensures { λ q. ⌜ q ≡ agree l m ⌝ }
-{
-    if m.owner == l.owner {
-        return true;
-    }
-    if !conflicts(l.mode, m) {
-        return true;
-    }
-    if l.high < m.low {
-        return true;
-    }
-    m.high < l.low
-}
-
 // A read lock of slot k that starts at from.
 pub fn starts_read(k: u64, from: u64, l: Lock) -> bool
     ensures { λ q. ⌜ q ≡ startsRead k from l ⌝ }
@@ -63,4 +70,37 @@ pub fn starts_read(k: u64, from: u64, l: Lock) -> bool
         return false;
     }
     l.low == from
+}
+
+// A settled read lock.
+pub fn is_settled_read(l: Lock) -> bool
+    ensures { λ q. ⌜ q ≡ isSettledRead l ⌝ }
+{
+    if l.owner != SETTLED {
+        return false;
+    }
+    l.mode == READ
+}
+
+// Whether no point lies between `end` and `start`: nothing is added, since either may be any word.
+fn adjoins(end: u64, start: u64) -> bool
+    ensures { λ q. ⌜ q ≡ leb start (suc end) ⌝ }
+{
+    if start <= end {
+        return true;
+    }
+    start - end <= 1
+}
+
+// A settled read lock that overlaps or adjoins low..high.
+pub fn touches(low: u64, high: u64, l: Lock) -> bool
+    ensures { λ q. ⌜ q ≡ touches low high l ⌝ }
+{
+    if !is_settled_read(l) {
+        return false;
+    }
+    if !adjoins(high, l.low) {
+        return false;
+    }
+    adjoins(l.high, low)
 }

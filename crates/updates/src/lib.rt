@@ -72,8 +72,8 @@ pub fn move_first(w: &mut [u64], t: Table, h: Heads, a: usize, b: usize) -> usiz
     r
 }
 
-// The first row of chain b comes to stand on chain a after the front of rows whose word o is above q. Replies the row,
-// or 0 where chain b is empty.
+// The first row of chain b comes to stand on chain a after the front of rows whose word o comes before q: lies below q
+// where the chain is `rising`, above q where it falls. Replies the row, or 0 where chain b is empty.
 pub fn insert_sorted(
     w: &mut [u64],
     t: Table,
@@ -82,17 +82,19 @@ pub fn insert_sorted(
     b: usize,
     o: usize,
     q: usize,
+    rising: bool,
 ) -> usize
     requires { ⌜ Ready t h (now w) a b × (o < t .stride) ⌝ }
     ensures { λ r. ⌜
-        Taken h (now (w .entry)) (now (w .exit)) b r (InsertedSorted t h (now (w .entry)) (now (w .exit)) a b o q r)
+        Taken h (now (w .entry)) (now (w .exit)) b r
+        (InsertedSorted t h (now (w .entry)) (now (w .exit)) a b o q rising r)
         ⌝ }
 {
     let r = head_of(w, h, b);
     if r == 0 {
         return 0;
     }
-    let p = find_place(w, t, o, q, head_of(w, h, a));
+    let p = find_place(w, t, o, q, rising, head_of(w, h, a));
     insert_after(w, t, h, a, b, p, r);
     r
 }

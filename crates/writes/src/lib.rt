@@ -2,6 +2,7 @@
 // `changes`. A caller proves that the words have these counts (`Fits`), so the functions have `requires`. Rests on the
 // crates `types`, `chains`, `updates` and `tables`, which alone names the layout.
 ghost use mathlib.Core.Path.{_≡_};
+ghost use mathlib.Core.Bool.{true, false};
 ghost use Prim.Native.Nat.{suc, _≤_, _<_};
 ghost use lib.ListN.{set};
 ghost use Rattle.chains.specs.Table.{place};
@@ -9,7 +10,7 @@ ghost use Rattle.chains.specs.Walk.{IsRow};
 ghost use Rattle.chains.specs.Change.{Ready, Taken, InsertedSorted};
 ghost use Rattle.types.specs.Limits.{MAX-EDITS};
 ghost use Rattle.tables.specs.Layout.{SLOT, VERSION, LOCK, ACCESS, recordTable, slotTable, versionTable};
-ghost use Rattle.tables.specs.Layout.{lockTable, accessTable, versionHeads, Fits, V-POINT, MODES, R-FLOOR};
+ghost use Rattle.tables.specs.Layout.{lockTable, accessTable, versionHeads, lockHeads, Fits, V-POINT, MODES, R-FLOOR};
 ghost use Rattle.tables.specs.Layout.{S-STATE, S-GENERATION, S-POINT, L-LOW};
 ghost use Rattle.writes.specs.Rows.{lockTag, writtenMark, versionStored, lockStored, accessStored};
 use tables::A_FROM;
@@ -29,6 +30,7 @@ use tables::V_POINT;
 use tables::V_SPARE;
 use tables::V_VALUE;
 use tables::access_table;
+use tables::lock_heads;
 use tables::lock_table;
 use tables::record_table;
 use tables::slot_table;
@@ -156,7 +158,7 @@ pub fn insert_version(w: &mut [u64], c: Counts, r: usize, q: u64) -> usize
     requires { ⌜ Fits c (now w) × (r < c .records) × Ready (versionTable c) (versionHeads c) (now w) (suc r) 0 ⌝ }
     ensures { λ i. ⌜
         Taken (versionHeads c) (now (w .entry)) (now (w .exit)) 0 i
-        (InsertedSorted (versionTable c) (versionHeads c) (now (w .entry)) (now (w .exit)) (suc r) 0 V-POINT q i)
+        (InsertedSorted (versionTable c) (versionHeads c) (now (w .entry)) (now (w .exit)) (suc r) 0 V-POINT q false i)
         ⌝ }
 {
     updates::insert_sorted(
@@ -167,5 +169,27 @@ pub fn insert_version(w: &mut [u64], c: Counts, r: usize, q: u64) -> usize
         0,
         V_POINT,
         chains::wide(q),
+        false,
+    )
+}
+
+// The first free row comes to stand on record r's chain of locks after those with low points below `low`. Replies the
+// row, or 0 where none is free.
+pub fn insert_lock(w: &mut [u64], c: Counts, r: usize, low: u64) -> usize
+    requires { ⌜ Fits c (now w) × (r < c .records) × Ready (lockTable c) (lockHeads c) (now w) (suc r) 0 ⌝ }
+    ensures { λ i. ⌜
+        Taken (lockHeads c) (now (w .entry)) (now (w .exit)) 0 i
+        (InsertedSorted (lockTable c) (lockHeads c) (now (w .entry)) (now (w .exit)) (suc r) 0 L-LOW low true i)
+        ⌝ }
+{
+    updates::insert_sorted(
+        w,
+        lock_table(c),
+        lock_heads(c),
+        r + 1,
+        0,
+        L_LOW,
+        chains::wide(low),
+        true,
     )
 }

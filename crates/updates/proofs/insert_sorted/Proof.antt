@@ -1,8 +1,6 @@
 -- `updates::insert_sorted` meets its contract. Rests on Places (sorted-law).
 use mathlib.Core.Path.{refl, sym, _∙_}
 use native.Mathlib.Omega.{arith}
-use denote.Ref.{now}
-use Rattle.chains.specs.Table.{above}
 use Rattle.chains.proofs.Cells.{lies, heads-lie}
 use Rattle.chains.proofs.Places.{front-place, sorted-law}
 use borrow.Author.Needs.{needs}
@@ -37,15 +35,7 @@ find-place-requires c κs = (
 insert-after-requires : tie.Need-insert-after-requires
 insert-after-requires c κs = (
   c .before .before .before .before .before .before .before .before .pre .0,
-  front-place (c .before .before .before .before .before .before .before .before .args .t)
-      (c .before .before .before .before .before .before .before .before .args .h)
-      (now (c .before .before .before .before .before .before .before .before .args .w))
-      (c .before .before .before .before .before .before .before .before .args .a)
-      (above (c .before .before .before .before .before .before .before .before .args .t)
-      (now (c .before .before .before .before .before .before .before .before .args .w))
-      (c .before .before .before .before .before .before .before .before .args .o)
-      (c .before .before .before .before .before .before .before .before .args .q))
-      (c .before .before .head-of2 .ensures) (c .before .find-place .ensures),
+  front-place _ _ _ _ _ (c .before .before .head-of2 .ensures) (c .before .find-place .ensures),
   c .before .before .before .before .before .head-of .ensures,
   c .before .before .before .before .if1 .left,
 )
@@ -56,7 +46,7 @@ same-length-2 c = search needs
 returns-2 : tie.Need-returns-2
 returns-2 c =
     let start = c .before .before .before .before .before .before .before .before .before .before .before in
-    sorted-law (start .args .o) (start .args .q) (start .pre .0)
+    sorted-law (start .args .o) (start .args .q) (start .args .rising) (start .pre .0)
     (c .before .before .before .before .before .before .before .before .head-of .ensures)
     (c .before .before .before .before .before .before .before .if1 .left)
     (c .before .before .before .before .before .head-of2 .ensures)

@@ -1,0 +1,2 @@
+-- A law of ends for the proofs of the functions. Rests on nothing.
+pub mod Ends
