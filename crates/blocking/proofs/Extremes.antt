@@ -4,18 +4,10 @@ use Prim.Native.Nat.{ℕ, _-_, min, max}
 use mathlib.Core.Path.{_≡_, refl, sym, ap, _∙_}
 use mathlib.Core.Bool.{Bool, true, false, cond, _&&_, _||_}
 use mathlib.Core.List.{List, [], _∷_, map}
-use native.Mathlib.Omega.{arith}
 use Rattle.chains.specs.Walk.{more, rows}
-use Rattle.chains.proofs.Loops.{Walk, walk-again, walk-end}
+use Rattle.chains.proofs.Loops.{Walk, walk-again, walk-out, walk-end}
+use Rattle.meaning.proofs.Lists.{least-shift, greatest-shift}
 use Rattle.meaning.specs.Lists.{any, keep, least, greatest}
-
-greatest-shift : (b x : ℕ) (xs : List ℕ) → greatest (max b x) xs ≡ max x (greatest b xs)
-greatest-shift b x [] = omega arith
-greatest-shift b x (y ∷ xs) = omega (arith, greatest-shift b x xs)
-
-pub least-shift : (b x : ℕ) (xs : List ℕ) → least (min b x) xs ≡ min x (least b xs)
-least-shift b x [] = omega arith
-least-shift b x (y ∷ xs) = omega (arith, least-shift b x xs)
 
 greatest-turn : (t : Bool) (b x : ℕ) (xs : List ℕ) → greatest b (cond t (x ∷ xs) xs) ≡ greatest (cond t (max b x) b) xs
 greatest-turn true b x xs = sym (greatest-shift b x xs)
@@ -76,27 +68,36 @@ module _ {A : Type 0} (p q : A → Bool) (v : A → ℕ) where
     pub least-done : Walk nx n (λ rs. least b (valued (map g rs))) answer h f → r ≡ more n f h → r ≡ false → b ≡ answer
     least-done i d e = walk-end i d e refl
 
--- a loop whose turn makes the next b of b and an entry: over b xs is what it finds on the entries xs with b so far
-pub record Turns {A B : Type 0} (turn : B → A → B) (over : B → List A → B) (g : ℕ → A) (nx : ℕ → ℕ) (n : ℕ)
-    (answer b : B) (h f : ℕ) : Type 0 where
-  pub one : (b : B) (x : A) (xs : List A) → over b (x ∷ xs) ≡ over (turn b x) xs
+-- a loop whose turn makes the next b of b and an entry, unless it stops there: over b xs is what it finds on the
+-- entries xs with b so far
+pub record Turns {A B : Type 0} (stops : B → A → Bool) (turn : B → A → B) (over : B → List A → B) (g : ℕ → A)
+    (nx : ℕ → ℕ) (n : ℕ) (answer b : B) (h f : ℕ) : Type 0 where
+  pub one : (b : B) (x : A) (xs : List A) → over b (x ∷ xs) ≡ cond (stops b x) b (over (turn b x) xs)
   pub none : (b : B) → over b [] ≡ b
   pub walk : Walk nx n (λ rs. over b (map g rs)) answer h f
 
-module _ {A B : Type 0} {turn : B → A → B} {over : B → List A → B} {g : ℕ → A} {nx : ℕ → ℕ} {n : ℕ} {answer b : B}
-    {h f : ℕ} {r : Bool} (i : Turns turn over g nx n answer b h f) (d : r ≡ more n f h) where
-  pub turns-on : {b′ : B} {h′ : ℕ} {x : A} → r ≡ true → b′ ≡ turn b x → x ≡ g h → h′ ≡ nx h
-      → Turns turn over g nx n answer b′ h′ (f - 1)
-  turns-on {b′} e t m s =
+module _ {A B : Type 0} {stops : B → A → Bool} {turn : B → A → B} {over : B → List A → B} {g : ℕ → A} {nx : ℕ → ℕ}
+    {n : ℕ} {answer b : B} {h f : ℕ} {r : Bool} (i : Turns stops turn over g nx n answer b h f)
+    (d : r ≡ more n f h) where
+  pub turns-on : {b′ : B} {h′ : ℕ} {x : A} → r ≡ true → x ≡ g h → stops b x ≡ false → b′ ≡ turn b x → h′ ≡ nx h
+      → Turns stops turn over g nx n answer b′ h′ (f - 1)
+  turns-on {b′} e m goes-on t s =
       let xs : List A = map g (rows nx n (f - 1) (nx h)) in
       let b′-is : b′ ≡ turn b (g h) = t ∙ ap (turn b) m in
+      let goes : stops b (g h) ≡ false = sym (ap (stops b) m) ∙ goes-on in
       record {
         one = i .one;
         none = i .none;
         walk =
             walk-again (i .walk) d (λ rs. over b′ (map g rs)) e
-            (i .one b (g h) xs ∙ ap (λ y. over y xs) (sym b′-is)) s;
+            (i .one b (g h) xs ∙ ap (λ y. cond y b (over (turn b (g h)) xs)) goes ∙ ap (λ y. over y xs) (sym b′-is)) s;
       }
+
+  pub turns-out : {x : A} → r ≡ true → x ≡ g h → stops b x ≡ true → b ≡ answer
+  turns-out e m stopped =
+      let xs : List A = map g (rows nx n (f - 1) (nx h)) in
+      let ends : stops b (g h) ≡ true = sym (ap (stops b) m) ∙ stopped in
+      walk-out (i .walk) d e (i .one b (g h) xs ∙ ap (λ y. cond y b (over (turn b (g h)) xs)) ends)
 
   pub turns-done : r ≡ false → b ≡ answer
   turns-done e = walk-end (i .walk) d e (i .none b)

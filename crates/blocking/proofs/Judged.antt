@@ -9,8 +9,8 @@ use native.Mathlib.Omega.{arith}
 use lib.Dec.{leb, eqb}
 use borrow.Author.Tests.{le-leb, lt-leb, eqb-true, eq-eqb}
 use Rattle.types.specs.Limits.{SLOTS, SETTLED}
-use Rattle.meaning.specs.Lists.{_∈_, any, keep, least}
-use Rattle.meaning.specs.Points.{covers, meets, blocks, blockers, firstCovered, firstBlocked, frozen, holder}
+use Rattle.meaning.specs.Lists.{_∈_, any, keep, least, pairwise}
+use Rattle.meaning.specs.Points.{covers, meets, blocks, blockers, firstCovered, firstBlocked, frozen, holder, noLater}
 use Rattle.meaning.specs.Pointwise.{Proper, SettledOn, Frozen}
 use Rattle.meaning.specs.Store.{Rec, Store, recAt}
 use Rattle.types.specs.declared.Lock.{Lock}
@@ -24,7 +24,7 @@ use Rattle.tables.specs.Decode.{recordAt, decodeAt}
 use Rattle.tables.proofs.Decoded.{rec-at}
 use Rattle.meaning.proofs.Lists.{both}
 use Rattle.blocking.specs.declared.Blocked.{Blocked}
-use Rattle.blocking.specs.Search.{nearest, nobody, blockedBy, firstJudged}
+use Rattle.blocking.specs.Search.{Rises, nearest, nobody, blockedBy, firstJudged}
 use Rattle.blocking.proofs.Near.{startsAt, starters, near-point, near-by}
 
 -- tests that agree on a list keep the same of it
@@ -145,7 +145,7 @@ module _ (s : Store) (r mode k p : ℕ) where
 
 -- what the walk found, q, is the first blocked point: the returns of first_blocked
 module _ (c : Counts) (w : List ℕ) (r mode k low high : ℕ) (l : r < c .records) (order : low ≤ high) (q : Blocked)
-    (e : q ≡ nearest mode k low high (nobody high) (recordAt c w r .locks)) where
+    (e : q ≡ nearest mode k low high (nobody high) (recordAt c w r .locks)) (rises : Rises c w r) where
   abbrev s : Store
   s = decodeAt c w
 
@@ -161,11 +161,14 @@ module _ (c : Counts) (w : List ℕ) (r mode k low high : ℕ) (l : r < c .recor
   walked : q ≡ nearest mode k low high (nobody high) (here .locks)
   walked = e ∙ ap (λ (y : Rec). nearest mode k low high (nobody high) (y .locks)) (sym (rec-at c w r l))
 
+  here-rises : pairwise noLater (here .locks) ≡ true
+  here-rises = ap (λ (y : Rec). pairwise noLater (y .locks)) (rec-at c w r l) ∙ rises
+
   point-is : q .point ≡ point
-  point-is = near-point mode k low high here walked
+  point-is = near-point mode k low high here here-rises walked
 
   by-is : q .by ≡ least SLOTS (starters mode k low high (here .locks) point)
-  by-is = near-by mode k low high here walked
+  by-is = near-by mode k low high here here-rises walked
 
   judged-as : (b : ℕ) → b ≡ cond (leb point high) (blockedBy s r mode k point) SLOTS
       → Judged (record { point = q .point; by = b })

@@ -1,23 +1,26 @@
 -- The walk for the first blocked point: its turns, and what it finds, the least start of the locks that block with the
--- lowest owner of those that start there. Rests on Extremes.
+-- lowest owner of those that start there. It stops early on rising locks. Rests on Extremes and Rising.
 use Prim.Native.Nat.{ℕ, suc, _≤_, _<_, min, max}
 use mathlib.Core.Path.{_≡_, refl, sym, ap, _∙_}
 use mathlib.Core.Logic.{_⊎_, inl, inr}
 use mathlib.Core.Bool.{Bool, true, false, cond, _&&_}
-use mathlib.Core.List.{List, [], _∷_, map}
+use mathlib.Core.List.{List, [], _∷_, map, List·Memᴰ·head, List·Memᴰ·tail}
 use native.Mathlib.Omega.{arith}
 use native.Mathlib.Nat.{le-refl}
 use lib.Dec.{ltb, eqb}
 use borrow.Author.Tests.{ltb-true, ltb-false, lt-ltb, le-ltb, eq-eqb, ne-eqb}
 use Rattle.types.specs.Limits.{SLOTS}
-use Rattle.meaning.specs.Lists.{keep, least}
-use Rattle.meaning.specs.Points.{meets, blocks, blockers, firstCovered, firstBlocked}
+use Rattle.meaning.specs.Lists.{_∈_, keep, least, pairwise}
+use Rattle.meaning.specs.Points.{meets, blocks, blockers, firstCovered, firstBlocked, noLater}
 use Rattle.meaning.specs.Store.{Rec}
 use Rattle.types.specs.declared.Lock.{Lock}
-use Rattle.meaning.proofs.Lists.{test, least-default}
+use Rattle.meaning.proofs.Lists.{test, and-right, least-default}
+use Rattle.meaning.proofs.Tests.{Meeting, meets-out}
 use Rattle.blocking.specs.declared.Blocked.{Blocked}
 use Rattle.blocking.specs.Search.{joined, nearer, nearest, nobody}
-use Rattle.blocking.proofs.Extremes.{valued, least-shift}
+use Rattle.meaning.proofs.Lists.{least-shift}
+use Rattle.blocking.proofs.Extremes.{valued}
+use Rattle.blocking.proofs.Rising.{rest-rises, none-meets}
 
 -- the turns of the code: the best so far is nearer, the lock is nearer, both are as near and one has the lower owner
 module _ (b : Blocked) (q o : ℕ) where
@@ -142,22 +145,66 @@ module _ (mode k low high : ℕ) where
       ∙ found-as b (start l ∷ starts ls) (also (start l) (l .owner) (starters ls)) (starters-turn l ls)
       (λ p. map-turn (eqb (start l) p) l (keep (startsAt p) (keep (blocks mode k) ls))))
 
-  near-finds : (b : Blocked) (ls : List Lock) → nearest mode k low high b ls ≡ found b (starts ls) (starters ls)
+  -- the walk of all locks; on rising ones the walk that stops finds the same
+  abbrev nearestOfAll : Blocked → List Lock → Blocked
+  nearestOfAll b [] = b
+  nearestOfAll b (l ∷ ls) = nearestOfAll (nearer mode k low high b l) ls
+
+  -- a lock that does not meet low..the point found makes no difference, nor do locks of which none does
+  not-nearer : (b : Blocked) (l : Lock) → (Meeting low (b .point) l → ⊥) → nearer mode k low high b l ≡ b
+  unfolding nearer
+  not-nearer b l f = go (test (blocks mode k l && meets low high l)) (test (ltb (b .point) (l .low)))
+    where
+      go : (blocks mode k l && meets low high l ≡ true) ⊎ (blocks mode k l && meets low high l ≡ false)
+          → (ltb (b .point) (l .low) ≡ true) ⊎ (ltb (b .point) (l .low) ≡ false)
+          → cond (blocks mode k l && meets low high l) (joined b (start l) (l .owner)) b ≡ b
+      go (inr e) t = rw e refl
+      go (inl e) (inl t) =
+          let past = ltb-true (b .point) (l .low) t in rw e (sym (joined-past b (start l) (l .owner) (omega arith)))
+      go (inl e) (inr t) =
+          let i = meets-out low high l (and-right (blocks mode k l) (meets low high l) e) in
+          absurd (f (record { starts = ltb-false (b .point) (l .low) t; ends = i .ends }))
+
+  none-nearer : (b : Blocked) (ls : List Lock) → ((l : Lock) → l ∈ ls → Meeting low (b .point) l → ⊥)
+      → nearestOfAll b ls ≡ b
+  none-nearer b [] f = refl
+  none-nearer b (l ∷ ls) f =
+      ap (λ (y : Blocked). nearestOfAll y ls) (not-nearer b l (f l (List·Memᴰ·head refl)))
+      ∙ none-nearer b ls (λ m i. f m (List·Memᴰ·tail i))
+
+  near-all : (b : Blocked) (ls : List Lock) → pairwise noLater ls ≡ true
+      → nearest mode k low high b ls ≡ nearestOfAll b ls
   unfolding nearest
-  near-finds b [] = rw (le-ltb (b .point) (b .point) (le-refl (b .point))) refl
-  near-finds b (l ∷ ls) =
-      near-finds (nearer mode k low high b l) ls
+  near-all b [] rises = refl
+  near-all b (l ∷ ls) rises =
+      go (test (ltb (b .point) (l .low))) (near-all (nearer mode k low high b l) ls (rest-rises l ls rises))
+    where
+      go : (ltb (b .point) (l .low) ≡ true) ⊎ (ltb (b .point) (l .low) ≡ false)
+          → nearest mode k low high (nearer mode k low high b l) ls ≡ nearestOfAll b (l ∷ ls)
+          → nearest mode k low high b (l ∷ ls) ≡ nearestOfAll b (l ∷ ls)
+      go (inl e) rest =
+          rw e (sym (none-nearer b (l ∷ ls) (none-meets l ls rises low (b .point) (ltb-true (b .point) (l .low) e))))
+      go (inr e) rest = rw e rest
+
+  all-finds : (b : Blocked) (ls : List Lock) → nearestOfAll b ls ≡ found b (starts ls) (starters ls)
+  all-finds b [] = rw (le-ltb (b .point) (b .point) (le-refl (b .point))) refl
+  all-finds b (l ∷ ls) =
+      all-finds (nearer mode k low high b l) ls
       ∙ found-turn b l ls (test (blocks mode k l)) (test (meets low high l))
 
   -- from nobody: the first blocked point, and the lowest owner that starts there
-  module _ (x : Rec) {q : Blocked} (e : q ≡ nearest mode k low high (nobody high) (x .locks)) where
+  module _ (x : Rec) (rises : pairwise noLater (x .locks) ≡ true) {q : Blocked}
+      (e : q ≡ nearest mode k low high (nobody high) (x .locks)) where
+    near-finds : q ≡ found (nobody high) (starts (x .locks)) (starters (x .locks))
+    near-finds = e ∙ near-all (nobody high) (x .locks) rises ∙ all-finds (nobody high) (x .locks)
+
     pub near-point : q .point ≡ firstBlocked mode k x low high
     unfolding firstCovered blockers
-    near-point = ap (λ (y : Blocked). y .point) (e ∙ near-finds (nobody high) (x .locks))
+    near-point = ap (λ (y : Blocked). y .point) near-finds
 
     pub near-by : q .by ≡ least SLOTS (starters (x .locks) (firstBlocked mode k x low high))
     unfolding firstCovered blockers
     near-by =
         let p : ℕ = firstBlocked mode k x low high in
-        ap (λ (y : Blocked). y .by) (e ∙ near-finds (nobody high) (x .locks))
+        ap (λ (y : Blocked). y .by) near-finds
         ∙ ap (λ (d : ℕ). least d (starters (x .locks) p)) (same-either (ltb p (suc high)) SLOTS)

@@ -1,18 +1,21 @@
 // Points of a record r under its locks: the first free one, and the first blocked one with who blocks it. Read-only,
 // each equal to a function of the decoded store. `mine` picks slot k's own locks, else those of others that block it in
-// the mode. Rests on the crates `types`, `meaning`, `locks`, `chains`, `tables` and `lookups`.  A caller proves that
-// the words have these counts (`Fits`) and that the record and the points are in range, so the functions have
-// `requires`; `first_blocked` also asks that the record's locks are spans (`Proper`).
+// the mode. Each is one walk of the record's locks that stops as soon as no later one can matter. Rests on the crates
+// `types`, `meaning`, `locks`, `chains`, `tables` and `lookups`.  A caller proves that the words have these counts
+// (`Fits`), that the record and the points are in range and that the record's locks rise (`Rises`), so the functions
+// have `requires`; `first_blocked` also asks that they are spans (`Proper`).
 ghost use mathlib.Core.Path.{_≡_};
-ghost use Prim.Native.Nat.{_≤_, _<_, min, max};
+ghost use Prim.Native.Nat.{_≤_, _<_};
 ghost use Rattle.types.specs.Limits.{LAST};
 ghost use Rattle.meaning.specs.Points.{meets, firstFree};
 ghost use Rattle.meaning.specs.Pointwise.{Proper};
 ghost use Rattle.meaning.specs.Store.{recAt};
 ghost use Rattle.tables.specs.Layout.{Fits};
 ghost use Rattle.tables.specs.Decode.{decodeAt, recordAt};
-ghost use Rattle.blocking.specs.Search.{counts, counted, further, runOf, emptyRun};
+ghost use Rattle.blocking.specs.Search.{Rises, counts, counted, further, stops};
 ghost use Rattle.blocking.specs.Search.{joined, nearer, nearest, nobody, firstJudged};
+use locks::larger;
+use locks::smaller;
 use types::Counts;
 use types::Lock;
 use types::SETTLED;
@@ -24,31 +27,6 @@ pub struct Blocked {
     pub by: u64,
 }
 
-// A run of points under the locks, from where a walk of them starts to before `end`; `ahead` is the least start of the
-// locks that began beyond it when the walk met them.
-struct Run {
-    end: u64,
-    ahead: u64,
-}
-
-pub fn smaller(a: u64, b: u64) -> u64
-    ensures { λ q. ⌜ q ≡ min a b ⌝ }
-{
-    if a < b {
-        return a;
-    }
-    b
-}
-
-pub fn larger(a: u64, b: u64) -> u64
-    ensures { λ q. ⌜ q ≡ max a b ⌝ }
-{
-    if a < b {
-        return b;
-    }
-    a
-}
-
 fn counts(mine: bool, mode: u64, k: u64, l: Lock) -> bool
     ensures { λ q. ⌜ q ≡ counts mine mode k l ⌝ }
 {
@@ -58,52 +36,31 @@ fn counts(mine: bool, mode: u64, k: u64, l: Lock) -> bool
     locks::blocks(mode, k, l)
 }
 
-// One lock of a walk for a free point: a counted lock that starts beyond the run is noted, and one that the run's end
-// lies in is taken up.
-fn further(mine: bool, mode: u64, k: u64, high: u64, run: Run, l: Lock) -> Run
+// One lock of the walk for a free point: where it counts and the end lies in it, the end goes to just after it.
+fn further(mine: bool, mode: u64, k: u64, high: u64, end: u64, l: Lock) -> u64
     requires { ⌜ high ≤ LAST ⌝ }
-    ensures { λ q. ⌜ q ≡ further mine mode k high run l ⌝ }
+    ensures { λ q. ⌜ q ≡ further mine mode k high end l ⌝ }
 {
     if !counts(mine, mode, k, l) {
-        return run;
+        return end;
     }
-    if run.end < l.low {
-        return Run {
-            end: run.end,
-            ahead: smaller(run.ahead, l.low),
-        };
+    if l.high < end {
+        return end;
     }
-    if l.high < run.end {
-        return run;
-    }
-    Run {
-        end: smaller(high, l.high) + 1,
-        ahead: run.ahead,
-    }
+    smaller(high, l.high) + 1
 }
 
-// How far one walk gets from p.
-fn run_from(w: &[u64], c: Counts, mine: bool, mode: u64, k: u64, r: usize, p: u64, high: u64) -> Run
-    requires { ⌜ Fits c (now w) × (r < c .records) × (high ≤ LAST) ⌝ }
-    ensures { λ q. ⌜ q ≡ runOf high (emptyRun p high) (counted mine mode k (recordAt c (now (w .entry)) r .locks)) ⌝ }
+fn stops(high: u64, end: u64, l: Lock) -> bool
+    ensures { λ q. ⌜ q ≡ stops high end l ⌝ }
 {
-    let n = c.locks;
-    let mut run = Run {
-        end: p,
-        ahead: high + 1,
-    };
-    let mut cur = tables::first_lock(w, c, r);
-    let mut left = n;
-    while chains::more(n, left, cur) {
-        run = further(mine, mode, k, high, run, tables::lock_at(w, c, cur));
-        cur = tables::next_lock(w, c, cur);
-        left -= 1;
+    if high < end {
+        return true;
     }
-    run
+    end < l.low
 }
 
-// The least point of low..high under none of them, or high + 1. A lock that covers the end of a run began beyond the
-// run when it was met, so it starts at `ahead` or later: an end before `ahead` is free, with no walk more.
+// The least point of low..high under none of them, or high + 1. One walk: all points before `end` are under them. The
+// locks rise, so where one starts beyond the end nothing covers the end, counted or not: it is free.
 pub fn first_free(
     w: &[u64],
     c: Counts,
@@ -114,18 +71,23 @@ pub fn first_free(
     low: u64,
     high: u64,
 ) -> u64
-    requires { ⌜ Fits c (now w) × (r < c .records) × (low ≤ high) × (high ≤ LAST) ⌝ }
+    requires { ⌜ Fits c (now w) × (r < c .records) × (low ≤ high) × (high ≤ LAST) × Rises c (now w) r ⌝ }
     ensures { λ q. ⌜ q ≡ firstFree (counted mine mode k (recordAt c (now (w .entry)) r .locks)) low high ⌝ }
 {
-    let mut p = low;
-    while p <= high {
-        let run = run_from(w, c, mine, mode, k, r, p, high);
-        if run.end < run.ahead {
-            return run.end;
+    let n = c.locks;
+    let mut end = low;
+    let mut cur = tables::first_lock(w, c, r);
+    let mut left = n;
+    while chains::more(n, left, cur) {
+        let l = tables::lock_at(w, c, cur);
+        if stops(high, end, l) {
+            return end;
         }
-        p = run.end;
+        end = further(mine, mode, k, high, end, l);
+        cur = tables::next_lock(w, c, cur);
+        left -= 1;
     }
-    p
+    end
 }
 
 fn meets(low: u64, high: u64, l: Lock) -> bool
@@ -168,7 +130,8 @@ fn nearer(mode: u64, k: u64, low: u64, high: u64, best: Blocked, l: Lock) -> Blo
     joined(best, larger(low, l.low), l.owner)
 }
 
-// The first point of low..high under a lock that blocks slot k, with the lowest owner of those that start there.
+// The first point of low..high under a lock that blocks slot k, with the lowest owner of those that start there. The
+// locks rise, so from one that starts beyond the point found on, none is nearer or as near.
 fn nearest(w: &[u64], c: Counts, mode: u64, k: u64, r: usize, low: u64, high: u64) -> Blocked
     requires { ⌜ Fits c (now w) × (r < c .records) × (high ≤ LAST) ⌝ }
     ensures { λ q. ⌜ q ≡ nearest mode k low high (nobody high) (recordAt c (now (w .entry)) r .locks) ⌝ }
@@ -181,7 +144,11 @@ fn nearest(w: &[u64], c: Counts, mode: u64, k: u64, r: usize, low: u64, high: u6
     let mut cur = tables::first_lock(w, c, r);
     let mut left = n;
     while chains::more(n, left, cur) {
-        best = nearer(mode, k, low, high, best, tables::lock_at(w, c, cur));
+        let l = tables::lock_at(w, c, cur);
+        if best.point < l.low {
+            return best;
+        }
+        best = nearer(mode, k, low, high, best, l);
         cur = tables::next_lock(w, c, cur);
         left -= 1;
     }
@@ -201,7 +168,7 @@ pub fn first_blocked(
 ) -> Blocked
     requires { ⌜
         Fits c (now w) × (r < c .records) × (low ≤ high) × (high ≤ LAST) × (1 ≤ k)
-        × Proper (recAt (decodeAt c (now w)) r)
+        × Proper (recAt (decodeAt c (now w)) r) × Rises c (now w) r
         ⌝ }
     ensures { λ q. ⌜ q ≡ firstJudged (decodeAt c (now (w .entry))) r mode k low high ⌝ }
 {

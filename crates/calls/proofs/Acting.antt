@@ -8,7 +8,9 @@ use native.Mathlib.Omega.{arith}
 use lib.ListN.{length}
 use Rattle.chains.specs.Walk.{IsRow}
 use Rattle.types.specs.Limits.{GENERATIONS}
-use Rattle.meaning.specs.Store.{Store, editAt}
+use Rattle.meaning.specs.Lists.{pairwise}
+use Rattle.meaning.specs.Points.{noLater}
+use Rattle.meaning.specs.Store.{Rec, Store, editAt}
 use Rattle.types.specs.Numbers.{slotOf}
 use Rattle.types.specs.Replies.{Reply, refused, refusing}
 use Rattle.meaning.specs.Outcomes.{Outcome, replies, knows, hasRecord}
@@ -22,7 +24,8 @@ use Rattle.tables.specs.Layout.{HEADER, countsOf, sizeOf}
 use Rattle.tables.specs.Decode.{decodeAt}
 use Rattle.tables.specs.Words.{lent, decode, formed, soundWords, Well}
 use Rattle.tables.proofs.Bridge.{well-out, well-in}
-use Rattle.tables.proofs.Decoded.{decoded-records, decoded-edits, records-length, edits-length}
+use Rattle.tables.proofs.Decoded.{decoded-records, decoded-edits, records-length, edits-length, rec-at}
+use Rattle.blocking.specs.Search.{AllRise}
 use Rattle.index.specs.Index.{Indexed}
 use Rattle.calls.specs.Contract.{Acts, Ready, Makes}
 
@@ -54,6 +57,10 @@ module _ (w : List ℕ) (h : soundWords (lent w) ≡ true) where
 module _ (c : Counts) (w : List ℕ) where
   pub facts : Ready c w → SoundStore (decodeAt c w)
   facts R = sound-out (decodeAt c w) (R .store)
+
+  -- "in rising order of low point": what the searches that stop early ask for
+  pub all-rise : Ready c w → AllRise c w
+  all-rise R r l = ap (λ (x : Rec). pairwise noLater (x .locks)) (sym (rec-at c w r l)) ∙ facts R .recs r .rises
 
   pub slots-counted : length (decodeAt c w .edits) ≡ c .edits
   slots-counted = rw decoded-edits (edits-length c w)

@@ -1,5 +1,5 @@
--- What is granted, from what the searches answered, and what a grant says of its test. Rests on specs/Grants and Spans
--- of `meaning`.
+-- What the searches ask of ready words, what is granted, from what they answered, and what a grant says of its test.
+-- Rests on Acting, specs/Grants and Spans of `meaning`.
 use Prim.Native.Nat.{ℕ, _-_, _≤_, _<_}
 use mathlib.Core.Path.{_≡_, refl, sym, ap, _∙_}
 use mathlib.Core.Logic.{_⊎_, inl, inr}
@@ -8,21 +8,34 @@ use mathlib.Core.List.{List}
 use native.Mathlib.Omega.{arith}
 use lib.Dec.{ltb}
 use borrow.Author.Tests.{ltb-true, ltb-false, leb-false, lt-ltb, le-ltb, le-leb, lt-leb}
-use Rattle.types.specs.Limits.{READ, WRITE}
+use Rattle.types.specs.Limits.{LAST, READ, WRITE}
 use Rattle.meaning.specs.Store.{Rec, Store, recAt}
 use Rattle.meaning.specs.Points.{blockers, firstBlocked, firstFree, firstOpen}
+use Rattle.meaning.specs.Pointwise.{Proper}
 use Rattle.meaning.specs.Locking.{lockGranted, readGranted}
 use Rattle.types.specs.declared.Counts.{Counts}
 use Rattle.types.specs.declared.Extent.{Extent}
 use Rattle.types.specs.declared.Extent.the-variants.{All, Part}
+use Rattle.meaning.proofs.JudgeLocking.{proper}
 use Rattle.meaning.proofs.Lists.{test}
 use Rattle.meaning.proofs.Spans.{firstCovered-low, firstCovered-least, firstFree-low, firstFree-run}
+use Rattle.tables.specs.Layout.{Fits}
 use Rattle.tables.specs.Decode.{recordAt, decodeAt}
 use Rattle.tables.proofs.Decoded.{rec-at}
 use Rattle.blocking.specs.declared.Blocked.{Blocked}
-use Rattle.blocking.specs.Search.{counts, counted, firstJudged}
+use Rattle.blocking.specs.Search.{Rises, counts, counted, firstJudged}
 use Rattle.calls.specs.declared.Grant.the-variants.{Taken, Judged}
+use Rattle.calls.specs.Contract.{Ready}
 use Rattle.calls.specs.Grants.{lockGrant, readGrant}
+use Rattle.calls.proofs.Acting.{all-rise}
+
+-- the search for a blocked point, by slot k
+pub search-needs : {c : Counts} {w : List ℕ} {r low high k : ℕ} → Ready c w → r < c .records → low ≤ high → high ≤ LAST
+    → 1 ≤ k
+    → Fits c w × (r < c .records) × (low ≤ high) × (high ≤ LAST) × (1 ≤ k) × Proper (recAt (decodeAt c w) r)
+    × Rises c w r
+search-needs {c} {w} {r} R l order last slot =
+    (R .well .fits, l, order, last, slot, proper (decodeAt c w) (R .store) r, all-rise c w R r l)
 
 pub grant-judged : (t : Bool) (from end : ℕ) (q b : Blocked) → cond t (Taken from end) (Judged q) ≡ Judged b
     → (t ≡ false) × (q ≡ b)

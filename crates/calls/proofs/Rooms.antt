@@ -9,7 +9,7 @@ use Rattle.chains.specs.Walk.{IsRow}
 use Rattle.types.specs.Limits.{MAX-EDITS}
 use Rattle.meaning.specs.Store.{Edit, Store, editAt, withEdit, withRecords, locksUsed}
 use Rattle.meaning.specs.Outcomes.{lockRoom}
-use Rattle.meaning.specs.Locking.{withLock}
+use Rattle.meaning.specs.Locking.{withLock, withLockBy}
 use Rattle.meaning.specs.Sound.{namesOnce}
 use Rattle.types.specs.declared.Counts.{Counts}
 use Rattle.meaning.proofs.Verdicts.{lockRoom-out}
@@ -38,5 +38,5 @@ module _ (s : Store) (k : ℕ) (e : Edit) where
 
   pub edit-then-lock : (r mode o low high : ℕ)
       → withLock (withEdit s k e) r mode o low high ≡ withEdit (withLock s r mode o low high) k e
-  unfolding withLock withEdit withRecords
+  unfolding withLockBy withEdit withRecords
   edit-then-lock r mode o low high = refl

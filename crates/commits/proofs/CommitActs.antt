@@ -28,9 +28,10 @@ use Rattle.tables.specs.Layout.{countsOf, Fits}
 use Rattle.tables.specs.Decode.{recordsOf, slotAt, decodeAt}
 use Rattle.tables.specs.Words.{lent, soundWords}
 use Rattle.tables.proofs.Decoded.{decoded-records, edit-at}
+use Rattle.blocking.specs.Search.{AllRise}
 use Rattle.changes.specs.Becomes.{Becomes}
 use Rattle.calls.specs.Contract.{Acts, Ready, Makes}
-use Rattle.calls.proofs.Acting.{makes-refused, makes-done, makes-as, acts}
+use Rattle.calls.proofs.Acting.{all-rise, makes-refused, makes-done, makes-as, acts}
 use Rattle.endings.specs.Parts.{commitAt}
 use Rattle.commits.proofs.CommitExits
 use Rattle.endings.proofs.Ended.{open-row}
@@ -51,7 +52,8 @@ module _ (c : Counts) (w : List ℕ) (k : ℕ) (R : Ready c w) (st : editAt (dec
       (λ a m. lt-ltb (a .rec) (length (s .records)) (sound-out s (R .store) .edits k .existing a m))
 
   pub search-needs : Fits c w × IsRow (c .edits) k × (namesExisting (recordsOf c w) (slotAt c w k) ≡ true)
-  search-needs = (R .well .fits, row, rw (decoded-records c w, edit-at c w k row) at names-there)
+      × AllRise c w
+  search-needs = (R .well .fits, row, rw (decoded-records c w, edit-at c w k row) at names-there, all-rise c w R)
 
   -- what they find, of the store
   pub first-is : {t : ℕ} → t ≡ earliest (recordsOf c w) k (slotAt c w k) → t ≡ earliest (s .records) k (editAt s k)

@@ -7,7 +7,6 @@ use mathlib.Core.Path.{_≡_, refl, _∙_}
 use mathlib.Core.Logic.{_⊎_, inl, inr}
 use mathlib.Core.Bool.{Bool, true, false}
 use mathlib.Core.List.{[]}
-use lib.Dec.{ltb}
 use borrow.Author.Tests.{lt-ltb, le-ltb}
 use Rattle.types.specs.Limits.{LAST}
 use Rattle.meaning.specs.Store.{Store, editAt}
@@ -16,7 +15,8 @@ use Rattle.meaning.specs.Points.{inCommon, earliest, latest}
 use Rattle.types.specs.Replies.{commit, nopoint, refusing}
 use Rattle.meaning.specs.Outcomes.{Outcome, replies, Verdict, pass, needs, knows, isOpen, versionRoom}
 use Rattle.meaning.specs.Ending.{finished, committed, aborted, goodPick, noCommon, commitVerdict, commitOpen}
-use Rattle.meaning.specs.Ending.{commitChecks, committing}
+use Rattle.meaning.specs.Ending.{commitOpenBy}
+use Rattle.meaning.specs.Ending.{commitChecks, committing, committingBy}
 use Rattle.meaning.specs.Pointwise.{EmptyCommonSet, LeastCommon, GreatestCommon}
 use Rattle.types.specs.declared.Point.{Point}
 use Rattle.types.specs.declared.Pick.{Pick}
@@ -34,21 +34,21 @@ module _ (s : Store) (h : ℕ) (pick : Pick) (f : Finish) where
   picked = needs (goodPick pick) 6 pass
 
   pub commit-no-edit : knows s h ≡ false → committing h pick f s ≡ replies s (refusing 2 [])
-  unfolding committing commitChecks
+  unfolding committingBy commitChecks
   commit-no-edit e = no-edit s rest h picked e
 
   pub commit-ended : knows s h ≡ true → isOpen s h ≡ false → committing h pick f s ≡ replies s (refusing 3 [])
-  unfolding committing commitChecks
+  unfolding committingBy commitChecks
   commit-ended e g = edit-ended s rest h picked e g
 
   pub commit-bad-pick : knows s h ≡ true → isOpen s h ≡ true → goodPick pick ≡ false
       → committing h pick f s ≡ replies s (refusing 6 [])
-  unfolding committing commitChecks
+  unfolding committingBy commitChecks
   commit-bad-pick e g b = edit-open s rest h picked e g ∙ needs-fails s rest (goodPick pick) 6 pass b
 
   pub commit-passes : knows s h ≡ true → isOpen s h ≡ true → goodPick pick ≡ true
       → committing h pick f s ≡ commitOpen s (slotOf h) pick f
-  unfolding committing commitChecks
+  unfolding committingBy commitChecks
   commit-passes e g b = edit-open s rest h picked e g ∙ needs-holds s rest (goodPick pick) 6 pass b
 
 module _ (s : Store) (k : ℕ) (f : Finish) where
@@ -103,33 +103,33 @@ module _ (s : Store) (k : ℕ) (f : Finish) where
       go (inr w) = absurd (n (w .0))
 
   empty-ends : (pick : Pick) → LAST < first → commitOpen s k pick f ≡ none
-  unfolding commitOpen noCommon
+  unfolding commitOpenBy noCommon
   empty-ends pick l = rw (lt-ltb LAST first l) refl
 
   pub earliest-none : LAST < first → commitOpen s k Earliest f ≡ none
   earliest-none l = empty-ends Earliest l
 
   pub earliest-some : first ≤ LAST → commitOpen s k Earliest f ≡ commitAt s k first f
-  unfolding commitOpen noCommon commitVerdict commitAt
+  unfolding commitOpenBy noCommon commitVerdict commitAt
   earliest-some l = rw (le-ltb LAST first l) refl
 
   pub latest-none : last ≡ 0 → commitOpen s k Latest f ≡ none
   latest-none e = empty-ends Latest (none-latest e)
 
   pub latest-some : (last ≡ 0 → ⊥) → commitOpen s k Latest f ≡ commitAt s k last f
-  unfolding commitOpen noCommon commitVerdict commitAt
+  unfolding commitOpenBy noCommon commitVerdict commitAt
   latest-some n = rw (le-ltb LAST first (some-common last (last-common n))) refl
 
   module _ (p : Point) where
     pub named-in : common (p .0) ≡ true → commitOpen s k (Named p) f ≡ commitAt s k (p .0) f
-    unfolding commitOpen noCommon commitVerdict commitAt
+    unfolding commitOpenBy noCommon commitVerdict commitAt
     named-in e = rw (le-ltb LAST first (some-common (p .0) e), e) refl
 
     pub named-none : LAST < first → commitOpen s k (Named p) f ≡ none
     named-none l = empty-ends (Named p) l
 
     pub named-out : common (p .0) ≡ false → first ≤ LAST → commitOpen s k (Named p) f ≡ replies s (refusing 14 [])
-    unfolding commitOpen noCommon commitVerdict
+    unfolding commitOpenBy noCommon commitVerdict
     named-out e l = rw (le-ltb LAST first l, e) refl
 
   module _ (t : ℕ) where

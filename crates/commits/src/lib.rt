@@ -1,8 +1,8 @@
 // Commit on sound words: equal to its definition in the crate `meaning`, and leaving sound words. For callers who prove
 // the words sound (`requires soundWords`), as the calls of `calls` and `endings`. It goes along the edit's accesses and
 // the locks of their records; if it settles the edit, along the locks of each record that it may have touched. Rests on
-// the crates `types`, `meaning`, `chains`, `tables`, `changes`, `slots`, `lookups`, `common`, `index`, `calls` and
-// `endings`.
+// the crates `types`, `meaning`, `chains`, `tables`, `changes`, `slots`, `lookups`, `blocking`, `common`, `index`,
+// `calls` and `endings`.
 ghost use mathlib.Core.Path.{_≡_};
 ghost use mathlib.Core.Bool.{true};
 ghost use mathlib.Core.List.{_∷_, []};

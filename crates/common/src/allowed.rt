@@ -11,7 +11,7 @@ ghost use Rattle.meaning.specs.Points.{covered, own, writes, covers, ownOn, all
 ghost use Rattle.meaning.specs.Sound.{namesExisting};
 ghost use Rattle.tables.specs.Layout.{Fits};
 ghost use Rattle.tables.specs.Decode.{recordsOf, recordAt, slotAt};
-ghost use Rattle.blocking.specs.Search.{ownsWrite};
+ghost use Rattle.blocking.specs.Search.{AllRise, ownsWrite};
 ghost use Rattle.common.specs.Commit.{readEnd};
 use crate::LOWEST;
 use blocking::first_free;
@@ -68,7 +68,7 @@ fn allows_write(w: &[u64], c: Counts, k: usize, p: u64, a: Access) -> bool
 }
 
 fn allows_read(w: &[u64], c: Counts, k: usize, p: u64, a: Access) -> bool
-    requires { ⌜ Fits c (now w) × (a .rec < c .records) × (p ≤ LAST) ⌝ }
+    requires { ⌜ Fits c (now w) × (a .rec < c .records) × (p ≤ LAST) × AllRise c (now w) ⌝ }
     ensures { λ q. ⌜ q ≡ allowsRead (ownOn (recordsOf c (now (w .entry))) k a) a p ⌝ }
 {
     if a.from == 0 {
@@ -91,7 +91,7 @@ fn allows_read(w: &[u64], c: Counts, k: usize, p: u64, a: Access) -> bool
 }
 
 pub fn allows(w: &[u64], c: Counts, k: usize, p: u64, a: Access) -> bool
-    requires { ⌜ Fits c (now w) × (a .rec < c .records) × (p ≤ LAST) ⌝ }
+    requires { ⌜ Fits c (now w) × (a .rec < c .records) × (p ≤ LAST) × AllRise c (now w) ⌝ }
     ensures { λ q. ⌜ q ≡ allows (recordsOf c (now (w .entry))) k p a ⌝ }
 {
     if !allows_write(w, c, k, p, a) {
@@ -103,7 +103,7 @@ pub fn allows(w: &[u64], c: Counts, k: usize, p: u64, a: Access) -> bool
 fn all_allow(w: &[u64], c: Counts, k: usize, p: u64) -> bool
     requires { ⌜
         Fits c (now w) × IsRow (c .edits) k × (namesExisting (recordsOf c (now w)) (slotAt c (now w) k) ≡ true)
-        × (p ≤ LAST)
+        × (p ≤ LAST) × AllRise c (now w)
         ⌝ }
     ensures { λ q. ⌜ q ≡ all (allows (recordsOf c (now (w .entry))) k p) (slotAt c (now (w .entry)) k .accesses) ⌝ }
 {
@@ -124,6 +124,7 @@ fn all_allow(w: &[u64], c: Counts, k: usize, p: u64) -> bool
 pub fn in_common(w: &[u64], c: Counts, k: usize, p: u64) -> bool
     requires { ⌜
         Fits c (now w) × IsRow (c .edits) k × (namesExisting (recordsOf c (now w)) (slotAt c (now w) k) ≡ true)
+        × AllRise c (now w)
         ⌝ }
     ensures { λ q. ⌜ q ≡ inCommon (recordsOf c (now (w .entry))) k (slotAt c (now (w .entry)) k) p ⌝ }
 {
@@ -137,7 +138,7 @@ pub fn in_common(w: &[u64], c: Counts, k: usize, p: u64) -> bool
 }
 
 pub fn read_end(w: &[u64], c: Counts, k: usize, a: Access) -> u64
-    requires { ⌜ Fits c (now w) × (a .rec < c .records) × (a .from ≤ LAST) ⌝ }
+    requires { ⌜ Fits c (now w) × (a .rec < c .records) × (a .from ≤ LAST) × AllRise c (now w) ⌝ }
     ensures { λ q. ⌜ q ≡ readEnd (ownOn (recordsOf c (now (w .entry))) k a) a ⌝ }
 {
     if a.from == 0 {

@@ -10,12 +10,13 @@ ghost use Rattle.meaning.specs.Points.{own, writes, ownOn, allows, earliest};
 ghost use Rattle.meaning.specs.Sound.{namesExisting};
 ghost use Rattle.tables.specs.Layout.{Fits};
 ghost use Rattle.tables.specs.Decode.{recordsOf, recordAt, slotAt};
+ghost use Rattle.blocking.specs.Search.{AllRise};
 ghost use Rattle.common.specs.Commit.{LeastFrom, Lifted, firstUnder, earlier, upFrom, firstAccesses, Next};
 use crate::LOWEST;
 use crate::allowed::owns_write;
 use crate::allowed::read_end;
-use blocking::larger;
-use blocking::smaller;
+use locks::larger;
+use locks::smaller;
 use types::Access;
 use types::Counts;
 use types::LAST;
@@ -62,7 +63,7 @@ fn up_from(w: &[u64], c: Counts, k: usize, a: Access, low: u64) -> u64
 
 // The least point at or above p that one access allows, or LAST + 1.
 fn next_allowed(w: &[u64], c: Counts, k: usize, p: u64, a: Access) -> u64
-    requires { ⌜ Fits c (now w) × (a .rec < c .records) × (p ≤ suc LAST) ⌝ }
+    requires { ⌜ Fits c (now w) × (a .rec < c .records) × (p ≤ suc LAST) × AllRise c (now w) ⌝ }
     ensures { λ q. ⌜ LeastFrom (λ x. allows (recordsOf c (now (w .entry))) k x a) p q ⌝ }
 {
     let low = larger(p, a.from);
@@ -81,7 +82,7 @@ fn next_allowed(w: &[u64], c: Counts, k: usize, p: u64, a: Access) -> u64
 fn raise(w: &[u64], c: Counts, k: usize, p: u64, j: usize) -> u64
     requires { ⌜
         Fits c (now w) × IsRow (c .edits) k × (namesExisting (recordsOf c (now w)) (slotAt c (now w) k) ≡ true)
-        × (p ≤ suc LAST) × (j ≤ c .accesses)
+        × (p ≤ suc LAST) × (j ≤ c .accesses) × AllRise c (now w)
         ⌝ }
     ensures { λ q. ⌜
         Lifted (λ x. all (allows (recordsOf c (now (w .entry))) k x) (firstAccesses c (now (w .entry)) k j)) p q
@@ -103,7 +104,7 @@ fn raise(w: &[u64], c: Counts, k: usize, p: u64, j: usize) -> u64
 fn lift(w: &[u64], c: Counts, k: usize, p: u64, j: usize) -> u64
     requires { ⌜
         Fits c (now w) × IsRow (c .edits) k × (namesExisting (recordsOf c (now w)) (slotAt c (now w) k) ≡ true)
-        × (p ≤ suc LAST) × (j ≤ c .accesses)
+        × (p ≤ suc LAST) × (j ≤ c .accesses) × AllRise c (now w)
         ⌝ }
     ensures { λ q. ⌜
         LeastFrom (λ x. all (allows (recordsOf c (now (w .entry))) k x) (firstAccesses c (now (w .entry)) k j)) p q
@@ -127,6 +128,7 @@ fn lift_next(w: &[u64], c: Counts, k: usize, p: u64, j: usize, a: Access) -> u64
         Fits c (now w) × IsRow (c .edits) k × (namesExisting (recordsOf c (now w)) (slotAt c (now w) k) ≡ true)
         × (a .rec < c .records) × (p ≤ LAST) × (j < c .accesses) × Next c (now w) k j a
         × LeastFrom (λ x. all (allows (recordsOf c (now w)) k x) (firstAccesses c (now w) k j)) 1 p
+        × AllRise c (now w)
         ⌝ }
     ensures { λ q. ⌜
         LeastFrom (λ x. all (allows (recordsOf c (now (w .entry))) k x) (firstAccesses c (now (w .entry)) k (j + 1))) 1
@@ -150,6 +152,7 @@ fn lift_next(w: &[u64], c: Counts, k: usize, p: u64, j: usize, a: Access) -> u64
 pub fn earliest(w: &[u64], c: Counts, k: usize) -> u64
     requires { ⌜
         Fits c (now w) × IsRow (c .edits) k × (namesExisting (recordsOf c (now w)) (slotAt c (now w) k) ≡ true)
+        × AllRise c (now w)
         ⌝ }
     ensures { λ q. ⌜ q ≡ earliest (recordsOf c (now (w .entry))) k (slotAt c (now (w .entry)) k) ⌝ }
 {

@@ -10,12 +10,13 @@ ghost use Rattle.meaning.specs.Points.{own, writes, ownOn, allows, latest};
 ghost use Rattle.meaning.specs.Sound.{namesExisting};
 ghost use Rattle.tables.specs.Layout.{Fits};
 ghost use Rattle.tables.specs.Decode.{recordsOf, recordAt, slotAt};
+ghost use Rattle.blocking.specs.Search.{AllRise};
 ghost use Rattle.common.specs.Commit.{GreatestTo, Lowered, lastUnder, later, downFrom, firstAccesses, Next};
 use crate::LOWEST;
 use crate::allowed::owns_write;
 use crate::allowed::read_end;
-use blocking::larger;
-use blocking::smaller;
+use locks::larger;
+use locks::smaller;
 use types::Access;
 use types::Counts;
 use types::LAST;
@@ -62,7 +63,7 @@ fn down_from(w: &[u64], c: Counts, k: usize, a: Access, high: u64) -> u64
 
 // The greatest point at or below p that one access allows, or 0.
 fn previous_allowed(w: &[u64], c: Counts, k: usize, p: u64, a: Access) -> u64
-    requires { ⌜ Fits c (now w) × (a .rec < c .records) × (p ≤ LAST) ⌝ }
+    requires { ⌜ Fits c (now w) × (a .rec < c .records) × (p ≤ LAST) × AllRise c (now w) ⌝ }
     ensures { λ q. ⌜ GreatestTo (λ x. allows (recordsOf c (now (w .entry))) k x a) p q ⌝ }
 {
     if p < a.from {
@@ -81,7 +82,7 @@ fn previous_allowed(w: &[u64], c: Counts, k: usize, p: u64, a: Access) -> u64
 fn lower(w: &[u64], c: Counts, k: usize, p: u64, j: usize) -> u64
     requires { ⌜
         Fits c (now w) × IsRow (c .edits) k × (namesExisting (recordsOf c (now w)) (slotAt c (now w) k) ≡ true)
-        × (p ≤ LAST) × (j ≤ c .accesses)
+        × (p ≤ LAST) × (j ≤ c .accesses) × AllRise c (now w)
         ⌝ }
     ensures { λ q. ⌜
         Lowered (λ x. all (allows (recordsOf c (now (w .entry))) k x) (firstAccesses c (now (w .entry)) k j)) p q
@@ -103,7 +104,7 @@ fn lower(w: &[u64], c: Counts, k: usize, p: u64, j: usize) -> u64
 fn sink(w: &[u64], c: Counts, k: usize, p: u64, j: usize) -> u64
     requires { ⌜
         Fits c (now w) × IsRow (c .edits) k × (namesExisting (recordsOf c (now w)) (slotAt c (now w) k) ≡ true)
-        × (p ≤ LAST) × (j ≤ c .accesses)
+        × (p ≤ LAST) × (j ≤ c .accesses) × AllRise c (now w)
         ⌝ }
     ensures { λ q. ⌜
         GreatestTo (λ x. all (allows (recordsOf c (now (w .entry))) k x) (firstAccesses c (now (w .entry)) k j)) p q
@@ -126,6 +127,7 @@ fn sink_next(w: &[u64], c: Counts, k: usize, p: u64, j: usize, a: Access) -> u64
         Fits c (now w) × IsRow (c .edits) k × (namesExisting (recordsOf c (now w)) (slotAt c (now w) k) ≡ true)
         × (a .rec < c .records) × (1 ≤ p) × (j < c .accesses) × Next c (now w) k j a
         × GreatestTo (λ x. all (allows (recordsOf c (now w)) k x) (firstAccesses c (now w) k j)) LAST p
+        × AllRise c (now w)
         ⌝ }
     ensures { λ q. ⌜
         GreatestTo (λ x. all (allows (recordsOf c (now (w .entry))) k x) (firstAccesses c (now (w .entry)) k (j + 1)))
@@ -149,6 +151,7 @@ fn sink_next(w: &[u64], c: Counts, k: usize, p: u64, j: usize, a: Access) -> u64
 pub fn latest(w: &[u64], c: Counts, k: usize) -> u64
     requires { ⌜
         Fits c (now w) × IsRow (c .edits) k × (namesExisting (recordsOf c (now w)) (slotAt c (now w) k) ≡ true)
+        × AllRise c (now w)
         ⌝ }
     ensures { λ q. ⌜ q ≡ latest (recordsOf c (now (w .entry))) k (slotAt c (now (w .entry)) k) ⌝ }
 {

@@ -12,7 +12,8 @@ use Rattle.types.specs.Replies.{locked, refusing}
 use Rattle.meaning.specs.Outcomes.{Outcome, replies, Verdict, pass, refuse, needs, unless, knows, isOpen, hasRecord}
 use Rattle.meaning.specs.Outcomes.{judge, lockRoom}
 use Rattle.meaning.specs.Locking.{lockFrom, lockEnd, lockGranted, withLock, lockVerdict, lockChecks, lockWanted}
-use Rattle.meaning.specs.Locking.{locking}
+use Rattle.meaning.specs.Locking.{lockWantedBy}
+use Rattle.meaning.specs.Locking.{locking, lockingBy}
 use Rattle.types.specs.declared.Extent.{Extent}
 use Rattle.blocking.specs.declared.Blocked.{Blocked}
 use Rattle.blocking.specs.Search.{firstJudged}
@@ -36,23 +37,23 @@ module _ (s : Store) (h r low high : ℕ) (w : Extent) where
   lock-next = lockWanted s (slotOf h) r low high w
 
   pub lock-no-edit : knows s h ≡ false → locking h r low high w s ≡ replies s (refusing 2 [])
-  unfolding locking lockChecks
+  unfolding lockingBy lockChecks
   lock-no-edit e = no-edit s lock-next h lock-rest e
 
   pub lock-ended : knows s h ≡ true → isOpen s h ≡ false → locking h r low high w s ≡ replies s (refusing 3 [])
-  unfolding locking lockChecks
+  unfolding lockingBy lockChecks
   lock-ended e f = edit-ended s lock-next h lock-rest e f
 
   pub lock-no-record : knows s h ≡ true → isOpen s h ≡ true → hasRecord s r ≡ false
       → locking h r low high w s ≡ replies s (refusing 5 [])
-  unfolding locking lockChecks
+  unfolding lockingBy lockChecks
   lock-no-record e f g =
       edit-open s lock-next h lock-rest e f
       ∙ needs-fails s lock-next (hasRecord s r) 5 (needs lock-order 6 lock-above) g
 
   module _ (e : knows s h ≡ true) (f : isOpen s h ≡ true) (g : hasRecord s r ≡ true) where
     lock-edit : locking h r low high w s ≡ unless s (needs lock-order 6 lock-above) lock-next
-    unfolding locking lockChecks
+    unfolding lockingBy lockChecks
     lock-edit =
         edit-open s lock-next h lock-rest e f
         ∙ needs-holds s lock-next (hasRecord s r) 5 (needs lock-order 6 lock-above) g
@@ -101,7 +102,7 @@ module _ (s : Store) (k r low high : ℕ) (w : Extent) where
 
     pub lock-blocked : (n : ℕ) (more : List ℕ) → low ≤ high → refuse n more ≡ refusalBy s (b .by)
         → lockWanted s k r low high w ≡ replies s (refusing n more)
-    unfolding lockWanted lockVerdict
+    unfolding lockWantedBy lockVerdict
     lock-blocked n more order f =
         let i = lock-refused w k (recAt s r) low high order (judged .0) in
         else-fails s lock-made lock-granted n more (judge s r WRITE k lock-first) (needs (lockRoom s) 11 pass)
@@ -110,7 +111,7 @@ module _ (s : Store) (k r low high : ℕ) (w : Extent) where
   module _ (from end : ℕ) (e : Taken from end ≡ lockGrant w s k r low high) where
     lock-taken : lockWanted s k r low high w
         ≡ unless s (needs (lockRoom s) 11 pass) (replies (withLock s r WRITE k from end) (locked from end))
-    unfolding lockGrant lockWanted lockVerdict
+    unfolding lockGrant lockWantedBy lockVerdict
     lock-taken =
         let g = grant-taken lock-granted lock-from lock-end lock-judged from end (sym e) in
         else-holds s lock-made lock-granted (judge s r WRITE k lock-first) (needs (lockRoom s) 11 pass) (g .0)

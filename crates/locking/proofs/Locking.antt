@@ -12,7 +12,7 @@ use Rattle.types.specs.Numbers.{slotOf}
 use Rattle.meaning.specs.Points.{addLock}
 use Rattle.types.specs.Replies.{Reply, locked, refusing}
 use Rattle.meaning.specs.Outcomes.{refuse, knows, isOpen, hasRecord, lockRoom}
-use Rattle.meaning.specs.Locking.{withLock, lockWanted, locking}
+use Rattle.meaning.specs.Locking.{withLock, withLockBy, lockWanted, locking}
 use Rattle.types.specs.declared.Counts.{Counts}
 use Rattle.types.specs.declared.Extent.{Extent}
 use Rattle.meaning.proofs.Lists.{and-in}
@@ -60,7 +60,7 @@ module _ (c : Counts) (w : List ℕ) (R : Ready c w) (k r low high : ℕ) (x : E
         → Becomes c w′ (onLocks (decodeAt c w) r (addLock (record { low = from; high = end; mode = WRITE; owner = k })))
         → p ≡ from → q ≡ end
         → Makes c (lockWanted (decodeAt c w) k r low high x) w w′ (locked p q)
-    unfolding withLock
+    unfolding withLockBy
     wanted-done h w′ p q B i j =
         rw (i, j)
         (makes-done c w (lockWanted (decodeAt c w) k r low high x) w′ (withLock (decodeAt c w) r WRITE k from end)

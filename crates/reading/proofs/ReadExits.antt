@@ -13,7 +13,8 @@ use Rattle.types.specs.Replies.{read, own, again, refusing}
 use Rattle.meaning.specs.Outcomes.{Outcome, replies, Verdict, pass, refuse, orElse, needs, unless, knows, isOpen}
 use Rattle.meaning.specs.Outcomes.{hasRecord, isPoint, judge, accessRoom, lockRoom}
 use Rattle.meaning.specs.Locking.{readVersion, readFrom, readEnd, readGranted, readVerdict, readStore, readNew}
-use Rattle.meaning.specs.Locking.{readOpen, readChecks, reading}
+use Rattle.meaning.specs.Locking.{readNewBy}
+use Rattle.meaning.specs.Locking.{readOpen, readOpenBy, readChecks, reading, readingBy}
 use Rattle.types.specs.declared.Version.{Version}
 use Rattle.types.specs.declared.Access.{Access}
 use Rattle.types.specs.declared.Extent.{Extent}
@@ -34,22 +35,22 @@ module _ (s : Store) (h r m : ℕ) (w : Extent) where
   read-next = readOpen s (slotOf h) r m w
 
   pub read-no-edit : knows s h ≡ false → reading h r m w s ≡ replies s (refusing 2 [])
-  unfolding reading readChecks
+  unfolding readingBy readChecks
   read-no-edit e = no-edit s read-next h read-rest e
 
   pub read-ended : knows s h ≡ true → isOpen s h ≡ false → reading h r m w s ≡ replies s (refusing 3 [])
-  unfolding reading readChecks
+  unfolding readingBy readChecks
   read-ended e f = edit-ended s read-next h read-rest e f
 
   pub read-no-record : knows s h ≡ true → isOpen s h ≡ true → hasRecord s r ≡ false
       → reading h r m w s ≡ replies s (refusing 5 [])
-  unfolding reading readChecks
+  unfolding readingBy readChecks
   read-no-record e f g =
       edit-open s read-next h read-rest e f ∙ needs-fails s read-next (hasRecord s r) 5 (needs (isPoint m) 6 pass) g
 
   module _ (e : knows s h ≡ true) (f : isOpen s h ≡ true) (g : hasRecord s r ≡ true) where
     read-edit : reading h r m w s ≡ unless s (needs (isPoint m) 6 pass) read-next
-    unfolding reading readChecks
+    unfolding readingBy readChecks
     read-edit =
         edit-open s read-next h read-rest e f ∙ needs-holds s read-next (hasRecord s r) 5 (needs (isPoint m) 6 pass) g
 
@@ -62,16 +63,16 @@ module _ (s : Store) (h r m : ℕ) (w : Extent) where
 -- by the open edit of slot k, whose access of the record is a
 module _ (s : Store) (k r m : ℕ) (w : Extent) (a : Access) (e : a ≡ accessOf (editAt s k) r) where
   pub read-own : a .written ≡ true → readOpen s k r m w ≡ replies s (own (a .value))
-  unfolding readOpen
+  unfolding readOpenBy
   read-own f = rw (← e, f)
 
   pub read-again : (v : Version) → a .written ≡ false → 0 < a .from → v ≡ versionOn (recAt s r .versions) (a .from - 1)
       → readOpen s k r m w ≡ replies s (again (a .from - 1) (v .value))
-  unfolding readOpen
+  unfolding readOpenBy
   read-again v f l g = rw (← e, f, lt-ltb 0 (a .from) l, ← g)
 
   pub read-first : a .written ≡ false → a .from ≡ 0 → readOpen s k r m w ≡ readNew s k r m w
-  unfolding readOpen
+  unfolding readOpenBy
   read-first f l = rw (← e, f, l)
 
 -- of a record that the edit has neither written nor read
@@ -97,12 +98,12 @@ module _ (s : Store) (k r m : ℕ) (w : Extent) where
   read-judged = orElse read-granted (judge s r READ k read-blocked-at) read-rooms
 
   pub read-below : ltb (recAt s r .floor) m ≡ false → readNew s k r m w ≡ replies s (refusing 7 [])
-  unfolding readNew readVerdict
+  unfolding readNewBy readVerdict
   read-below e = needs-fails s read-made (ltb (recAt s r .floor) m) 7 read-judged e
 
   module _ (above : ltb (recAt s r .floor) m ≡ true) where
     read-above : readNew s k r m w ≡ unless s read-judged read-made
-    unfolding readNew readVerdict
+    unfolding readNewBy readVerdict
     read-above = needs-holds s read-made (ltb (recAt s r .floor) m) 7 read-judged above
 
     module _ (b : Blocked) (e : Judged b ≡ readGrant w s k r (readFrom s r m) m) where

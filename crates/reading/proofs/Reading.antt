@@ -4,7 +4,7 @@ use mathlib.Core.Path.{_≡_, refl, sym, ap, _∙_}
 use mathlib.Core.Bool.{true, false}
 use mathlib.Core.List.{List, []}
 use native.Mathlib.Omega.{arith}
-use lib.Dec.{leb, ltb}
+use lib.Dec.{ltb}
 use borrow.Author.Tests.{lt-ltb, le-ltb, le-leb, lt-leb}
 use Rattle.chains.specs.Walk.{IsRow}
 use Rattle.types.specs.Limits.{LAST, READ, SLOTS}
@@ -14,7 +14,8 @@ use Rattle.meaning.specs.Points.{addLock}
 use Rattle.types.specs.Replies.{Reply, read, own, again, refusing}
 use Rattle.meaning.specs.Outcomes.{replies, refuse, knows, isOpen, hasRecord, accessRoom, lockRoom}
 use Rattle.meaning.specs.Edits.{withAccess}
-use Rattle.meaning.specs.Locking.{withLock, readVersion, readFrom, readStore, readNew, readOpen, reading}
+use Rattle.meaning.specs.Locking.{withLock, withLockBy, readVersion, readFrom, readStore, readStoreBy, readNew}
+use Rattle.meaning.specs.Locking.{readOpen, reading}
 use Rattle.types.specs.declared.Access.{Access}
 use Rattle.types.specs.declared.Counts.{Counts}
 use Rattle.types.specs.declared.Extent.{Extent}
@@ -68,7 +69,7 @@ module _ (c : Counts) (w : List ℕ) (R : Ready c w) (k r from end : ℕ) (v : V
           → Becomes c w′
           (onLocks (decodeAt c w₁) r (addLock (record { low = from; high = end; mode = READ; owner = k })))
           → p ≡ v .point → q ≡ end → Makes c (readTaken (decodeAt c w) k r from end v) w w′ (read p q (v .value))
-      unfolding readStore withLock
+      unfolding readStoreBy withLockBy
       taken-done w′ p q D i j =
           let m : decodeAt c w′ ≡ readStore (decodeAt c w) k r from end =
           D .means

@@ -14,14 +14,14 @@ returns c =
     let n = c .before .before in
     let s = n .before .before in
     judged-nobody (s .args .c) (now (s .args .w)) _ _ _ _ _ (s .pre .1) (s .pre .2) _ (n .nearest .ensures)
-    (c .if1 .taken)
+    (s .pre .6) (c .if1 .taken)
 
 returns-2 : tie.Need-returns-2
 returns-2 c =
     let n = c .before .before .before .before in
     let s = n .before .before in
-    judged-settled (s .args .c) (now (s .args .w)) _ _ _ _ _ (s .pre .1) (s .pre .2) _ (n .nearest .ensures) (s .pre .5)
-    (c .before .before .if1 .left) (c .if2 .taken)
+    judged-settled (s .args .c) (now (s .args .w)) _ _ _ _ _ (s .pre .1) (s .pre .2) _ (n .nearest .ensures)
+    (s .pre .6) (s .pre .5) (c .before .before .if1 .left) (c .if2 .taken)
 
 version-stands-requires : tie.Need-version-stands-requires
 version-stands-requires c κs = search needs
@@ -30,16 +30,17 @@ returns-3 : tie.Need-returns-3
 returns-3 c =
     let n = c .before .before .before .before .before .before in
     let s = n .before .before in
-    judged-version (s .args .c) (now (s .args .w)) _ _ _ _ _ (s .pre .1) (s .pre .2) _ (n .nearest .ensures) (s .pre .5)
-    (c .before .before .before .before .if1 .left) (c .before .version-stands .ensures) (c .if3 .taken)
+    judged-version (s .args .c) (now (s .args .w)) _ _ _ _ _ (s .pre .1) (s .pre .2) _ (n .nearest .ensures)
+    (s .pre .6) (s .pre .5) (c .before .before .before .before .if1 .left)
+    (c .before .version-stands .ensures) (c .if3 .taken)
 
 returns-4 : tie.Need-returns-4
 returns-4 c =
     let n = c .before .before .before .before .before .before in
     let s = n .before .before in
-    judged-held (s .args .c) (now (s .args .w)) _ _ _ _ _ (s .pre .1) (s .pre .2) _ (n .nearest .ensures) (s .pre .5)
-    (c .before .before .before .before .if1 .left) (c .before .version-stands .ensures) (s .pre .4)
-    (c .before .before .if2 .left) (c .if3 .left)
+    judged-held (s .args .c) (now (s .args .w)) _ _ _ _ _ (s .pre .1) (s .pre .2) _ (n .nearest .ensures)
+    (s .pre .6) (s .pre .5) (c .before .before .before .before .if1 .left)
+    (c .before .version-stands .ensures) (s .pre .4) (c .before .before .if2 .left) (c .if3 .left)
 
 pub first-blocked-spec : {M : Type 1} → statement M
 first-blocked-spec =

@@ -1,14 +1,16 @@
 -- `locking::later_grant` meets its contract: the run from the first free point, or the judgement of low. Rests on
--- Granting.
+-- Granting and Acting of `calls`.
 use denote.Ref.{now}
 use native.Mathlib.Omega.{arith}
-use Rattle.meaning.proofs.JudgeLocking.{proper}
-use Rattle.calls.proofs.Granting.{later-judged, later-taken, later-above}
+use Rattle.calls.proofs.Acting.{all-rise}
+use Rattle.calls.proofs.Granting.{search-needs, later-judged, later-taken, later-above}
 use Rattle.locking.proofs.later_grant.Statement.{statement}
 use Rattle.locking.proofs.later_grant.Tie as tie
 
 first-free-requires : tie.Need-first-free-requires
-first-free-requires c κs = let s = c .before in (s .pre .0 .well .fits, s .pre .1, s .pre .3, s .pre .4)
+first-free-requires c κs =
+    let s = c .before in
+    (s .pre .0 .well .fits, s .pre .1, s .pre .3, s .pre .4, all-rise _ _ (s .pre .0) _ (s .pre .1))
 
 returns : tie.Need-returns
 returns c =
@@ -19,7 +21,7 @@ returns c =
 first-blocked-requires : tie.Need-first-blocked-requires
 first-blocked-requires c κs =
     let s = c .before .before .before in
-    (s .pre .0 .well .fits, s .pre .1, c .if1 .left, s .pre .4, s .pre .5, proper _ (s .pre .0 .store) _)
+    search-needs (s .pre .0) (s .pre .1) (c .if1 .left) (s .pre .4) (s .pre .5)
 
 sub-t11 : tie.Need-sub-t11
 sub-t11 c =

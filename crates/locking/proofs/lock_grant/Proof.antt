@@ -1,16 +1,14 @@
 -- `locking::lock_grant` meets its contract: all points or none, or the run from the first free point. Rests on
 -- Granting.
 use native.Mathlib.Omega.{arith}
-use Rattle.meaning.proofs.JudgeLocking.{proper}
-use Rattle.calls.proofs.Granting.{lock-all-taken, lock-all-judged, lock-part-low}
+use Rattle.calls.proofs.Granting.{search-needs, lock-all-taken, lock-all-judged, lock-part-low}
 use borrow.Author.Needs.{needs}
 use Rattle.locking.proofs.lock_grant.Statement.{statement}
 use Rattle.locking.proofs.lock_grant.Tie as tie
 
 first-blocked-requires : tie.Need-first-blocked-requires
 first-blocked-requires c κs =
-    let s = c .before in
-    (s .pre .0 .well .fits, s .pre .1, s .pre .3, s .pre .4, s .pre .5, proper _ (s .pre .0 .store) _)
+    let s = c .before in search-needs (s .pre .0) (s .pre .1) (s .pre .3) (s .pre .4) (s .pre .5)
 
 enum-told : tie.Need-enum-told
 enum-told c = search needs

@@ -75,8 +75,9 @@ returns-3 c =
     let t = middle in
     wanted-done _ _ (s .pre .0) _ _ _ _ _ _ (g .lock-grant .ensures) _ _
     (t .before .before .before .before .from .given .1)
-    (on (t .before .lock-room .ensures) (t .if1 .left)) _ _ _ (c .before .before .before .before .add-lock .ensures)
-    (c .before .point-of-word .ensures) (c .point-of-word2 .ensures)
+    (on (t .before .lock-room .ensures) (t .if1 .left)) _ _ _
+    (c .before .before .before .before .add-lock .ensures .becomes) (c .before .point-of-word .ensures)
+    (c .point-of-word2 .ensures)
 
 pub lock-wanted-spec : {M : Type 1} → statement M
 lock-wanted-spec =

@@ -81,7 +81,7 @@ returns-3 c =
     (s .pre .1) (s .pre .3))
     (middle .before .before .before .before .before .if1 .left))
     (on (middle .before .before .before .lock-room .ensures) (middle .before .before .if2 .left)) _
-    (middle .set-access .ensures) _ _ _ (c .before .before .before .before .add-lock .ensures)
+    (middle .set-access .ensures) _ _ _ (c .before .before .before .before .add-lock .ensures .becomes)
     (c .before .point-of-word .ensures) (c .point-of-word2 .ensures)
 
 pub read-taken-spec : {M : Type 1} → statement M

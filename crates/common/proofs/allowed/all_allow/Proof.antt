@@ -51,6 +51,7 @@ allows-requires c κs = (
   named-rec _ _ (c .before .before .before .loop .inv .1) (c .before .before .more .ensures)
       (c .before .if1 .taken) (c .access-at .ensures),
   c .before .before .before .before .before .before .pre .3,
+  c .before .before .before .before .before .before .pre .4,
 )
 
 returns : tie.Need-returns Inv-loop μ-loop

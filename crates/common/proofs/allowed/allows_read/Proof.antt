@@ -1,4 +1,5 @@
 -- `common::allowed::allows_read` meets its contract. Rests on Common.
+use native.Mathlib.Omega.{arith}
 use denote.Ref.{now}
 use Rattle.meaning.specs.Points.{ownOn}
 use Rattle.tables.specs.Decode.{recordsOf}
@@ -28,7 +29,14 @@ wide-requires : tie.Need-wide-requires
 wide-requires c κs = search needs
 
 first-free-requires : tie.Need-first-free-requires
-first-free-requires c κs = search needs
+first-free-requires c κs =
+    let s = c .before .before .before .before .before .before .before in (
+      s .pre .0,
+      omega (arith, c .wide .ensures, s .pre .1),
+      omega (arith, s .pre .2, c .before .before .if2 .left),
+      omega arith,
+      s .pre .3 _ (omega (arith, c .wide .ensures, s .pre .1)),
+    )
 
 returns-3 : tie.Need-returns-3
 returns-3 c =

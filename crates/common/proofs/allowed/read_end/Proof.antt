@@ -1,4 +1,5 @@
 -- `common::allowed::read_end` meets its contract. Rests on Reach and Common.
+use native.Mathlib.Omega.{arith}
 use denote.Ref.{now}
 use Rattle.meaning.specs.Points.{ownOn}
 use Rattle.tables.specs.Decode.{recordsOf}
@@ -24,7 +25,14 @@ wide-requires : tie.Need-wide-requires
 wide-requires c κs = search needs
 
 first-free-requires : tie.Need-first-free-requires
-first-free-requires c κs = search needs
+first-free-requires c κs =
+    let s = c .before .before .before .before .before in (
+      s .pre .0,
+      omega (arith, c .wide .ensures, s .pre .1),
+      s .pre .2,
+      omega arith,
+      s .pre .3 _ (omega (arith, c .wide .ensures, s .pre .1)),
+    )
 
 returns-2 : tie.Need-returns-2
 returns-2 c =

@@ -27,6 +27,7 @@ raise-requires c κs = (
   c .before .before .before .pre .2,
   c .before .loop .inv .top,
   c .before .before .before .pre .4,
+  c .before .before .before .pre .5,
 )
 
 returns : tie.Need-returns Inv-loop μ-loop

@@ -6,7 +6,8 @@ use Rattle.common.proofs.lifting.lift_next.Statement.{statement}
 use Rattle.common.proofs.lifting.lift_next.Tie as tie
 
 next-allowed-requires : tie.Need-next-allowed-requires
-next-allowed-requires c κs = (c .before .pre .0, c .before .pre .3, omega (arith, c .before .pre .4))
+next-allowed-requires c κs =
+    (c .before .pre .0, c .before .pre .3, omega (arith, c .before .pre .4), c .before .pre .8)
 
 returns : tie.Need-returns
 returns c =
@@ -25,6 +26,7 @@ raise-requires c κs = (
   c .before .before .before .before .pre .2,
   c .before .before .next-allowed .ensures .top,
   omega (arith, c .before .before .before .before .pre .5),
+  c .before .before .before .before .pre .8,
 )
 
 returns-3 : tie.Need-returns-3
@@ -43,6 +45,7 @@ lift-requires c κs = (
   c .before .before .before .before .before .before .pre .2,
   c .before .raise .ensures .top,
   omega (arith, c .before .before .before .before .before .before .pre .5),
+  c .before .before .before .before .before .before .pre .8,
 )
 
 returns-4 : tie.Need-returns-4

@@ -25,6 +25,7 @@ read-end-requires c κs = (
   c .before .before .before .pre .0,
   c .before .before .before .pre .1,
   omega (arith, c .before .larger .ensures, c .if1 .left),
+  c .before .before .before .pre .3,
 )
 
 up-from-requires : tie.Need-up-from-requires

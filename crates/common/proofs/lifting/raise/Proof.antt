@@ -37,6 +37,7 @@ next-allowed-requires c κs = (
   named-rec _ _ (c .before .before .before .loop .inv .1) (c .before .before .more .ensures)
       (c .before .if1 .taken) (c .access-at .ensures),
   c .before .before .before .loop .inv .0 .turn .top,
+  c .before .before .before .before .before .before .pre .5,
 )
 
 next-access-requires : tie.Need-next-access-requires Inv-loop μ-loop

@@ -46,6 +46,7 @@ sink-next-requires c κs = (
   next-access _ _ _ (c .before .before .before .loop .inv .met)
       (row-of _ _ _ (c .before .before .more .ensures) (c .before .if1 .taken)) (c .access-at .ensures),
   c .before .before .before .loop .inv .best,
+  c .before .before .before .before .before .before .pre .3,
 )
 
 returns : tie.Need-returns Inv-loop μ-loop

@@ -41,6 +41,7 @@ previous-allowed-requires c κs = (
     c .before .before .before .loop .inv .0 .turn .upto,
     c .before .before .before .before .before .before .pre .3,
   ),
+  c .before .before .before .before .before .before .pre .5,
 )
 
 next-access-requires : tie.Need-next-access-requires Inv-loop μ-loop

@@ -19,6 +19,7 @@ read-end-requires c κs = (
   c .before .before .before .pre .0,
   c .before .before .before .pre .1,
   omega (arith, c .before .before .before .pre .2, c .if1 .left),
+  c .before .before .before .pre .3,
 )
 
 sub-smaller : tie.Need-sub-smaller

@@ -26,6 +26,7 @@ lower-requires c κs = (
   c .before .before .before .pre .2,
   omega (arith, c .before .loop .inv .upto, c .before .before .before .pre .3),
   c .before .before .before .pre .4,
+  c .before .before .before .pre .5,
 )
 
 returns : tie.Need-returns Inv-loop μ-loop

@@ -6,7 +6,8 @@ use Rattle.common.proofs.sinking.sink_next.Statement.{statement}
 use Rattle.common.proofs.sinking.sink_next.Tie as tie
 
 previous-allowed-requires : tie.Need-previous-allowed-requires
-previous-allowed-requires c κs = (c .before .pre .0, c .before .pre .3, omega (arith, c .before .pre .7 .upto))
+previous-allowed-requires c κs =
+    (c .before .pre .0, c .before .pre .3, omega (arith, c .before .pre .7 .upto), c .before .pre .8)
 
 returns : tie.Need-returns
 returns c =
@@ -25,6 +26,7 @@ lower-requires c κs = (
   c .before .before .before .before .pre .2,
   omega (arith, c .before .before .previous-allowed .ensures .upto, c .before .before .before .before .pre .7 .upto),
   omega (arith, c .before .before .before .before .pre .5),
+  c .before .before .before .before .pre .8,
 )
 
 returns-3 : tie.Need-returns-3
@@ -48,6 +50,7 @@ sink-requires c κs = (
     c .before .before .before .before .before .before .pre .7 .upto,
   ),
   omega (arith, c .before .before .before .before .before .before .pre .5),
+  c .before .before .before .before .before .before .pre .8,
 )
 
 returns-4 : tie.Need-returns-4
