@@ -3,6 +3,7 @@
 pub mod Steps
 pub mod Counting
 pub mod Falling
+pub mod Passing
 pub mod Reading
 pub mod Backing
 pub mod Stamping

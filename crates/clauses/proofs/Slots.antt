@@ -1,6 +1,6 @@
--- All records and all slots, as loops over their numbers; a free slot without accesses. Rests on Steps and on Builds of
--- the crate `tables`.
-use Prim.Native.Nat.{ℕ, suc, _+_, _-_, _≤_}
+-- All records and all slots, as loops over their numbers; a free slot without accesses. Rests on Steps, on Records and
+-- on Builds of the crate `tables`.
+use Prim.Native.Nat.{ℕ, suc, _+_, _-_, _≤_, _<_}
 use mathlib.Core.Path.{_≡_, refl, sym, ap, _∙_}
 use mathlib.Core.Bool.{Bool, true, false, not}
 use mathlib.Core.List.{List, map}
@@ -11,10 +11,12 @@ use borrow.Author.Tests.{eq-eqb, ne-eqb}
 use Rattle.chains.specs.Lists.{allTo}
 use Rattle.chains.specs.Walk.{more, rows}
 use Rattle.chains.specs.Table.{link, headOf}
-use Rattle.chains.proofs.Bounded.{all-ext}
+use Rattle.chains.proofs.Bounded.{all-ext, all-at, all-all}
 use Rattle.chains.proofs.Parts.{zeros}
 use Rattle.chains.proofs.Walks.{step, stop}
 use Rattle.types.specs.Limits.{MAX-RECORDS, FREE}
+use Rattle.meaning.specs.Lists.{pairwise}
+use Rattle.meaning.specs.Points.{noLater}
 use Rattle.meaning.specs.Sound.{freeIdle, soundRec, soundEdit}
 use Rattle.types.specs.declared.Counts.{Counts}
 use Rattle.meaning.proofs.Lists.{test}
@@ -23,7 +25,8 @@ use Rattle.tables.specs.Layout.{accessTable, accessHeads}
 use Rattle.tables.specs.Decode.{recordAt, slotAt, recordsOf, editsOf}
 use Rattle.tables.proofs.Builds.{allFrom-build}
 use Rattle.tables.proofs.Loops.{accesses-start}
-use Rattle.clauses.specs.Clauses.{Stamps, recordsSound, slotsSound}
+use Rattle.clauses.specs.Clauses.{Stamps, recordsSound, slotsSound, locksPass, allPass}
+use Rattle.clauses.proofs.Records.{locks-rise, rec-passes}
 use Rattle.clauses.proofs.Steps.{or-yes, or-on}
 
 module _ (c : Counts) (w : List ℕ) where
@@ -34,6 +37,21 @@ module _ (c : Counts) (w : List ℕ) where
       (c .records)
       (λ j l. let e : j ≡ 0 + j = omega arith in ap (λ i. soundRec (editsOf c w) i (recordAt c w j)) e)
       ∙ sym (allFrom-build (c .records) 0 (recordAt c w) (soundRec (editsOf c w)))
+
+  -- where the locks of all records pass, those of each do, and they rise; those of sound records pass
+  pub pass-at : allPass c w ≡ true → (r : ℕ) → r < c .records → locksPass (editsOf c w) (recordAt c w r) ≡ true
+  unfolding allPass
+  pass-at h r l = all-at (λ j. locksPass (editsOf c w) (recordAt c w j)) (c .records) r h l
+
+  pub all-rise : allPass c w ≡ true → (r : ℕ) → r < c .records → pairwise noLater (recordAt c w r .locks) ≡ true
+  all-rise h r l = locks-rise (editsOf c w) (recordAt c w r) (pass-at h r l)
+
+  pub sound-pass : recordsSound c w ≡ true → allPass c w ≡ true
+  unfolding allPass
+  sound-pass h =
+      all-all (λ j. locksPass (editsOf c w) (recordAt c w j)) (c .records) (λ j l.
+      rec-passes (editsOf c w) j (recordAt c w j)
+      (all-at (λ i. soundRec (editsOf c w) i (recordAt c w i)) (c .records) j (records-all ∙ h) l))
 
   pub slots-all : allTo (c .edits) (λ j. soundEdit (recordsOf c w) (suc j) (slotAt c w (suc j))) ≡ slotsSound c w
   unfolding slotsSound editsOf

@@ -17,7 +17,10 @@ use Rattle.meaning.specs.Points.{isOwned}
 use Rattle.meaning.specs.Sound.{backs, isPresent, startsRead, stateListed, generationListed, pointListed, freeIdle}
 use Rattle.meaning.specs.Sound.{soundRec, soundEdit}
 use Rattle.types.specs.declared.Counts.{Counts}
-use Rattle.tables.specs.Decode.{recordsOf, editsOf}
+use Rattle.chains.specs.Lists.{allTo}
+use Rattle.tables.specs.Decode.{recordAt, recordsOf, editsOf}
+use Rattle.sweeps.specs.declared.Swept.{Swept}
+use Rattle.sweeps.specs.Sweep.{sweptNow, passing, noSwept}
 
 -- one lock of a record with this floor: its mode, its span and its owner
 abbrev pub modeListed : Lock → Bool
@@ -31,6 +34,10 @@ ownerUsed es l = isOwned SETTLED l || inUse es (l .owner)
 
 unfoldable pub lockSound : List Edit → ℕ → Lock → Bool
 lockSound es floor l = spanLies floor l && (modeListed l && ownerUsed es l)
+
+-- the same in a pass along a record's locks that keeps s of those behind it, and how the lock stands to them
+unfoldable pub lockNow : List Edit → ℕ → Swept → Lock → Bool
+lockNow es floor s l = lockSound es floor l && sweptNow s l
 
 -- a version's point lies below the one before it, at or above the floor, and is not 0
 unfoldable pub fallsBelow : ℕ → ℕ → ℕ → Bool
@@ -83,3 +90,10 @@ recordsSound c w = allFrom 0 (soundRec (editsOf c w)) (recordsOf c w)
 
 unfoldable pub slotsSound : Counts → List ℕ → Bool
 slotsSound c w = allFrom 1 (soundEdit (recordsOf c w)) (editsOf c w)
+
+-- the locks of a record pass, and those of all records
+abbrev pub locksPass : List Edit → Rec → Bool
+locksPass es x = passing (lockNow es (x .floor)) noSwept (x .locks)
+
+unfoldable pub allPass : Counts → List ℕ → Bool
+allPass c w = allTo (c .records) (λ r. locksPass (editsOf c w) (recordAt c w r))

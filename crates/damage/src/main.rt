@@ -1,7 +1,7 @@
-// Formats stores and damages one: each clause of "A store is sound when" is broken by a change of one word, and the
-// verdict of the check is printed, 1 for sound and 0 for not, with what was changed. A damage breaks the clause that
-// its group names and no other; where that cannot be, the comment says why. Rests on the crates `io`, `types`,
-// `tables`, `soundness` and `format`.
+// Formats stores and damages one: each clause of "A store is sound when" is broken by a change of one word, or of those
+// of one lock row and its chain, and the verdict of the check is printed, 1 for sound and 0 for not, with what was
+// changed. A damage breaks the clause that its group names and no other; where that cannot be, the comment says why.
+// Beside what is refused stands what must pass. Rests on the crates `io`, `types`, `tables`, `soundness` and `format`.
 ghost use Prim.Native.Nat.{_<_};
 use tables::A_FROM;
 use tables::A_NEXT;
@@ -149,16 +149,20 @@ fn with_word(state: [u64; 164], i: usize, v: u64) -> [u64; 164] {
     w
 }
 
+fn judge(w: [u64; 164]) {
+    print_verdict(soundness::check(&w));
+}
+
 // The verdict on the state with v in word i.
 fn damage(state: [u64; 164], i: usize, v: u64) {
-    let w = with_word(state, i, v);
-    print_verdict(soundness::check(&w));
+    judge(with_word(state, i, v));
 }
 
 // The state. Record 0 has versions 12, 7 and 5, which is its floor; record 1 has version 3; record 2 version 4, its
 // floor; record 3 none. Edit 1 read record 0 at 7, wrote it and committed at 12; edit 2 read record 1 at 0, wrote
-// record 3 and committed at 1; edit 3 is open and has written record 1; slot 4 is free. Free are the version rows 6 and
-// 7, the lock rows 11 and 12, the access rows 6 to 8.
+// record 3 and committed at 1; edit 3 is open and has written record 1; slot 4 is free. The lock rows 1 to 5 are on the
+// chain of record 0, the rows 6 to 9 on that of record 1, each in rising order of low end. Free are the version rows 6
+// and 7, the lock rows 11 and 12, the access rows 6 to 8.
 
 fn row4(state: [u64; 164], at: usize, a: u64, b: u64, c: u64, d: u64) -> [u64; 164] {
     let mut w = state;
@@ -209,15 +213,15 @@ fn with_versions(state: [u64; 164]) -> [u64; 164] {
 }
 
 fn with_locks(state: [u64; 164]) -> [u64; 164] {
-    let w = row5(state, lock(1, 0), 11, 12, writes(1), 0, 2);
-    let w = row5(w, lock(2, 0), 8, 10, reads(1), 0, 3);
-    let w = row5(w, lock(3, 0), 9, 9, reads(1), 0, 4);
-    let w = row5(w, lock(4, 0), 6, 7, writes(0), 0, 5);
-    let w = row5(w, lock(5, 0), 6, 7, reads(0), 0, 0);
-    let w = row5(w, lock(6, 0), 1, 2, reads(2), 1, 7);
-    let w = row5(w, lock(7, 0), 3, 3, writes(0), 1, 8);
-    let w = row5(w, lock(8, 0), 20, 30, reads(0), 1, 9);
-    let w = row5(w, lock(9, 0), 1, 1, writes(2), 1, 0);
+    let w = row5(state, lock(1, 0), 6, 7, writes(0), 0, 2);
+    let w = row5(w, lock(2, 0), 6, 7, reads(0), 0, 3);
+    let w = row5(w, lock(3, 0), 8, 10, reads(1), 0, 4);
+    let w = row5(w, lock(4, 0), 9, 9, reads(1), 0, 5);
+    let w = row5(w, lock(5, 0), 11, 12, writes(1), 0, 0);
+    let w = row5(w, lock(6, 0), 1, 1, writes(2), 1, 7);
+    let w = row5(w, lock(7, 0), 1, 2, reads(2), 1, 8);
+    let w = row5(w, lock(8, 0), 3, 3, writes(0), 1, 9);
+    let w = row5(w, lock(9, 0), 20, 30, reads(0), 1, 0);
     row5(w, lock(10, 0), 1, 1, writes(2), 3, 0)
 }
 
@@ -310,9 +314,9 @@ fn damage_marks(w: [u64; 164]) {
     print(b"a commit point of a free slot\n");
     damage(w, access(5, A_WRITTEN), 2);
     print(b"a written mark of 2\n");
-    damage(w, lock(8, L_MODE), 3);
+    damage(w, lock(9, L_MODE), 3);
     print(b"a mode of 3\n");
-    damage(w, lock(8, L_MODE), 0);
+    damage(w, lock(9, L_MODE), 0);
     print(b"a mode of 0\n");
 }
 
@@ -344,24 +348,68 @@ fn damage_range(w: [u64; 164]) {
 // "locks lie in floor + 1..LAST with low ≤ high"; "owners are 0 or slots in use"; "no write lock shares a point with a
 // lock of another owner".
 fn damage_locks(w: [u64; 164]) {
-    damage(w, lock(5, L_LOW), 5);
+    damage(w, lock(1, L_LOW), 5);
     print(b"a lock at the floor\n");
-    damage(w, lock(5, L_HIGH), 5);
+    damage(w, lock(2, L_HIGH), 5);
     print(b"a lock with low above high\n");
-    damage(w, lock(8, L_HIGH), LAST + 1);
+    damage(w, lock(9, L_HIGH), LAST + 1);
     print(b"a lock above LAST\n");
-    damage(w, lock(8, L_MODE), reads(4));
+    damage(w, lock(9, L_MODE), reads(4));
     print(b"an owner that is a free slot\n");
-    damage(w, lock(8, L_MODE), reads(5));
+    damage(w, lock(9, L_MODE), reads(5));
     print(b"an owner slot that there is not\n");
-    damage(w, lock(6, L_HIGH), 3);
+    damage(w, lock(7, L_HIGH), 3);
     print(b"a write lock that shares a point with another owner\n");
+}
+
+// Two neighbours of a lock chain swapped: the word at leads to row i, i to row j, and j to the row next.
+fn swapped(state: [u64; 164], at: usize, i: usize, j: usize, next: u64) -> [u64; 164] {
+    let w = with_word(state, at, small(j) as u64);
+    let w = with_word(w, lock(j, L_NEXT), small(i) as u64);
+    with_word(w, lock(i, L_NEXT), next)
+}
+
+// "in rising order of low point, equal low points in any order".
+fn damage_order(w: [u64; 164]) {
+    damage(w, lock(1, L_LOW), 7);
+    print(b"a lock that starts before the one before it\n");
+    judge(swapped(w, record(0, R_LOCK), 1, 2, 3));
+    print(b"two locks with equal low ends, swapped\n");
+    judge(swapped(w, lock(1, L_NEXT), 2, 3, 4));
+    print(b"two locks with other low ends, swapped\n");
+    judge(swapped(w, lock(3, L_NEXT), 4, 5, 0));
+    print(b"the last two locks of a record, swapped\n");
+}
+
+// Row 11 as the last lock of record 1, after the settled read lock 20..30.
+fn with_last(state: [u64; 164], low: u64, high: u64, mode: u64) -> [u64; 164] {
+    let w = with_word(state, FREE_LOCK, 12);
+    let w = with_word(w, lock(9, L_NEXT), 11);
+    row5(w, lock(11, 0), low, high, mode, 1, 0)
+}
+
+// "settled read rows that overlap or adjoin are one row".
+fn damage_joined(w: [u64; 164]) {
+    judge(with_last(w, 30, 40, reads(0)));
+    print(b"settled read locks that share a point\n");
+    judge(with_last(w, 22, 28, reads(0)));
+    print(b"a settled read lock inside another\n");
+    judge(with_last(w, 31, 40, reads(0)));
+    print(b"settled read locks that adjoin\n");
+    judge(with_last(w, 32, 40, reads(0)));
+    print(b"settled read locks with one point between them\n");
+    judge(with_last(w, 20, 30, writes(0)));
+    print(b"a settled write lock on the points of a settled read lock\n");
+    judge(with_last(w, 31, 40, writes(0)));
+    print(b"a settled write lock that adjoins a settled read lock\n");
+    judge(with_last(w, 20, 40, reads(3)));
+    print(b"a read lock of an edit over a settled read lock\n");
 }
 
 // "each version above the floor has a write lock on its point, settled or of an edit that wrote the record and
 // committed at that point".
 fn damage_backing(w: [u64; 164]) {
-    damage(w, lock(7, L_MODE), reads(0));
+    damage(w, lock(8, L_MODE), reads(0));
     print(b"a version under a read lock\n");
     damage(w, version(4, V_POINT), 4);
     print(b"a version off its lock\n");
@@ -369,7 +417,7 @@ fn damage_backing(w: [u64; 164]) {
     print(b"a version whose edit did not write the record\n");
     damage(w, slot(1, S_POINT), 11);
     print(b"a version whose edit committed elsewhere\n");
-    damage(w, lock(7, L_MODE), writes(3));
+    damage(w, lock(8, L_MODE), writes(3));
     print(b"a version whose edit is open\n");
 }
 
@@ -385,9 +433,9 @@ fn damage_accesses(w: [u64; 164]) {
     print(b"a point read that is no version\n");
     damage(w, access(5, A_FROM), 1);
     print(b"a read without a lock\n");
-    damage(w, lock(6, L_MODE), writes(2));
+    damage(w, lock(7, L_MODE), writes(2));
     print(b"a read whose lock is a write lock\n");
-    damage(w, lock(6, L_LOW), 2);
+    damage(w, lock(7, L_LOW), 2);
     print(b"a read whose lock starts later\n");
 }
 
@@ -397,7 +445,7 @@ fn damage_ends(w: [u64; 164]) {
     print(b"a commit point outside the write locks\n");
     damage(w, lock(10, L_MODE), reads(2));
     print(b"a commit point under a read lock only\n");
-    damage(w, lock(2, L_HIGH), 9);
+    damage(w, lock(3, L_HIGH), 9);
     print(b"a commit point past a gap in the own locks\n");
     damage(w, slot(2, S_POINT), 0);
     print(b"a commit point of 0\n");
@@ -415,7 +463,7 @@ fn damage_nothing(w: [u64; 164]) {
     print(b"a value of an unwritten access\n");
     damage(w, slot(4, S_GENERATION), GENERATIONS - 1);
     print(b"a generation of 65535\n");
-    damage(w, lock(8, L_LOW), 3);
+    damage(w, lock(9, L_LOW), 3);
     print(b"a settled lock that shares a point with a settled write lock\n");
 }
 
@@ -476,6 +524,8 @@ fn main() {
     damage_versions(state);
     damage_range(state);
     damage_locks(state);
+    damage_order(state);
+    damage_joined(state);
     damage_backing(state);
     damage_accesses(state);
     damage_ends(state);

@@ -1,28 +1,29 @@
-// The clauses of a record: its locks each and in pairs, its versions, and what backs each version; `records_sound` is
-// all of them for all records. It asks that the slots are sound, for then the marks of `lock_marks` say of each lock
-// whether its owner wrote the record. Rests on the crates `types`, `meaning`, `locks`, `chains`, `tables`, `lookups`
-// and `clauses` and on the module `lock_marks`.
+// The clauses of a record: its locks in one pass, its versions, and what backs each version. `all_pass` is that of the
+// locks of all records, for the clauses of slots need it (`soundness::check`); `records_sound` is the rest, for all
+// records. It asks that the slots are sound, for then the marks of `lock_marks` say of each lock whether its owner
+// wrote the record. Rests on the crates `types`, `meaning`, `locks`, `chains`, `tables`, `lookups`, `sweeps` and
+// `clauses` and on the module `lock_marks`.
 mod lock_marks;
 
 ghost use mathlib.Core.Path.{_≡_};
 ghost use mathlib.Core.Bool.{true};
-ghost use mathlib.Core.List.{map};
 ghost use Prim.Native.Nat.{ℕ, suc, _≤_, _<_};
 ghost use Rattle.chains.specs.Lists.{occ};
-ghost use Rattle.chains.specs.Walk.{IsRow, rows};
-ghost use Rattle.chains.specs.Table.{link};
+ghost use Rattle.chains.specs.Walk.{IsRow};
 ghost use Rattle.types.specs.Limits.{LAST};
-ghost use Rattle.meaning.specs.Lists.{all, any, pairwise};
+ghost use Rattle.meaning.specs.Lists.{all, any};
 ghost use Rattle.meaning.specs.Store.{accessOf};
-ghost use Rattle.meaning.specs.Sound.{agree, wroteAt, backs, soundRec};
-ghost use Rattle.tables.specs.Layout.{Fits, lockTable};
+ghost use Rattle.meaning.specs.Sound.{wroteAt, backs, soundRec};
+ghost use Rattle.tables.specs.Layout.{Fits};
 ghost use Rattle.tables.specs.Decode.{lockAt, versionAt, recordAt, slotAt, editsOf, lockRows};
 ghost use Rattle.tables.specs.Words.{locksParted};
-ghost use Rattle.clauses.specs.Clauses.{modeListed, spanLies, ownerUsed, lockSound, fallsBelow, endsOn};
-ghost use Rattle.clauses.specs.Clauses.{fallsTo, versionsSound, isBacked, recordsSound, slotsSound};
+ghost use Rattle.clauses.specs.Clauses.{modeListed, spanLies, ownerUsed, lockSound, lockNow, locksPass, allPass};
+ghost use Rattle.clauses.specs.Clauses.{fallsBelow, endsOn, fallsTo, versionsSound, isBacked};
+ghost use Rattle.clauses.specs.Clauses.{recordsSound, slotsSound};
 ghost use Rattle.clauses.specs.Marks.{Writers};
 use lock_marks::MARKS;
 use lock_marks::mark_slots;
+use sweeps::Swept;
 use types::COMMITTED;
 use types::Counts;
 use types::LAST;
@@ -64,11 +65,10 @@ fn owner_used(w: &[u64], c: Counts, l: Lock) -> bool
     lookups::slot_used(w, c, l.owner)
 }
 
-fn lock_sound(w: &[u64], c: Counts, floor: u64, i: usize) -> bool
-    requires { ⌜ Fits c (now w) × IsRow (c .locks) i ⌝ }
-    ensures { λ q. ⌜ q ≡ lockSound (editsOf c (now (w .entry))) floor (lockAt c (now (w .entry)) i) ⌝ }
+fn lock_sound(w: &[u64], c: Counts, floor: u64, l: Lock) -> bool
+    requires { ⌜ Fits c (now w) ⌝ }
+    ensures { λ q. ⌜ q ≡ lockSound (editsOf c (now (w .entry))) floor l ⌝ }
 {
-    let l = tables::lock_at(w, c, i);
     if !span_lies(floor, l) {
         return false;
     }
@@ -78,23 +78,51 @@ fn lock_sound(w: &[u64], c: Counts, floor: u64, i: usize) -> bool
     owner_used(w, c, l)
 }
 
-fn locks_sound(w: &[u64], c: Counts, r: usize) -> bool
+// In one pass along their chain: each by itself, and how it stands to those before it (the crate `sweeps`).
+
+fn lock_passes(w: &[u64], c: Counts, floor: u64, s: Swept, l: Lock) -> bool
+    requires { ⌜ Fits c (now w) ⌝ }
+    ensures { λ q. ⌜ q ≡ lockNow (editsOf c (now (w .entry))) floor s l ⌝ }
+{
+    if !lock_sound(w, c, floor, l) {
+        return false;
+    }
+    sweeps::swept_now(s, l)
+}
+
+fn locks_pass(w: &[u64], c: Counts, r: usize) -> bool
     requires { ⌜ Fits c (now w) × (r < c .records) ⌝ }
-    ensures { λ q. ⌜
-        q ≡ all (lockSound (editsOf c (now (w .entry))) (recordAt c (now (w .entry)) r .floor))
-        (recordAt c (now (w .entry)) r .locks)
-        ⌝ }
+    ensures { λ q. ⌜ q ≡ locksPass (editsOf c (now (w .entry))) (recordAt c (now (w .entry)) r) ⌝ }
 {
     let n = c.locks;
     let floor = tables::floor_of(w, c, r);
+    let mut s = sweeps::none_passed();
     let mut cur = tables::first_lock(w, c, r);
     let mut left = n;
     while chains::more(n, left, cur) {
-        if !lock_sound(w, c, floor, cur) {
+        let l = tables::lock_at(w, c, cur);
+        if !lock_passes(w, c, floor, s, l) {
             return false;
         }
+        s = sweeps::passed(s, l);
         cur = tables::next_lock(w, c, cur);
         left -= 1;
+    }
+    true
+}
+
+// The locks of all records. It comes before the clauses of slots and those of versions, which ask for it.
+pub fn all_pass(w: &[u64], c: Counts) -> bool
+    requires { ⌜ Fits c (now w) ⌝ }
+    ensures { λ q. ⌜ q ≡ allPass c (now (w .entry)) ⌝ }
+{
+    let n = c.records;
+    let mut r = 0;
+    while r < n {
+        if !locks_pass(w, c, r) {
+            return false;
+        }
+        r += 1;
     }
     true
 }
@@ -152,54 +180,6 @@ fn versions_sound(w: &[u64], c: Counts, r: usize) -> bool
         return false;
     }
     versions_fall(w, c, r, floor)
-}
-
-// No write lock shares a point with a lock of another owner: every two locks of the record.
-
-fn rows_agree(w: &[u64], c: Counts, l: Lock, i: usize) -> bool
-    requires { ⌜ Fits c (now w) × IsRow (c .locks) i ⌝ }
-    ensures { λ q. ⌜ q ≡ agree l (lockAt c (now (w .entry)) i) ⌝ }
-{
-    locks::agree(l, tables::lock_at(w, c, i))
-}
-
-fn agrees_after(w: &[u64], c: Counts, l: Lock, head: usize, fuel: usize) -> bool
-    requires { ⌜ Fits c (now w) ⌝ }
-    ensures { λ q. ⌜
-        q ≡ all (agree l)
-        (map (lockAt c (now (w .entry))) (rows (link (lockTable c) (now (w .entry))) (c .locks) fuel head))
-        ⌝ }
-{
-    let n = c.locks;
-    let mut cur = head;
-    let mut left = fuel;
-    while chains::more(n, left, cur) {
-        if !rows_agree(w, c, l, cur) {
-            return false;
-        }
-        cur = tables::next_lock(w, c, cur);
-        left -= 1;
-    }
-    true
-}
-
-fn locks_agree(w: &[u64], c: Counts, r: usize) -> bool
-    requires { ⌜ Fits c (now w) × (r < c .records) ⌝ }
-    ensures { λ q. ⌜ q ≡ pairwise agree (recordAt c (now (w .entry)) r .locks) ⌝ }
-{
-    let n = c.locks;
-    let mut cur = tables::first_lock(w, c, r);
-    let mut left = n;
-    while chains::more(n, left, cur) {
-        let nxt = tables::next_lock(w, c, cur);
-        let l = tables::lock_at(w, c, cur);
-        if !agrees_after(w, c, l, nxt, left - 1) {
-            return false;
-        }
-        cur = nxt;
-        left -= 1;
-    }
-    true
 }
 
 // Each version above the floor has a write lock on its point, settled or of an edit that wrote the record and committed
@@ -297,23 +277,22 @@ fn versions_backed(w: &[u64], c: Counts, r: usize, marks: &[u8; MARKS]) -> bool
 // The clauses of a record, and of all records.
 
 fn record_sound(w: &[u64], c: Counts, r: usize, marks: &[u8; MARKS]) -> bool
-    requires { ⌜ Fits c (now w) × (r < c .records) × Writers c (now w) r (now marks) ⌝ }
+    requires { ⌜
+        Fits c (now w) × (r < c .records) × Writers c (now w) r (now marks)
+        × (locksPass (editsOf c (now w)) (recordAt c (now w) r) ≡ true)
+        ⌝ }
     ensures { λ q. ⌜ q ≡ soundRec (editsOf c (now (w .entry))) r (recordAt c (now (w .entry)) r) ⌝ }
 {
-    if !locks_sound(w, c, r) {
-        return false;
-    }
     if !versions_sound(w, c, r) {
-        return false;
-    }
-    if !locks_agree(w, c, r) {
         return false;
     }
     versions_backed(w, c, r, marks)
 }
 
 fn records_sound_with(w: &[u64], c: Counts, marks: &[u8; MARKS]) -> bool
-    requires { ⌜ Fits c (now w) × ((r : ℕ) → r < c .records → Writers c (now w) r (now marks)) ⌝ }
+    requires { ⌜
+        Fits c (now w) × ((r : ℕ) → r < c .records → Writers c (now w) r (now marks)) × (allPass c (now w) ≡ true)
+        ⌝ }
     ensures { λ q. ⌜ q ≡ recordsSound c (now (w .entry)) ⌝ }
 {
     let n = c.records;
@@ -328,7 +307,9 @@ fn records_sound_with(w: &[u64], c: Counts, marks: &[u8; MARKS]) -> bool
 }
 
 pub fn records_sound(w: &[u64], c: Counts) -> bool
-    requires { ⌜ Fits c (now w) × (locksParted c (now w) ≡ true) × (slotsSound c (now w) ≡ true) ⌝ }
+    requires { ⌜
+        Fits c (now w) × (locksParted c (now w) ≡ true) × (slotsSound c (now w) ≡ true) × (allPass c (now w) ≡ true)
+        ⌝ }
     ensures { λ q. ⌜ q ≡ recordsSound c (now (w .entry)) ⌝ }
 {
     let mut marks = [0u8; MARKS];

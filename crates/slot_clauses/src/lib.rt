@@ -1,6 +1,7 @@
 // The clauses of a slot: its words, the records that its accesses name, its reads, and its point; `slots_sound` is all
-// of them for all slots. Rests on the crates `types`, `meaning`, `locks`, `chains`, `tables`, `common` (for the common
-// set) and `clauses`.
+// of them for all slots. It asks that the locks of every record rise, for so does the search for the common set. Rests
+// on the crates `types`, `meaning`, `locks`, `chains`, `tables`, `blocking` (for that a record's locks rise), `common`
+// (for the common set) and `clauses`.
 ghost use mathlib.Core.Path.{_≡_};
 ghost use mathlib.Core.Bool.{true, _||_};
 ghost use Prim.Native.Nat.{_-_, _<_};
@@ -11,6 +12,7 @@ ghost use Rattle.meaning.specs.Lists.{any};
 ghost use Rattle.meaning.specs.Sound.{namesExisting, startsRead, isPresent, pointCommon, freeIdle, soundEdit};
 ghost use Rattle.tables.specs.Layout.{Fits};
 ghost use Rattle.tables.specs.Decode.{lockAt, versionAt, recordAt, slotAt, recordsOf};
+ghost use Rattle.blocking.specs.Search.{AllRise};
 ghost use Rattle.clauses.specs.Clauses.{standsBefore, readSound, accessesSound, slotListed, Stamps, slotsSound};
 use types::ABORTED;
 use types::Access;
@@ -180,6 +182,7 @@ fn slot_listed(w: &[u64], c: Counts, k: usize) -> bool
 fn point_common(w: &[u64], c: Counts, k: usize) -> bool
     requires { ⌜
         Fits c (now w) × IsRow (c .edits) k × (namesExisting (recordsOf c (now w)) (slotAt c (now w) k) ≡ true)
+        × AllRise c (now w)
         ⌝ }
     ensures { λ q. ⌜ q ≡ pointCommon (recordsOf c (now (w .entry))) k (slotAt c (now (w .entry)) k) ⌝ }
 {
@@ -192,7 +195,7 @@ fn point_common(w: &[u64], c: Counts, k: usize) -> bool
 // The clauses of a slot, and of all slots.
 
 fn slot_sound(w: &[u64], c: Counts, k: usize, stamps: &mut [u8; MAX_RECORDS]) -> bool
-    requires { ⌜ Fits c (now w) × IsRow (c .edits) k × Stamps (k - 1) (now stamps) ⌝ }
+    requires { ⌜ Fits c (now w) × IsRow (c .edits) k × Stamps (k - 1) (now stamps) × AllRise c (now w) ⌝ }
     ensures { λ q. ⌜
         (q ≡ soundEdit (recordsOf c (now (w .entry))) k (slotAt c (now (w .entry)) k)) × Stamps k (now (stamps .exit))
         ⌝ }
@@ -207,7 +210,7 @@ fn slot_sound(w: &[u64], c: Counts, k: usize, stamps: &mut [u8; MAX_RECORDS]) ->
 }
 
 fn slots_sound_with(w: &[u64], c: Counts, stamps: &mut [u8; MAX_RECORDS]) -> bool
-    requires { ⌜ Fits c (now w) × Stamps 0 (now stamps) ⌝ }
+    requires { ⌜ Fits c (now w) × Stamps 0 (now stamps) × AllRise c (now w) ⌝ }
     ensures { λ q. ⌜ q ≡ slotsSound c (now (w .entry)) ⌝ }
 {
     let n = c.edits;
@@ -222,7 +225,7 @@ fn slots_sound_with(w: &[u64], c: Counts, stamps: &mut [u8; MAX_RECORDS]) -> boo
 }
 
 pub fn slots_sound(w: &[u64], c: Counts) -> bool
-    requires { ⌜ Fits c (now w) ⌝ }
+    requires { ⌜ Fits c (now w) × AllRise c (now w) ⌝ }
     ensures { λ q. ⌜ q ≡ slotsSound c (now (w .entry)) ⌝ }
 {
     let mut stamps = [0u8; MAX_RECORDS];

@@ -11,7 +11,7 @@ use Rattle.meaning.specs.Records.{goodCounts}
 use Rattle.meaning.specs.Store.{countsOf}
 use Rattle.meaning.specs.Sound.{rowsFit, soundRec, soundEdit, soundStore}
 use Rattle.types.specs.declared.Counts.{Counts}
-use Rattle.meaning.proofs.Lists.{and-in, and-left, and-right, every-at}
+use Rattle.meaning.proofs.Lists.{and-in, and-left, and-right, every-at, not-both, false-in}
 use Rattle.tables.specs.Layout as Layout
 use Rattle.tables.specs.Layout.{HEADER, headerOk, Fits}
 use Rattle.tables.specs.Decode.{recordsOf, editsOf, decodeAt}
@@ -19,7 +19,8 @@ use Rattle.tables.specs.Words.{versionsParted, locksParted, accessesParted, loc
 use Rattle.tables.specs.Words.{formedAt, formed, soundWords}
 use Rattle.tables.proofs.Bridge.{well-at}
 use Rattle.tables.proofs.Header.{header-fits}
-use Rattle.clauses.specs.Clauses.{recordsSound, slotsSound}
+use Rattle.clauses.specs.Clauses.{recordsSound, slotsSound, allPass}
+use Rattle.clauses.proofs.Slots.{sound-pass}
 use Rattle.clauses.proofs.Steps.{and-no, and-on}
 use Rattle.tables.proofs.Header.{size-least}
 use Rattle.tables.proofs.Rooms.{rows-fit, counts-good}
@@ -76,6 +77,13 @@ module _ (w : List ℕ) {h : Bool} (e : h ≡ headerOk w) (z : h ≡ true) where
     checked o =
         and-on (formed-is ∙ o)
         (store-checked c w (well-at c w (fits-read p) (sym eb ∙ o)) ∙ ap (λ d. soundStore (decodeAt d w)) p)
+
+-- where the locks do not pass, a record is not sound
+pub unpassed : (c : Counts) (w : List ℕ) {b : Bool} → b ≡ allPass c w → b ≡ false
+    → false ≡ (slotsSound c w && recordsSound c w)
+unpassed c w e z =
+    sym (false-in (slotsSound c w && recordsSound c w)
+    (λ h. not-both (sound-pass c w (and-right (slotsSound c w) (recordsSound c w) h)) (sym e ∙ z)))
 
 pub header-long : (w : List ℕ) {h : Bool} → h ≡ headerOk w → h ≡ true → HEADER ≤ length w
 header-long w e z = omega (arith, header-fits w (sym e ∙ z) .size, size-least (Layout.countsOf w))

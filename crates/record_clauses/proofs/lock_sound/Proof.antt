@@ -7,17 +7,12 @@ use borrow.Author.Needs.{needs}
 use Rattle.record_clauses.proofs.lock_sound.Statement.{statement}
 use Rattle.record_clauses.proofs.lock_sound.Tie as tie
 
-lock-at-requires : tie.Need-lock-at-requires
-lock-at-requires c κs = search needs
-
 span-lies-requires : tie.Need-span-lies-requires
 span-lies-requires c κs = search needs
 
 returns : tie.Need-returns
 unfolding lockSound
-returns c =
-    rw (sym (c .before .before .lock-at .ensures))
-    (and-no _ (sym (c .before .span-lies .ensures) ∙ not-true _ (c .if1 .taken)))
+returns c = and-no _ (sym (c .before .span-lies .ensures) ∙ not-true _ (c .if1 .taken))
 
 mode-listed-requires : tie.Need-mode-listed-requires
 mode-listed-requires c κs = search needs
@@ -25,9 +20,8 @@ mode-listed-requires c κs = search needs
 returns-2 : tie.Need-returns-2
 unfolding lockSound
 returns-2 c =
-    rw (sym (c .before .before .before .before .lock-at .ensures))
-    (and-on (sym (c .before .before .before .span-lies .ensures) ∙ not-false _ (c .before .before .if1 .left))
-    (and-no _ (sym (c .before .mode-listed .ensures) ∙ not-true _ (c .if2 .taken))))
+    and-on (sym (c .before .before .before .span-lies .ensures) ∙ not-false _ (c .before .before .if1 .left))
+    (and-no _ (sym (c .before .mode-listed .ensures) ∙ not-true _ (c .if2 .taken)))
 
 owner-used-requires : tie.Need-owner-used-requires
 owner-used-requires c κs = search needs
@@ -35,20 +29,11 @@ owner-used-requires c κs = search needs
 returns-3 : tie.Need-returns-3
 unfolding lockSound
 returns-3 c =
-    rw (sym (c .before .before .before .before .before .lock-at .ensures))
-    (and-on
+    and-on
     (sym (c .before .before .before .before .span-lies .ensures) ∙ not-false _ (c .before .before .before .if1 .left))
     (and-on (sym (c .before .before .mode-listed .ensures) ∙ not-false _ (c .before .if2 .left))
-    (c .owner-used .ensures)))
+    (c .owner-used .ensures))
 
 pub lock-sound-spec : {M : Type 1} → statement M
 lock-sound-spec =
-    tie.close
-    (tie.spec
-    lock-at-requires
-    span-lies-requires
-    returns
-    mode-listed-requires
-    returns-2
-    owner-used-requires
-    returns-3)
+    tie.close (tie.spec span-lies-requires returns mode-listed-requires returns-2 owner-used-requires returns-3)

@@ -15,6 +15,7 @@ records-sound-with-requires c κs = (
   writers-new (c .before .before .before .before .args .c) (now (c .before .before .before .before .args .w))
       _ refl (c .before .before .before .before .pre .0) (c .before .before .before .before .pre .1)
       (c .before .before .before .before .pre .2) (c .before .mark-slots .ensures),
+  c .before .before .before .before .pre .3,
 )
 
 returns : tie.Need-returns

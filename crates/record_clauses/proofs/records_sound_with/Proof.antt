@@ -8,7 +8,7 @@ use borrow.Author.Tests.{not-true, not-false}
 use Rattle.meaning.specs.Sound.{soundRec}
 use Rattle.tables.specs.Decode.{recordAt, editsOf}
 use Rattle.clauses.proofs.Counting.{UpTo, up-start, up-again, up-fail, up-end}
-use Rattle.clauses.proofs.Slots.{records-all}
+use Rattle.clauses.proofs.Slots.{records-all, pass-at}
 use Rattle.record_clauses.proofs.records_sound_with.Statement.{statement}
 use Rattle.record_clauses.proofs.records_sound_with.Tie as tie
 
@@ -22,8 +22,13 @@ loop-holds : tie.Need-loop-holds Inv-loop μ-loop
 loop-holds c = up-start
 
 record-sound-requires : tie.Need-record-sound-requires Inv-loop μ-loop
-record-sound-requires c κs =
-    (c .before .before .before .pre .0, omega arith, c .before .before .before .pre .1 _ (omega arith))
+record-sound-requires c κs = (
+  c .before .before .before .pre .0,
+  omega arith,
+  c .before .before .before .pre .1 _ (omega arith),
+  pass-at (c .before .before .before .args .c) (now (c .before .before .before .args .w))
+      (c .before .before .before .pre .2) _ (omega arith),
+)
 
 returns : tie.Need-returns Inv-loop μ-loop
 returns c =

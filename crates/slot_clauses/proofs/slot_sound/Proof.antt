@@ -61,6 +61,7 @@ point-common-requires c κs =
           (start .pre .1 .low)
           (omega (arith, records-length (start .args .c) (now (start .args .w)), start .pre .0 .ranged .records-high))
           (start .pre .2) (sym (c .before .accesses-sound .ensures .0) ∙ not-false _ (c .if2 .left)),
+      start .pre .3,
     )
 
 returns-3 : tie.Need-returns-3

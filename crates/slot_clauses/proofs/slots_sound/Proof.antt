@@ -6,7 +6,7 @@ use Rattle.slot_clauses.proofs.slots_sound.Statement.{statement}
 use Rattle.slot_clauses.proofs.slots_sound.Tie as tie
 
 slots-sound-with-requires : tie.Need-slots-sound-with-requires
-slots-sound-with-requires c κs = (c .before .before .pre, stamps-new _ refl)
+slots-sound-with-requires c κs = (c .before .before .pre .0, stamps-new _ refl, c .before .before .pre .1)
 
 returns : tie.Need-returns
 returns c = search needs

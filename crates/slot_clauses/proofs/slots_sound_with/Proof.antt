@@ -32,6 +32,7 @@ slot-sound-requires c κs = (
   c .before .before .before .before .pre .0,
   record { low = omega arith; high = omega arith },
   stamps-before (c .before .before .loop .inv .1),
+  c .before .before .before .before .pre .2,
 )
 
 returns : tie.Need-returns Inv-loop μ-loop
