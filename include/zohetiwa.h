@@ -121,7 +121,8 @@ uint64_t zohetiwa_settle(uint64_t *words, size_t length, uint64_t handle);
 
 /* Purge a record to b: its newest version at or below b becomes the floor; older versions go, and settled locks up to
  * the floor. `versions` and `locks` count the rows freed, 0 and 0 if there is no such version or it is the floor
- * already. Refusals: 1, 5, 6, 15. */
+ * already. Settled read locks of a record that overlap or adjoin are one row; a row that reaches above the floor loses
+ * its points up to it and is not counted. Refusals: 1, 5, 6, 15. */
 uint64_t zohetiwa_purge(uint64_t *words, size_t length, uint64_t record, uint64_t b, uint64_t *versions,
                         uint64_t *locks);
 

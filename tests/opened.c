@@ -1,8 +1,8 @@
 /* A session in C: zohetiwa_open, then every zohetiwa_in_*, granted and refused; a session opened again after public
- * calls, words that are not sound, and a session without an index. Each call is also made by its public function on a
- * second array, and must tell the same and leave what looks the same; a refused one changes no word. Prints each reply,
- * a word with all numbers that the call has set, or the refusal; .ci/c_session compares them. Prints 'wrong: ..' for
- * what fails. */
+ * calls, joined lock rows, words that are not sound, and a session without an index. Each call is also made by its
+ * public function on a second array, and must tell the same and leave what looks the same; a refused one changes no
+ * word. Prints each reply, a word with all numbers that the call has set, or the refusal; .ci/c_session compares them.
+ * Prints 'wrong: ..' for what fails. */
 #include <inttypes.h>
 #include <stdio.h>
 #include <string.h>
@@ -202,6 +202,32 @@ static void opened_again(void) {
     abort_edit(65, ZOHETIWA_SETTLE);
 }
 
+/* Settled reads that touch are one row: that of edit 65, settled last, takes in the two others. A purge below its end
+ * shortens it, and the next one counts it. */
+static void joined_rows(void) {
+    fresh();
+    open_session("a fresh store");
+    begin();
+    read_up_to(65, 0, 5, ZOHETIWA_ALL);
+    begin();
+    read_up_to(66, 0, 2, ZOHETIWA_ALL);
+    commit_latest(66, ZOHETIWA_SETTLE);
+    lock(65, 0, 5, 5, ZOHETIWA_ALL);
+    write_value(65, 0, 1);
+    commit_latest(65, ZOHETIWA_KEEP);
+    begin();
+    read_up_to(130, 0, 8, ZOHETIWA_ALL);
+    commit_latest(130, ZOHETIWA_SETTLE);
+    settle(65);
+    purge(0, 5);
+    begin();
+    lock(129, 0, 6, 6, ZOHETIWA_ALL); /* 9 */
+    lock(129, 0, 8, 10, ZOHETIWA_PART);
+    write_value(129, 0, 2);
+    commit_latest(129, ZOHETIWA_SETTLE);
+    purge(0, 10);
+}
+
 /* Words that are not sound: 1, and the index stays. */
 static void not_sound(void) {
     for (size_t i = 0; i < ZOHETIWA_INDEX; i++) index_numbers[i] = untouched_numbers[i] = (uint16_t)(i * 7 + 3);
@@ -231,6 +257,7 @@ static void without_index(void) {
 int main(void) {
     all_calls();
     opened_again();
+    joined_rows();
     not_sound();
     without_index();
     return wrong;

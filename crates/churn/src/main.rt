@@ -226,8 +226,8 @@ fn fill_locks(words: &mut [u64; 128], tally: &mut [u64; 32], t: u64) {
     abort(words, tally, b, Finish::Settle);
 }
 
-// An edit that reads record 0 up to t, writes it and asks to commit at t. Committed, it leaves a version and two
-// settled locks.
+// An edit that reads record 0 up to t, writes it and asks to commit at t. Committed, it leaves a version, a settled
+// write lock and a settled read lock, which joins that of the commit before it.
 fn write_at(words: &mut [u64; 128], tally: &mut [u64; 32], t: u64) -> Handle {
     let h = begin(words, tally);
     read(words, tally, h, 0, t);
@@ -255,7 +255,8 @@ fn write_two(words: &mut [u64; 128], tally: &mut [u64; 32], t: u64) -> Handle {
 }
 
 // Versions: 3 rows are free. Two commits take two; the commit that needs two rows is refused by 12, one that needs one
-// is granted; the next is refused by 12. The purge frees 3 version rows and the 6 settled locks.
+// is granted; the next is refused by 12. The purge frees 3 version rows and 4 lock rows: three writes, and one row for
+// the three reads, which adjoin.
 fn fill_versions(words: &mut [u64; 128], tally: &mut [u64; 32], t: u64) {
     write_at(words, tally, plus(t, 1));
     write_at(words, tally, plus(t, 2));

@@ -34,9 +34,11 @@ pub fn table(size: Size) {
         let name = format!("{rounds} of {} rounds of filling", stores::ROUNDS);
         line(&name, size.runs, &stores::filled(rounds));
     }
-    // The check of many locks on one record takes as long as a thousand of the others: fewer runs.
-    for locks in [LARGEST.locks / 8, LARGEST.locks] {
-        let name = format!("{locks} locks of one edit on one record");
-        line(&name, size.runs.min(21), &stores::one_record(locks));
+    for rows in [LARGEST.locks / 8, LARGEST.locks] {
+        line(&format!("{rows} locks of one open edit on one record"), size.runs, &stores::one_record(rows));
+        line(&format!("{rows} locks of one committed edit on one record"), size.runs, &stores::one_committed(rows));
+        // Each version is looked for among the locks: fewer runs.
+        let name = format!("{rows} versions and settled locks on one record");
+        line(&name, size.runs.min(21), &stores::one_written(rows));
     }
 }

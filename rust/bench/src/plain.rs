@@ -1,5 +1,6 @@
 //! The store of document 01 in plain vectors, as fast as that is plainly written: what the proved store is timed
-//! against. It checks nothing of itself, has no layout, and counts rows only to refuse where there is no room.
+//! against. It checks nothing of itself, has no layout, and counts rows only to refuse where there is no room and for
+//! the replies of purges. Its locks are in order and joined, as document 02 (M-105) has them.
 //!
 //! `Plain<true>` keeps an edit's accesses in order, to find one by halving, and lists the records that an edit has
 //! locked, to settle it by these alone. The layout has neither; `Plain<false>` does without them too.
@@ -164,7 +165,7 @@ impl<const INDEXED: bool> Plain<INDEXED> {
     }
 
     fn add_lock(&mut self, record: usize, lock: Lock) {
-        self.records[record].locks.push(lock);
+        self.records[record].lock(lock);
         self.locks += 1;
     }
 
@@ -188,14 +189,14 @@ impl<const INDEXED: bool> Plain<INDEXED> {
         for access in edit.accesses.drain(..) {
             let State::Committed(high) = edit.state else { break };
             let record = &mut self.records[access.record as usize];
+            self.locks -= record.rows();
             if access.from > 0 {
-                record.locks.push(Lock { low: access.from, high, mode: Mode::Read, owner: 0 });
-                self.locks += 1;
+                record.leave_read(access.from, high);
             }
             if access.written {
-                record.locks.push(Lock { low: high, high, mode: Mode::Write, owner: 0 });
-                self.locks += 1;
+                record.lock(Lock { low: high, high, mode: Mode::Write, owner: 0 });
             }
+            self.locks += record.rows();
         }
         edit.state = State::Free;
         self.free |= 1 << (slot - 1);

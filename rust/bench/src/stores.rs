@@ -60,19 +60,63 @@ pub fn filled(rounds: u64) -> Vec<u64> {
     words
 }
 
-/// The largest store with that many locks of one open edit on record 0, at one point each. The rows are written by the
-/// layout of document 01, since each Lock would check the whole store again.
+/// Where the parts of the largest store begin, by the layout of document 01.
+const SLOTS: usize = 8 + 3 * LARGEST.records;
+const VERSIONS: usize = SLOTS + 4 * LARGEST.edits;
+const LOCKS: usize = VERSIONS + 4 * LARGEST.versions;
+const ACCESSES: usize = LOCKS + 5 * LARGEST.locks;
+
+/// The header's first free row of each table, and the first rows of record 0.
+const FREE_VERSION: usize = 5;
+const FREE_LOCK: usize = 6;
+const FREE_ACCESS: usize = 7;
+const FIRST_VERSION: usize = 8;
+const FIRST_LOCK: usize = 9;
+
+/// The row after this one in a chain of the first `last` rows; after the last of all rows none is free.
+fn next(row: usize, last: usize) -> u64 {
+    if row == last { 0 } else { row as u64 + 1 }
+}
+
+/// The largest store with the first `locks` lock rows on record 0, each with the low and high point, the mode and the
+/// owner that `row` makes of its number. The rows are written by the layout of document 01, since each call would check
+/// the whole store again.
+fn with_locks(mut words: Vec<u64>, locks: usize, row: impl Fn(u64) -> (u64, u64, u64)) -> Vec<u64> {
+    for i in 1..=locks {
+        let (low, high, mode) = row(i as u64);
+        words[LOCKS + 5 * (i - 1)..LOCKS + 5 * i].copy_from_slice(&[low, high, mode, 0, next(i, locks)]);
+    }
+    words[FIRST_LOCK] = 1;
+    words[FREE_LOCK] = next(locks, LARGEST.locks);
+    words
+}
+
+/// That many locks of one open edit on record 0, at one point each.
 pub fn one_record(locks: usize) -> Vec<u64> {
     let mut words = fresh(LARGEST);
     begin(&mut words).expect("an edit");
-    let (first_lock, first_free, write_by_slot_1) = (8 + 1, 6, 2 + 4);
-    let rows = 8 + 3 * LARGEST.records + 4 * LARGEST.edits + 4 * LARGEST.versions;
-    for row in 1..=locks {
-        let next = if row == locks { 0 } else { row + 1 };
-        let fields = [row as u64, row as u64, write_by_slot_1, 0, next as u64];
-        words[rows + 5 * (row - 1)..rows + 5 * row].copy_from_slice(&fields);
+    with_locks(words, locks, |i| (i, i, 2 + 4))
+}
+
+/// The same of a committed edit that read record 0 at 0: all of them lie between that and its point.
+pub fn one_committed(locks: usize) -> Vec<u64> {
+    let mut words = fresh(LARGEST);
+    begin(&mut words).expect("an edit");
+    let mut words = with_locks(words, locks, |i| (i, i, if i == 1 { 1 + 4 } else { 2 + 4 }));
+    words[SLOTS..SLOTS + 4].copy_from_slice(&[2, 1, 1, locks as u64]);
+    words[ACCESSES..ACCESSES + 5].copy_from_slice(&[0, 1, 0, 0, 0]);
+    words[FREE_ACCESS] = next(1, LARGEST.accesses);
+    words
+}
+
+/// That many versions of record 0, each under a settled write lock.
+pub fn one_written(rows: usize) -> Vec<u64> {
+    let mut words = with_locks(fresh(LARGEST), rows, |i| (i, i, 2));
+    for i in 1..=rows {
+        let point = (rows + 1 - i) as u64;
+        words[VERSIONS + 4 * (i - 1)..VERSIONS + 4 * i].copy_from_slice(&[point, point, 0, next(i, rows)]);
     }
-    words[first_lock] = 1;
-    words[first_free] = if locks == LARGEST.locks { 0 } else { locks as u64 + 1 };
+    words[FIRST_VERSION] = 1;
+    words[FREE_VERSION] = next(rows, LARGEST.versions);
     words
 }

@@ -28,6 +28,10 @@ pub enum Kind {
     Shifted,
     /// Two words: a point read and the low end of its read lock shift together.
     ReadShifted,
+    /// Three words: two neighbours on the chain of a record's locks change places.
+    Swapped,
+    /// Seven or eight words: a settled read lock becomes two, which overlap, adjoin or leave a gap of one point.
+    Split,
 }
 
 /// How often each kind is taken: points and owners more, as most of the clauses are about them.
@@ -54,7 +58,7 @@ const KINDS: [Kind; 20] = [
     Kind::Value,
 ];
 
-pub const ALL: [Kind; 18] = [
+pub const ALL: [Kind; 20] = [
     Kind::Count,
     Kind::Head,
     Kind::Link,
@@ -73,6 +77,8 @@ pub const ALL: [Kind; 18] = [
     Kind::Lowered,
     Kind::Shifted,
     Kind::ReadShifted,
+    Kind::Swapped,
+    Kind::Split,
 ];
 
 /// A changed word.
@@ -184,7 +190,7 @@ impl Tables {
                 0 => self.accesses.word(3, random),
                 word => self.versions.word(word as usize, random),
             },
-            Kind::Moved | Kind::Lowered | Kind::Shifted | Kind::ReadShifted => {
+            Kind::Moved | Kind::Lowered | Kind::Shifted | Kind::ReadShifted | Kind::Swapped | Kind::Split => {
                 unreachable!("changes of several words have no one place")
             }
         }
@@ -299,16 +305,75 @@ impl Tables {
         }
         None
     }
+
+    /// The places of all words that lead to a lock of a record: the head of its chain or the link of the lock before.
+    fn leads(&self, words: &[u64]) -> Vec<usize> {
+        let mut leads = vec![];
+        for record in 1..=self.records.count as u64 {
+            let mut lead = self.records.at(record) + 1;
+            while words[lead] != 0 {
+                leads.push(lead);
+                lead = self.locks.at(words[lead]) + 4;
+            }
+        }
+        leads
+    }
+
+    /// Two neighbours on a chain of locks change places. `None` if no record has two locks.
+    fn swapped(&self, words: &mut [u64], random: &mut Random) -> Option<Change> {
+        let mut leads = self.leads(words);
+        leads.retain(|&lead| words[self.locks.at(words[lead]) + 4] != 0);
+        if leads.is_empty() {
+            return None;
+        }
+        let at = random.pick(&leads);
+        let first = self.locks.at(words[at]) + 4;
+        let second = self.locks.at(words[first]) + 4;
+        let row = words[at];
+        (words[at], words[first], words[second]) = (words[first], words[second], row);
+        Some(Change { kind: Kind::Swapped, at, word: words[at] })
+    }
+
+    /// Splits a settled read lock, with a free row put where the order has it. `None` if no such lock has three points,
+    /// or if no row is free.
+    fn split(&self, words: &mut [u64], random: &mut Random) -> Option<Change> {
+        let mut leads = self.leads(words);
+        leads.retain(|&lead| {
+            let lock = self.locks.at(words[lead]);
+            words[lock + 2] == 1 && words[lock + 1] - words[lock] >= 2
+        });
+        let free = words[6];
+        if leads.is_empty() || free == 0 {
+            return None;
+        }
+        let first = self.locks.at(words[random.pick(&leads)]);
+        let second = self.locks.at(free);
+        let (low, high) = (words[first], words[first + 1]);
+        let end = low + random.from(0, high - low - 2);
+        let start = end + random.from(0, 2);
+        words[6] = words[second + 4];
+        words[first + 1] = end;
+        let mut lead = first + 4;
+        while words[lead] != 0 && words[self.locks.at(words[lead])] < start {
+            lead = self.locks.at(words[lead]) + 4;
+        }
+        let row = [start, high, 1, words[first + 3], words[lead]];
+        words[second..second + 5].copy_from_slice(&row);
+        words[lead] = free;
+        Some(Change { kind: Kind::Split, at: first + 1, word: end })
+    }
 }
 
-/// Changes so many words: each by itself, or where it is 3 also two or three that belong together.
+/// Changes so many words: each by itself, or where it is 3 also two or more that belong together.
 pub fn some(words: &mut [u64], many: u64, random: &mut Random) -> Vec<Change> {
     let tables = Tables::new(words);
-    if many == 3 && random.percent(50) {
-        let together = match random.from(0, 3) {
+    if many == 3 && random.percent(70) {
+        let together = match random.from(0, 5) {
             0 => tables.moved(words, random),
             1 => tables.lowered(words, random),
             2 => tables.shifted(words, random),
+            3 => tables.swapped(words, random),
+            4 => tables.split(words, random),
             _ => tables.read_shifted(words, random),
         };
         if let Some(change) = together {

@@ -1,7 +1,7 @@
-//! Damaged stores: stores made by random calls through the wrapper, with 0 to 3 words changed at random. A call is
-//! refused with 1 exactly if the model's `words::sound` says no; every other call gives the model's reply and leaves
-//! words that mean the model's store. A session opens on the same words exactly if the model says yes, and its calls
-//! reply and leave the same; if it does not open the index is as it was.
+//! Damaged stores: stores made by random calls through the wrapper, with 0 to 3 words changed at random, or some that
+//! belong together. A call is refused with 1 exactly if the model's `words::sound` says no; every other call gives the
+//! model's reply and leaves words that mean the model's store. A session opens on the same words exactly if the model
+//! says yes, and its calls reply and leave the same; if it does not open the index is as it was.
 //!
 //!     damaged STORES FILE     exits with 1 at the first difference, and keeps it in FILE with the words
 

@@ -1,26 +1,39 @@
-//! How often random scripts reach each reply, and how often their charts were compared.
+//! How often random scripts reach each reply and each join of lock rows, and how often their charts were compared.
 
 use crate::charts::Compared;
 use crate::generate;
+use crate::joined::Joined;
 use crate::script::Session;
 use std::collections::BTreeMap;
 
-/// Answers by kind, and by the letter of the call and kind; comparisons of charts, if these were checked.
+/// Answers by kind, and by the letter of the call and kind; comparisons of charts and joins, if these were checked.
 #[derive(Default)]
 pub struct Counted {
     pub kinds: BTreeMap<String, u64>,
     pub by_letter: BTreeMap<String, u64>,
     pub compared: Compared,
+    pub joined: Joined,
 }
 
 /// How often each comparison of charts has to be made: a check that compared nothing shows nothing.
 const ENOUGH: u64 = 1_000;
+/// How often each join has to come.
+const ENOUGH_JOINS: u64 = 50;
 
 impl Counted {
     pub fn compared_enough(&self) -> Result<(), String> {
         for (kind, count) in self.compared.counts() {
             if count < ENOUGH {
                 return Err(format!("compared only {count} times: {kind}"));
+            }
+        }
+        Ok(())
+    }
+
+    pub fn joined_enough(&self) -> Result<(), String> {
+        for (kind, count) in self.joined.counts() {
+            if count < ENOUGH_JOINS {
+                return Err(format!("came only {count} times: {kind}"));
             }
         }
         Ok(())
@@ -55,6 +68,7 @@ pub fn count(seeds: u64, lines: usize, check: bool) -> Result<Counted, String> {
         }
         session.finish().map_err(|e| format!("seed {seed}: {e}"))?;
         counted.compared.add(session.compared);
+        counted.joined.add(session.joined);
     }
     Ok(counted)
 }

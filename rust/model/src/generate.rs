@@ -64,6 +64,38 @@ pub struct Generator {
     malformed: bool,
 }
 
+/// Lines that go together, with a run of the store that they are said to, so that their handles are known.
+struct Lines {
+    session: Session,
+    said: Vec<String>,
+}
+
+impl Lines {
+    fn say(&mut self, line: String) -> String {
+        // Without its check a session never fails.
+        let answer = self.session.line(line.as_bytes()).unwrap_or_default();
+        self.said.push(line);
+        answer
+    }
+
+    /// The handle of a new edit.
+    fn begin(&mut self) -> Option<u64> {
+        let answer = self.say("B".to_string());
+        answer.strip_prefix("edit ")?.parse().ok()
+    }
+
+    fn newest(&self, record: u64) -> u64 {
+        newest(self.session.store.as_ref(), record)
+    }
+}
+
+fn newest(store: Option<&Store>, record: u64) -> u64 {
+    let record = store.and_then(|s| s.records.get(usize::try_from(record).ok()?));
+    record
+        .and_then(|r| r.versions.first())
+        .map_or(0, |v| v.point)
+}
+
 /// The letters of the calls on a store, by mood.
 const MOODS: [&[u8]; 6] = [
     b"BBWWWLLLLRRRRCCASPPVV",
@@ -188,6 +220,11 @@ impl Generator {
             5..=29 => self.point_of_version(),
             _ => self.base + self.random.from(0, self.width),
         }
+    }
+
+    /// The point of the record's newest version, 0 if it has none or there is no such record.
+    fn newest(&self, record: u64) -> u64 {
+        newest(self.store(), record)
     }
 
     /// The point of some version, or one beside it; floors are versions too.
@@ -329,6 +366,46 @@ impl Generator {
         ]
     }
 
+    /// Whole edits above a record's newest version: some read and are settled at once, some write too and are mostly
+    /// kept, and settled when others have read what they wrote. So settled read rows touch, or nearly, and a row that
+    /// settling leaves comes to stand between two others.
+    fn edits_in_a_row(&mut self) -> Vec<String> {
+        let record = self.record();
+        let mut lines = Lines {
+            session: Session::new(false),
+            said: vec![],
+        };
+        lines.session.store = self.store().cloned();
+        let mut kept = vec![];
+        let mut top = self.newest(record);
+        for _ in 0..self.random.from(3, 6) {
+            let Some(handle) = lines.begin() else { break };
+            let (low, high) = (top + self.random.from(1, 2), top + self.random.from(2, 4));
+            let writes = self.random.percent(50);
+            if !writes || self.random.percent(75) {
+                let want = self.want();
+                lines.say(format!("R {handle} {record} {high} {want}"));
+            }
+            if !writes {
+                lines.say(format!("C {handle} L S"));
+                continue;
+            }
+            let value = self.value();
+            lines.say(format!("L {handle} {record} {low} {high} P"));
+            lines.say(format!("W {handle} {record} {value}"));
+            let (at, end) = self
+                .random
+                .pick(&[("L", "K"), ("L", "K"), ("E", "K"), ("E", "S")]);
+            lines.say(format!("C {handle} {at} {end}"));
+            kept.extend((end == "K").then_some(handle));
+            top = top.max(lines.newest(record));
+        }
+        for handle in kept {
+            lines.say(format!("S {handle}"));
+        }
+        lines.said
+    }
+
     /// A line spoilt, or bent in a way that is still good (zeros in front, 200 bytes).
     fn bend(&mut self, line: String) -> Vec<u8> {
         let bytes = line.clone().into_bytes();
@@ -395,6 +472,10 @@ impl Generator {
         };
         if letter == b'W' && self.random.percent(50) {
             let lines = self.write_and_lock();
+            return lines.into_iter().map(String::into_bytes).collect();
+        }
+        if begun && letter == b'R' && self.random.percent(30) {
+            let lines = self.edits_in_a_row();
             return lines.into_iter().map(String::into_bytes).collect();
         }
         let line = self.call_line(letter);

@@ -4,8 +4,8 @@
 //!     model gen SEED LINES [--plain]       prints a random script
 //!     model stats SEEDS LINES [--check]    counts the replies to the scripts of seeds 1..SEEDS
 //!
-//! With --check it judges each step and each history; `stats` then also counts the comparisons of charts, and fails if
-//! they are few.
+//! With --check it judges each step and each history; `stats` then also counts the comparisons of charts and the joins
+//! of lock rows, and fails if they are few.
 
 #![forbid(unsafe_code)]
 
@@ -21,10 +21,12 @@ fn stats(seeds: u64, lines: usize, check: bool) -> Result<(), String> {
     if !check {
         return Ok(());
     }
-    for (kind, count) in counted.compared.counts() {
+    let compared = counted.compared.counts();
+    for (kind, count) in compared.iter().chain(&counted.joined.counts()) {
         println!("{count:>9}  {kind}");
     }
-    counted.compared_enough()
+    counted.compared_enough()?;
+    counted.joined_enough()
 }
 
 fn generate(seed: u64, lines: usize, plain: bool) -> Result<(), String> {

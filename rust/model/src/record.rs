@@ -1,5 +1,6 @@
 //! One record: its versions, its locks and its floor.
 //!
+//! Locks stand in a table of one row each (`Table`); the questions about points do not depend on which.
 //! Sets of points are given by a test for one point. Such a test changes only at the ends of
 //! locks, so the least point of a set is found among those ends.
 
@@ -30,6 +31,29 @@ impl Lock {
     pub fn covers(&self, point: u64) -> bool {
         self.low <= point && point <= self.high
     }
+
+    pub fn is_settled_read(&self) -> bool {
+        self.owner == 0 && self.mode == Mode::Read
+    }
+
+    /// Do the two overlap or adjoin? There is a point between them if not.
+    pub fn touches(&self, other: &Lock) -> bool {
+        let (first, second) = if self.low <= other.low {
+            (self, other)
+        } else {
+            (other, self)
+        };
+        second.low <= first.high || second.low - first.high == 1
+    }
+}
+
+/// How a record's lock rows stand.
+#[derive(Clone, Copy, Debug, PartialEq, Eq)]
+pub enum Table {
+    /// Document 01: a row for each lock, in the order in which they came.
+    Plain,
+    /// Document 02, M-105: in rising order of low point, and settled read rows that overlap or adjoin are one row.
+    Joined,
 }
 
 #[derive(Clone, Debug, PartialEq, Eq)]
@@ -41,6 +65,29 @@ pub struct Record {
 }
 
 impl Record {
+    /// Brings the rows, whatever they are, into the form of the table: sorts them all, then goes up once and lengthens
+    /// the last settled read row by each that touches it.
+    pub fn tidy(&mut self, table: Table) {
+        if table == Table::Plain {
+            return;
+        }
+        self.locks.sort_by_key(|l| l.low);
+        let mut rows: Vec<Lock> = vec![];
+        let mut last = None;
+        for lock in self.locks.drain(..) {
+            match last.map(|i: usize| &mut rows[i]) {
+                Some(read) if lock.is_settled_read() && read.touches(&lock) => {
+                    read.high = read.high.max(lock.high);
+                    continue;
+                }
+                _ if lock.is_settled_read() => last = Some(rows.len()),
+                _ => {}
+            }
+            rows.push(lock);
+        }
+        self.locks = rows;
+    }
+
     /// The newest version at or below a point.
     pub fn newest_at(&self, point: u64) -> Option<Version> {
         self.versions.iter().copied().find(|v| v.point <= point)

@@ -1,6 +1,8 @@
 //! The script program: bytes in, one line out for each line in.
 
 use crate::charts::{self, Compared, View};
+use crate::joined::Joined;
+use crate::record::Table;
 use crate::reply::{Answer, At, End, Refusal, Reply, Value, Want};
 use crate::serial;
 use crate::sound;
@@ -124,6 +126,8 @@ pub fn show(reply: Reply) -> String {
 /// A run of the script program; with `check` it also judges every step.
 pub struct Session {
     pub store: Option<Store>,
+    /// The lock rows of the stores that a Format makes.
+    table: Table,
     check: bool,
     /// The calls since the last Format that succeeded. Only kept for the check.
     list: Vec<(Call, Reply)>,
@@ -131,16 +135,25 @@ pub struct Session {
     charts: Vec<View>,
     /// How often the check has compared charts.
     pub compared: Compared,
+    /// Which joins of lock rows the check has met.
+    pub joined: Joined,
 }
 
 impl Session {
     pub fn new(check: bool) -> Session {
+        Session::with(Table::Joined, check)
+    }
+
+    /// A run on stores whose lock rows are of this form.
+    pub fn with(table: Table, check: bool) -> Session {
         Session {
             store: None,
+            table,
             check,
             list: vec![],
             charts: vec![],
             compared: Compared::default(),
+            joined: Joined::default(),
         }
     }
 
@@ -164,7 +177,7 @@ impl Session {
     fn obey(&mut self, call: Call) -> Answer {
         match (call, &mut self.store) {
             (Call::Format(counts), place) => {
-                let fresh = Store::format(counts)?;
+                let fresh = Store::format_as(self.table, counts)?;
                 if counts.words() > MOST_WORDS {
                     return Err(Refusal::BadFormat);
                 }
@@ -206,6 +219,9 @@ impl Session {
             self.list.clear();
             self.charts.clear();
         } else {
+            if let (Some(before), Some(after)) = (&before, &self.store) {
+                self.joined.step(before, after);
+            }
             self.list.push((call, reply));
             if let (Some(store), true) = (&self.store, charts::is_due(&self.list)) {
                 self.charts.extend(charts::chart(&self.list, store)?);

@@ -1,7 +1,7 @@
 //! "A store is sound when", each clause that speaks of the meaning.
 //! What the vectors cannot say wrongly (chains, written marks, modes) is left to `words`.
 
-use crate::record::{Lock, Mode, Record};
+use crate::record::{Lock, Mode, Record, Table};
 use crate::store::{State, Store, LAST};
 
 /// The first clause that fails, in words.
@@ -11,6 +11,9 @@ pub fn check(store: &Store) -> Result<(), String> {
         let at = |text: &str| format!("record {r}: {text}");
         versions(record).map_err(|e| at(&e))?;
         locks(store, record).map_err(|e| at(&e))?;
+        if store.table == Table::Joined {
+            joined(&record.locks).map_err(|e| at(&e))?;
+        }
         owned_versions(store, r).map_err(|e| at(&e))?;
     }
     for slot in 1..=store.counts.edits {
@@ -76,6 +79,22 @@ fn locks(store: &Store, record: &Record) -> Result<(), String> {
         that(
             record.locks.iter().all(|other| may_stand(lock, other)),
             "a write lock shares a point with a lock of another owner",
+        )?;
+    }
+    Ok(())
+}
+
+/// Lows rise, equal ones in any order, and no two settled read rows overlap or adjoin.
+fn joined(locks: &[Lock]) -> Result<(), String> {
+    that(
+        locks.windows(2).all(|w| w[0].low <= w[1].low),
+        "locks do not rise",
+    )?;
+    let reads: Vec<&Lock> = locks.iter().filter(|l| l.is_settled_read()).collect();
+    for (i, read) in reads.iter().enumerate() {
+        that(
+            reads[i + 1..].iter().all(|other| !read.touches(other)),
+            "two settled read rows that should be one",
         )?;
     }
     Ok(())

@@ -1,9 +1,10 @@
-//! The shared plan store of document 01, kept in vectors.
+//! The shared plan store of document 01, kept in vectors; its lock rows are those of document 02 (M-105), or of
+//! document 01 alone, for a comparison of the two.
 //!
 //! The call Point has no script line and is left out.
 //! Rows are only counted: a vector's length is the number of rows in use.
 
-use crate::record::{Lock, Mode, Record, Version};
+use crate::record::{Lock, Mode, Record, Table, Version};
 use crate::reply::{Answer, At, End, Refusal, Reply, Want};
 
 pub const LAST: u64 = (1 << 46) - 1;
@@ -64,6 +65,7 @@ pub struct Edit {
 #[derive(Clone, Debug, PartialEq, Eq)]
 pub struct Store {
     pub counts: Counts,
+    pub table: Table,
     pub records: Vec<Record>,
     /// Slot s is `edits[s - 1]`.
     pub edits: Vec<Edit>,
@@ -72,6 +74,11 @@ pub struct Store {
 impl Store {
     /// Format: an empty store, or 16.
     pub fn format(counts: Counts) -> Result<Store, Refusal> {
+        Store::format_as(Table::Joined, counts)
+    }
+
+    /// The same, with a table of lock rows of this form.
+    pub fn format_as(table: Table, counts: Counts) -> Result<Store, Refusal> {
         if !counts.in_range() {
             return Err(Refusal::BadFormat);
         }
@@ -87,6 +94,7 @@ impl Store {
         };
         Ok(Store {
             counts,
+            table,
             records: vec![record; counts.records as usize],
             edits: vec![edit; counts.edits as usize],
         })
@@ -133,12 +141,13 @@ impl Store {
             },
         };
         self.lock_room()?;
-        self.records[record].locks.push(Lock {
+        let lock = Lock {
             low: first,
             high: end,
             mode: Mode::Write,
             owner: slot,
-        });
+        };
+        self.add_lock(record, lock);
         Ok(Reply::Locked(first, end))
     }
 
@@ -170,12 +179,13 @@ impl Store {
         };
         self.access_room(slot, record)?;
         self.lock_room()?;
-        self.records[record].locks.push(Lock {
+        let lock = Lock {
             low: tr + 1,
             high: end,
             mode: Mode::Read,
             owner: slot,
-        });
+        };
+        self.add_lock(record, lock);
         self.access(slot, record).read = Some(tr);
         Ok(Reply::Read(tr, end, version.map(|v| v.value)))
     }
@@ -248,6 +258,7 @@ impl Store {
         for lock in place.locks.iter_mut().filter(|l| l.owner == 0) {
             lock.low = lock.low.max(v + 1);
         }
+        place.tidy(self.table);
         place.floor = v;
         Ok(Reply::Purged(
             (versions - place.versions.len()) as u64,
@@ -321,6 +332,12 @@ impl Store {
             accesses.len() - 1
         });
         &mut accesses[index]
+    }
+
+    fn add_lock(&mut self, record: usize, lock: Lock) {
+        let place = &mut self.records[record];
+        place.locks.push(lock);
+        place.tidy(self.table);
     }
 
     pub fn free_versions(&self) -> u64 {
@@ -410,7 +427,8 @@ impl Store {
         }
     }
 
-    /// Settles an ended edit: its locks go, its slot is free, a commit leaves settled locks.
+    /// Settles an ended edit: its locks go, its slot is free, a commit leaves settled locks. Its rows go first, so that
+    /// none is needed.
     fn settle_slot(&mut self, slot: u64) {
         for record in &mut self.records {
             record.locks.retain(|l| l.owner != slot);
@@ -420,14 +438,14 @@ impl Store {
         let state = std::mem::replace(&mut edit.state, State::Free);
         let State::Committed(t) = state else { return };
         for access in accesses {
-            let locks = &mut self.records[access.record].locks;
             let mut leave = |low, mode| {
-                locks.push(Lock {
+                let lock = Lock {
                     low,
                     high: t,
                     mode,
                     owner: 0,
-                })
+                };
+                self.add_lock(access.record, lock);
             };
             if let Some(tr) = access.read {
                 leave(tr + 1, Mode::Read);

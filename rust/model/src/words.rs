@@ -2,7 +2,7 @@
 //! The clauses that only words can break (length and counts, chains, the record of a lock row, states, generations,
 //! commit points, written marks, modes) are judged here; `sound` judges the others on what the words mean.
 
-use crate::record::{Lock, Mode, Record, Version};
+use crate::record::{Lock, Mode, Record, Table, Version};
 use crate::sound;
 use crate::store::{Access, Counts, Edit, State, Store};
 
@@ -49,6 +49,7 @@ pub fn decode_whole(words: &[u64]) -> Option<(Store, Unjudged)> {
     let mut unjudged = Unjudged::default();
     let store = Store {
         counts,
+        table: Table::Joined,
         records: decode_records(records, &mut versions, &mut locks, &mut unjudged)?,
         edits: decode_edits(edits, &mut accesses, &mut unjudged)?,
     };
@@ -206,7 +207,8 @@ fn edit(words: &[u64], rows: &[&[u64]]) -> Option<Edit> {
     })
 }
 
-/// The store with its locks and accesses in one order: two stores mean the same if these are equal.
+/// The store with its locks and accesses in one order: two stores mean the same if these are equal. Of sound words
+/// only locks with equal low points can stand in another order than the model's.
 pub fn ordered(mut store: Store) -> Store {
     for record in &mut store.records {
         let key = |l: &Lock| (l.owner, l.mode == Mode::Write, l.low, l.high);

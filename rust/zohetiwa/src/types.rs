@@ -141,7 +141,8 @@ pub enum Commit {
     NoPoint,
 }
 
-/// The rows that a Purge has freed.
+/// The rows that a Purge has freed. Settled read locks of a record that overlap or adjoin are one row; one that was
+/// only shortened is not counted.
 #[derive(Clone, Copy, Debug, PartialEq, Eq)]
 pub struct Purged {
     pub versions: u64,

@@ -52,6 +52,41 @@ fn the_session_as_one_list() {
     assert_eq!(run(&mut fresh(), &calls), expected);
 }
 
+/// Settled reads that touch are one row: that of the first edit, settled last, takes in the two others. A purge below
+/// its end shortens it, and the next one counts it.
+#[test]
+fn joined_rows() {
+    let [a, b, c, d] = [65, 66, 130, 129].map(Handle::of_word);
+    let calls = [
+        Call::Begin,
+        Call::Read(a, 0, p(5), Extent::All),
+        Call::Begin,
+        Call::Read(b, 0, p(2), Extent::All),
+        Call::Commit(b, Pick::Latest, Finish::Settle),
+        Call::Lock(a, 0, p(5), p(5), Extent::All),
+        Call::Write(a, 0, 1),
+        Call::Commit(a, Pick::Latest, Finish::Keep),
+        Call::Begin,
+        Call::Read(c, 0, p(8), Extent::All),
+        Call::Commit(c, Pick::Latest, Finish::Settle),
+        Call::Settle(a),
+        Call::Purge(0, p(5)),
+        Call::Begin,
+        Call::Lock(d, 0, p(8), p(10), Extent::Part),
+        Call::Write(d, 0, 2),
+        Call::Commit(d, Pick::Latest, Finish::Settle),
+        Call::Purge(0, p(10)),
+    ];
+    let replies = run(&mut fresh(), &calls);
+    let mut words = fresh();
+    let single: Vec<_> = calls.iter().map(|call| alone(&mut words, *call)).collect();
+    assert_eq!(replies, single);
+    assert_eq!(replies[11], Ok(Reply::Done));
+    assert_eq!(replies[12], Ok(Reply::Purged(Purged { versions: 0, locks: 1 })));
+    assert_eq!(replies[14], Ok(Reply::Locked(Locked { first: p(9), last: p(10) })));
+    assert_eq!(replies[17], Ok(Reply::Purged(Purged { versions: 1, locks: 2 })));
+}
+
 fn any_call(numbers: &mut Numbers) -> Call {
     let h = Handle::of_word((1 + numbers.below(2)) * 64 + 1 + numbers.below(2));
     let (record, at) = (numbers.below(2), p(1 + numbers.below(12)));

@@ -27,7 +27,8 @@ pub struct Lock {
 pub struct Record {
     /// Rising in point.
     versions: Vec<Version>,
-    pub locks: Vec<Lock>,
+    /// Rising in low point; settled read locks that overlap or adjoin are one.
+    locks: Vec<Lock>,
     pub floor: u64,
 }
 
@@ -63,10 +64,38 @@ impl Record {
         self.versions.insert(self.below(version.point), version);
     }
 
+    /// How many rows the locks have.
+    pub fn rows(&self) -> usize {
+        self.locks.len()
+    }
+
+    /// Adds a lock of an edit, or a settled write lock.
+    pub fn lock(&mut self, lock: Lock) {
+        let place = self.locks.partition_point(|l| l.low < lock.low);
+        self.locks.insert(place, lock);
+    }
+
+    /// Leaves a settled read lock, joined with all that it touches.
+    pub fn leave_read(&mut self, low: u64, high: u64) {
+        let mut joined = Lock { low, high, mode: Mode::Read, owner: 0 };
+        self.locks.retain(|l| {
+            let touches = l.owner == 0 && l.mode == Mode::Read && l.low <= high + 1 && low <= l.high + 1;
+            if touches {
+                joined.low = joined.low.min(l.low);
+                joined.high = joined.high.max(l.high);
+            }
+            !touches
+        });
+        self.lock(joined);
+    }
+
     /// The least point of low..=high that others block for the slot, and the lowest owner that blocks it.
     pub fn first_blocked(&self, slot: u8, mode: Mode, low: u64, high: u64) -> Option<(u64, u8)> {
         let mut best = (high + 1, 0);
         for lock in &self.locks {
+            if lock.low > best.0 {
+                break;
+            }
             if lock.owner != slot && (mode == Mode::Write || lock.mode == Mode::Write) && lock.high >= low {
                 let point = lock.low.max(low);
                 if point < best.0 || (point == best.0 && lock.owner < best.1) {
@@ -77,27 +106,25 @@ impl Record {
         (best.0 <= high).then_some(best)
     }
 
-    /// The least point from `point` on that no other owner has a lock on.
-    pub fn first_free(&self, slot: u8, mut point: u64) -> u64 {
-        loop {
-            let over = self.locks.iter().filter(|l| l.owner != slot && l.low <= point && point <= l.high);
-            match over.map(|l| l.high).max() {
-                Some(high) => point = high + 1,
-                None => return point,
+    /// The least point from `point` on that none of these locks is on. They rise, so once one starts later all do.
+    fn first_off<'a>(locks: impl Iterator<Item = &'a Lock>, mut point: u64) -> u64 {
+        for lock in locks {
+            if lock.low > point {
+                break;
             }
+            point = point.max(lock.high + 1);
         }
+        point
+    }
+
+    /// The least point from `point` on that no other owner has a lock on.
+    pub fn first_free(&self, slot: u8, point: u64) -> u64 {
+        Record::first_off(self.locks.iter().filter(|l| l.owner != slot), point)
     }
 
     /// The last point of the run from `from` on that lies under own locks; below `from` if there is none.
     pub fn reach(&self, slot: u8, from: u64) -> u64 {
-        let mut next = from;
-        loop {
-            let over = self.locks.iter().filter(|l| l.owner == slot && l.low <= next && next <= l.high);
-            match over.map(|l| l.high).max() {
-                Some(high) => next = high + 1,
-                None => return next - 1,
-            }
-        }
+        Record::first_off(self.locks.iter().filter(|l| l.owner == slot), from) - 1
     }
 
     fn written_by(&self, slot: u8) -> impl Iterator<Item = &Lock> {
@@ -126,14 +153,14 @@ impl Record {
         if newest <= self.floor {
             return Ok(Purged { versions: 0, locks: 0 });
         }
-        if self.locks.iter().any(|l| l.owner != 0 && l.low <= newest) {
+        if self.locks.iter().take_while(|l| l.low <= newest).any(|l| l.owner != 0) {
             return Err(Refusal::LockedBelow);
         }
         let gone = self.below(newest) - 1;
         self.versions.drain(..gone);
         let before = self.locks.len();
         self.locks.retain_mut(|l| {
-            // Locks of edits in use lie above the new floor already.
+            // Locks of edits in use lie above the new floor already. The order stays.
             l.low = l.low.max(newest + 1);
             l.low <= l.high
         });

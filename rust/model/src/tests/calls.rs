@@ -3,6 +3,7 @@
 use super::*;
 use crate::generate;
 use crate::record::{Lock, Mode, Version};
+use crate::sound;
 use crate::store::LAST;
 
 #[test]
@@ -156,17 +157,20 @@ fn settling_and_purging() {
     );
 }
 
-/// No list of calls makes this sound store: a settled read lock goes over a version.
-
+/// A read lock goes over a version, as a joined one can, and the row of another is wholly above it.
 #[test]
 fn purging_cuts_a_settled_lock() {
     let mut session = Session::new(true);
-    session.line(b"F 1 1 1 2 1").expect("ok");
+    session.line(b"F 1 1 1 3 1").expect("ok");
     let store = session.store.as_mut().expect("a store");
     store.records[0]
         .versions
         .push(Version { point: 5, value: 8 });
-    for (low, high, mode) in [(5, 5, Mode::Write), (1, 9, Mode::Read)] {
+    for (low, high, mode) in [
+        (1, 9, Mode::Read),
+        (5, 5, Mode::Write),
+        (11, 12, Mode::Read),
+    ] {
         let owner = 0;
         store.records[0].locks.push(Lock {
             low,
@@ -175,9 +179,11 @@ fn purging_cuts_a_settled_lock() {
             owner,
         });
     }
+    sound::check(store).expect("sound");
     assert_eq!(session.line(b"P 0 9").expect("sound"), "purged 0 1");
     let locks = &session.store.as_ref().expect("a store").records[0].locks;
-    assert_eq!((locks.len(), locks[0].low, locks[0].high), (1, 6, 9));
+    let ends: Vec<(u64, u64)> = locks.iter().map(|l| (l.low, l.high)).collect();
+    assert_eq!(ends, [(6, 9), (11, 12)]);
 }
 
 #[test]

@@ -77,9 +77,10 @@ fn the_base_of_the_damages() {
     assert_eq!(words[41..49], [5, 51, 0, 0, 7, 60, 0, 0]);
     assert_eq!(words[57..67], [9, 9, 2, 0, 2, 10, 12, 5, 0, 0]);
     assert_eq!(words[67..72], [5, 5, 2, 1, 4]);
-    assert_eq!(words[72..82], [8, 9, 6, 1, 5, 6, 7, 9, 1, 0]);
-    assert_eq!(words[82..92], [6, 8, 10, 2, 7, 10, 12, 10, 2, 8]);
-    assert_eq!(words[92..97], [1, 5, 13, 2, 0]);
+    assert_eq!(words[72..82], [6, 7, 9, 1, 5, 8, 9, 6, 1, 0]);
+    assert_eq!(words[82..92], [1, 5, 13, 2, 7, 6, 8, 10, 2, 8]);
+    assert_eq!(words[92..97], [10, 12, 10, 2, 0]);
+    assert_eq!(words[97..107], [0, 0, 0, 0, 10, 0, 0, 0, 0, 0]);
     assert_eq!(words[107..117], [0, 10, 0, 0, 2, 1, 0, 1, 7, 0]);
     assert_eq!(words[117..127], [1, 6, 0, 0, 4, 2, 0, 1, 60, 0]);
     assert_eq!(words[127..132], [2, 1, 0, 0, 0]);
@@ -223,7 +224,7 @@ fn damaged_words_of_a_list() {
             ("a lock row that names no record", &[(lock(2, 3), 3)]),
             (
                 "a lock row moved to another record",
-                &[(lock(1, 4), 0), (lock(7, 4), 2)],
+                &[(lock(1, 4), 0), (lock(8, 4), 2)],
             ),
             ("a state of 4", &[(slot(3, 0), 4)]),
             ("a state of 2^64 - 1", &[(slot(1, 0), many)]),
@@ -234,8 +235,8 @@ fn damaged_words_of_a_list() {
             ("a commit point of a free slot", &[(slot(4, 3), 1)]),
             ("a written mark of 2", &[(access(2, 2), 2)]),
             ("a written mark of 2^64 - 1", &[(access(1, 2), many)]),
-            ("a mode of 0", &[(lock(7, 2), 4)]),
-            ("a mode of 3", &[(lock(6, 2), 11)]),
+            ("a mode of 0", &[(lock(8, 2), 4)]),
+            ("a mode of 3", &[(lock(7, 2), 11)]),
             ("a mode of 3 of a settled lock", &[(lock(3, 2), 3)]),
         ],
         false,
@@ -259,7 +260,7 @@ fn damaged_versions() {
                 "a version and its lock above LAST",
                 &[
                     (version(4, 0), LAST + 1),
-                    (lock(6, 1), LAST + 1),
+                    (lock(7, 1), LAST + 1),
                     (slot(2, 3), LAST + 1),
                 ],
             ),
@@ -289,19 +290,155 @@ fn damaged_locks() {
         &[
             ("low above high", &[(lock(2, 1), 9)]),
             ("a lock at the floor", &[(record(1, 2), 5)]),
-            ("a lock at 0", &[(lock(7, 0), 0)]),
+            ("a lock at 0", &[(lock(3, 0), 0)]),
             ("a lock above LAST", &[(lock(2, 1), LAST + 1)]),
-            ("a lock to 2^64 - 1", &[(lock(7, 1), u64::MAX)]),
-            ("an owner that is free", &[(lock(4, 2), 2 + 4 * 4)]),
-            ("an owner that there is not", &[(lock(4, 2), 2 + 4 * 5)]),
-            ("an owner far past the slots", &[(lock(4, 2), u64::MAX - 1)]),
-            ("a write lock on another's read lock", &[(lock(4, 0), 7)]),
-            ("a read lock on another's write lock", &[(lock(5, 1), 8)]),
-            ("a write lock on a settled lock", &[(lock(4, 0), 5)]),
+            ("a lock to 2^64 - 1", &[(lock(8, 1), u64::MAX)]),
+            ("an owner that is free", &[(lock(5, 2), 2 + 4 * 4)]),
+            ("an owner that there is not", &[(lock(5, 2), 2 + 4 * 5)]),
+            ("an owner far past the slots", &[(lock(5, 2), u64::MAX - 1)]),
+            ("a write lock on another's read lock", &[(lock(5, 0), 7)]),
+            ("a read lock on another's write lock", &[(lock(4, 1), 8)]),
+            (
+                "a write lock on a settled lock",
+                &[
+                    (lock(5, 0), 5),
+                    (lock(5, 1), 5),
+                    (lock(3, 4), 5),
+                    (lock(5, 4), 4),
+                    (lock(4, 4), 0),
+                ],
+            ),
             ("a settled write lock on an edit's", &[(lock(3, 1), 6)]),
         ],
         false,
     );
+}
+
+/// The base with the last row of record 2, which is 10..12, settled in this mode, and with one more settled row after
+/// it: low..high in the other mode.
+fn two_settled(mode: u64, low: u64, high: u64, other: u64) -> Vec<(usize, u64)> {
+    vec![
+        (lock(8, 2), mode),
+        (lock(8, 4), 9),
+        (lock(9, 0), low),
+        (lock(9, 1), high),
+        (lock(9, 2), other),
+        (lock(9, 3), 2),
+        (lock(9, 4), 0),
+        (6, 10),
+    ]
+}
+
+const READ: u64 = 1;
+const WRITE: u64 = 2;
+
+#[test]
+fn damaged_order_of_locks() {
+    judge(
+        &[
+            (
+                "two rows changed about",
+                &[(lock(6, 4), 8), (lock(8, 4), 7), (lock(7, 4), 0)],
+            ),
+            (
+                "the first row last",
+                &[(record(2, 1), 7), (lock(8, 4), 6), (lock(6, 4), 0)],
+            ),
+            (
+                "a low below the one before",
+                &[(lock(5, 0), 4), (lock(5, 1), 4)],
+            ),
+            (
+                "a settled read below a settled write",
+                &two_settled(WRITE, 9, 9, READ),
+            ),
+            (
+                "settled reads apart that fall",
+                &two_settled(READ, 1, 1, READ),
+            ),
+        ],
+        false,
+    );
+}
+
+#[test]
+fn damaged_joining() {
+    let unjoined = |low, high| two_settled(READ, low, high, READ);
+    judge(
+        &[
+            ("settled reads that adjoin", &unjoined(13, 14)),
+            ("settled reads that share one point", &unjoined(12, 14)),
+            ("a settled read twice", &unjoined(10, 12)),
+            ("a settled read within another", &unjoined(11, 11)),
+            ("a settled read with the same low", &unjoined(10, 14)),
+        ],
+        false,
+    );
+    // A settled write row between them, on points of the first. Row 10 is next of row 9 in the base.
+    let mut apart = two_settled(READ, 11, 11, WRITE);
+    apart.retain(|&(at, _)| at != lock(9, 4) && at != 6);
+    apart.push((6, 0));
+    let third = |low: u64| {
+        let row = [low, low, READ, 2].into_iter().enumerate();
+        let more = row.map(|(word, value)| (lock(10, word), value));
+        apart.iter().copied().chain(more).collect::<Vec<_>>()
+    };
+    judge(&[("with a write row between", &third(13))], false);
+    judge(&[("apart, with a write row between", &third(14))], true);
+}
+
+#[test]
+fn joined_and_sound() {
+    judge(
+        &[
+            ("a gap of one point", &two_settled(READ, 14, 15, READ)),
+            (
+                "a settled write after a read",
+                &two_settled(READ, 13, 13, WRITE),
+            ),
+            (
+                "a settled write on a read",
+                &two_settled(READ, 11, 11, WRITE),
+            ),
+            (
+                "a settled read on a write",
+                &two_settled(WRITE, 12, 15, READ),
+            ),
+            (
+                "settled writes that adjoin",
+                &two_settled(WRITE, 13, 14, WRITE),
+            ),
+            (
+                "settled writes that overlap",
+                &two_settled(WRITE, 10, 11, WRITE),
+            ),
+            (
+                "an edit's read after a settled one",
+                &two_settled(READ, 13, 14, READ + 4),
+            ),
+            (
+                "an edit's reads that overlap",
+                &two_settled(READ + 4, 11, 14, READ + 4),
+            ),
+        ],
+        true,
+    );
+}
+
+/// Equal low points stand in any order.
+#[test]
+fn equal_lows_and_sound() {
+    for (first, second) in [
+        (READ, WRITE),
+        (WRITE, READ),
+        (READ, READ + 4),
+        (READ + 4, READ),
+    ] {
+        for high in [10, 12, 14] {
+            let rows = two_settled(first, 10, high, second);
+            judge(&[("equal lows", &rows)], true);
+        }
+    }
 }
 
 #[test]
@@ -314,12 +451,12 @@ fn damaged_edits() {
             ("a point read that is no version", &[(access(3, 1), 4)]),
             ("a point read of 2^64 - 2", &[(access(3, 1), u64::MAX)]),
             ("point 0 read above floor 0", &[(access(1, 1), 1)]),
-            ("a read without a lock", &[(lock(5, 2), 5)]),
+            ("a read without a lock", &[(lock(4, 2), 5)]),
             ("a read whose lock is a write lock", &[(lock(2, 2), 6)]),
-            ("a read whose lock starts later", &[(lock(5, 0), 7)]),
-            ("an aborted edit's read without a lock", &[(lock(7, 0), 2)]),
-            ("a commit point outside the write locks", &[(lock(6, 2), 2)]),
-            ("a commit point past the read lock", &[(lock(5, 1), 6)]),
+            ("a read whose lock starts later", &[(lock(4, 0), 7)]),
+            ("an aborted edit's read without a lock", &[(lock(6, 0), 2)]),
+            ("a commit point outside the write locks", &[(lock(7, 2), 2)]),
+            ("a commit point past the read lock", &[(lock(4, 1), 6)]),
             ("a commit point of 0", &[(slot(2, 3), 0)]),
             ("a commit point of 2^64 - 1", &[(slot(2, 3), u64::MAX)]),
             (
@@ -357,7 +494,7 @@ fn changed_and_sound() {
             ),
             (
                 "read locks of two owners",
-                &[(lock(4, 2), 5), (lock(5, 1), 9)],
+                &[(lock(5, 2), 5), (lock(4, 1), 9)],
             ),
             (
                 "free rows in another order",

@@ -1,7 +1,7 @@
 //! Each list has script lines on the left of `=` and answers on the right. `refusals` has the sixteen numbers, `calls`
 //! the session, the misreadings and the calls together, `charts` what views promise, `desk` planning desks, `scripts`
-//! the form of lines and the generator. `words` has lent words, laid out by hand or from a store (`layout`), and
-//! `damages` damaged ones.
+//! the form of lines and the generator, `tables` the joined lock rows beside those of document 01. `words` has lent
+//! words, laid out by hand or from a store (`layout`), and `damages` damaged ones.
 
 mod calls;
 mod charts;
@@ -10,6 +10,7 @@ mod desk;
 mod layout;
 mod refusals;
 mod scripts;
+mod tables;
 mod words;
 
 use crate::script::{self, Session};
