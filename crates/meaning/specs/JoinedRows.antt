@@ -1,5 +1,5 @@
 -- Settled reads of one record joined, computed: two rows that lie apart are taken in by a third at once, Purge shortens
--- the row that they make, and the old table has two rows more to purge. Rests on Calls and OldTable.
+-- the row that they make, and the old table has two rows more to purge. Rests on Calls.
 use Prim.Native.Nat.{ℕ}
 use mathlib.Core.Path.{_≡_}
 use mathlib.Core.List.{List, [], _∷_, _++_}

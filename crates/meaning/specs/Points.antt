@@ -91,6 +91,7 @@ putLock l ls = putBefore (noLater l) l ls
 unfoldable pub addLock : Lock → List Lock → List Lock
 addLock l ls = putLock l ls
 
+-- Layout: "Owner 0 marks a settled lock": one of a mode on low..high, and whether a lock is a settled read lock
 abbrev pub settledLock : ℕ → ℕ → ℕ → Lock
 settledLock mode low high = record { low = low; high = high; mode = mode; owner = SETTLED }
 
@@ -112,7 +113,7 @@ joinedRow low high ls =
 abbrev pub joinRead : ℕ → ℕ → List Lock → List Lock
 joinRead low high ls = putLock (joinedRow low high ls) (keep (λ l. not (touches low high l)) ls)
 
--- of two settled read locks, one ends before the point below the other
+-- two settled read locks have a point between them
 abbrev pub apartReads : Lock → Lock → Bool
 apartReads l m =
     not (isSettledRead l && isSettledRead m) || (ltb (suc (l .high)) (m .low) || ltb (suc (m .high)) (l .low))

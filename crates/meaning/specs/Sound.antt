@@ -74,9 +74,11 @@ agree l m = isOwned (l .owner) m || (not (isWrite l || isWrite m) || not (meets 
 unfoldable pub writesApart : Rec → Bool
 writesApart x = pairwise agree (x .locks)
 
+-- document 02, M-105: "each record's locks in rising order of low point ..., equal low points in any order"
 unfoldable pub locksRise : Rec → Bool
 locksRise x = pairwise noLater (x .locks)
 
+-- "join settled read rows that overlap or adjoin": of two there is a point between them
 unfoldable pub readsJoined : Rec → Bool
 readsJoined x = pairwise apartReads (x .locks)
 

@@ -36,7 +36,8 @@ pub record Span (floor : ℕ) (l : Lock) : Type 0 where
   pub some : l .low ≤ l .high
   pub last : l .high ≤ LAST
 
--- the clauses of record r, from "modes" to "each version above the floor has a write lock on its point"
+-- the clauses of record r, from "modes" to "each version above the floor has a write lock on its point"; the order of
+-- rows, which no point shows, is said of the lists
 pub record SoundRec (es : List Edit) (r : ℕ) (x : Rec) : Type 0 where
   pub mode : (l : Lock) → l ∈ x .locks → (l .mode ≡ READ) ⊎ (l .mode ≡ WRITE)
   pub falls : versionsFall x ≡ true
