@@ -72,7 +72,8 @@ sessionSteps =
     ∷ step (C.Read (on 129) 0 (to 9) All) (read 7 9 (Written 501))
     ((6, 4) ∷ (7, 2) ∷ (16, 1) ∷ (47, 3) ∷ (48, 8) ∷ (49, 9) ∷ (50, 5) ∷ (52, 0) ∷ (79, 8) ∷ (82, 0) ∷ [])
     ∷ step (C.Lock (on 129) 0 (to 3) (to 3) All) (refusing 9 []) []
-    ∷ step (C.Purge 0 (to 8)) (purged 0 2) ((6, 2) ∷ (9, 3) ∷ (10, 7) ∷ (42, 4) ∷ (47, 1) ∷ [])
+    ∷ step (C.Purge 0 (to 8)) (purged 0 2)
+    ((6, 2) ∷ (9, 3) ∷ (10, 7) ∷ (38, 8) ∷ (42, 4) ∷ (43, 8) ∷ (47, 1) ∷ [])
     ∷ step (C.Read (on 65) 0 (to 6) All) (refusing 2 []) []
     ∷ []
 
