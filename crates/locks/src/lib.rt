@@ -23,10 +23,10 @@ pub fn smaller(a: u64, b: u64) -> u64
 pub fn larger(a: u64, b: u64) -> u64
     ensures { λ q. ⌜ q ≡ max a b ⌝ }
 {
-    if a < b {
-        return b;
+    if b < a {
+        return a;
     }
-    a
+    b
 }
 
 // The point lies in the lock.

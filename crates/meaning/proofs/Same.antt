@@ -1,5 +1,6 @@
--- Where two records have the same modes on every point, every search finds the same: the first blocked
--- and the first free point, what is frozen, the holder, the common set, its earliest and its latest point.
+-- Where two records have the same modes on every point, every search finds the same: the first blocked and the first
+-- free point, what is frozen, the holder, the common set, its earliest and its latest point. Rests on Points,
+-- CommonSet and LockChanges.
 use Prim.Native.Nat.{ℕ, suc, _-_, _≤_}
 use native.Mathlib.Omega.{arith}
 use mathlib.Core.Path.{_≡_, refl, sym, _∙_}
