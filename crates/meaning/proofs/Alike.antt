@@ -1,6 +1,6 @@
 -- Two lists of locks that mean the same, of which one is kept in the plain way and one joined, stay so under each
 -- change of a record's locks, and the joined one is never the longer. Rests on Joining, Rows and Same.
-use Prim.Native.Nat.{ℕ, suc, _-_, _≤_, max}
+use Prim.Native.Nat.{ℕ, suc, _-_, _≤_}
 use native.Mathlib.Omega.{arith}
 use mathlib.Core.Path.{_≡_, refl, sym, ap, _∙_}
 use mathlib.Core.Logic.{_⊎_, inl, inr, _↔_}
@@ -21,6 +21,7 @@ use Rattle.meaning.proofs.Tests.{owned-out}
 use Rattle.meaning.proofs.LockChanges.{IsOn, LeftOn, lock-on, is-on, drop-owner-is, drop-owner-member}
 use Rattle.meaning.proofs.LockChanges.{trim-to-is, trim-to-member}
 use Rattle.meaning.proofs.Joining.{put-out, put-old, put-new, join-is}
+use Rattle.meaning.proofs.Trimmed.{kind-kept}
 use Rattle.meaning.proofs.Rows.{Perm, none, skip, swap, then, perm-refl, perm-length, put-perm, fewer-reads}
 
 -- lists up to their order
@@ -268,18 +269,6 @@ trim-alike {xs} {ys} v a =
       proper = λ l i. let n = trim-to-member v xs i in spans (n .0) (a .proper (n .0) (n .1)) (n .2) l (n .3);
     }
   where
-    kind : (l : Lock) → isSettledRead (trimmed v l) ≡ isSettledRead l
-    kind l = go (isOwned SETTLED l)
-      where
-        go : (b : Bool) → isSettledRead (cond b (record {
-          low = max (l .low) (suc v);
-          high = l .high;
-          mode = l .mode;
-          owner = l .owner;
-        }) l) ≡ isSettledRead l
-        go true = refl
-        go false = refl
-
     plain-trim : (ls : List Lock) → plains (map (trimmed v) (keep (λ l. not (emptied v l)) ls))
         ≡ map (trimmed v) (keep (λ l. not (emptied v l)) (plains ls))
     plain-trim [] = refl
@@ -292,8 +281,8 @@ trim-alike {xs} {ys} v a =
             (emptied v l)) (plains (l ∷ ls)))
         go (inl e) (inl f) ih = rw (e, f) ih
         go (inl e) (inr f) ih = rw (e, f, e) ih
-        go (inr e) (inl f) ih = rw (e, f, kind l ∙ f) ih
-        go (inr e) (inr f) ih = rw (e, f, kind l ∙ f, e) (ap (λ zs. trimmed v l ∷ zs) ih)
+        go (inr e) (inl f) ih = rw (e, f, kind-kept v l ∙ f) ih
+        go (inr e) (inr f) ih = rw (e, f, kind-kept v l ∙ f, e) (ap (λ zs. trimmed v l ∷ zs) ih)
 
     spans : (n : Lock) → n .low ≤ n .high → emptied v n ≡ false → (l : Lock) → trimmed v n ≡ l → l .low ≤ l .high
     spans n h e l z = rw z at (go (test (isOwned SETTLED n)))

@@ -11,7 +11,7 @@ use lib.Dec.{leb, ltb, eqb}
 use lib.ListN.{length}
 use borrow.Author.Tests.{eqb-true}
 use Rattle.meaning.specs.Lists.{_∈_, any, mapFrom, find}
-use Rattle.types.specs.Limits.{LAST, COMMITTED, READ, WRITE, SETTLED}
+use Rattle.types.specs.Limits.{LAST, COMMITTED, READ, WRITE, SETTLED, ABORTED}
 use Rattle.types.specs.Replies.{Reply, commit, nopoint}
 use Rattle.types.specs.declared.Pick.{Pick}
 use Rattle.types.specs.declared.Pick.the-variants.{Earliest, Latest, Named}
@@ -27,13 +27,14 @@ use Rattle.meaning.specs.Ending.{newVersion}
 use Rattle.meaning.specs.Ending.{committedRec, committed, aborted, chosen, allowed, noCommon, commitVerdict}
 use Rattle.meaning.specs.Ending.{commitOpenBy}
 use Rattle.meaning.specs.OldTable.{same}
-use Rattle.meaning.proofs.Lists.{find-out}
+use Rattle.meaning.proofs.Lists.{length-mapFrom, find-out}
 use Rattle.meaning.proofs.Verdicts.{needs-pass}
 use Rattle.meaning.proofs.Stores.{edit-same, InRange}
 use Rattle.meaning.proofs.EndingSound.{chosen-common}
-use Rattle.meaning.proofs.Same.{Modes, in-common-same, earliest-same, latest-same}
-use Rattle.meaning.proofs.Alike.{Locks, modes-to, modes-from, add-alike, drop-alike, left-alike}
-use Rattle.meaning.proofs.AlikeStores.{Recs, map-alike, total-most, length-map-from, mk, Step, unless-step}
+use Rattle.meaning.proofs.Same.{in-common-same, earliest-same, latest-same}
+use Rattle.meaning.proofs.Alike.{Locks, add-alike, drop-alike, left-alike}
+use Rattle.meaning.proofs.AlikeRecs.{Recs, map-alike, total-most, recs-to, recs-from}
+use Rattle.meaning.proofs.AlikeStores.{mk, Step, unless-step}
 
 -- what settling leaves of a record's locks
 settled-locks : (k : ℕ) (e : Edit) (r : ℕ) {xs ys : List Lock} → (SETTLED ≡ k → ⊥)
@@ -96,8 +97,8 @@ module _ (vn ln an : ℕ) where
           count =
               omega (
                 arith,
-                length-map-from (settledRecBy plain k (editOf es k)) 0 rs,
-                length-map-from (settledRecBy
+                length-mapFrom (settledRecBy plain k (editOf es k)) 0 rs,
+                length-mapFrom (settledRecBy
                     joined k (editOf es k)) 0 us,
                 R .count,
               );
@@ -138,25 +139,19 @@ module _ (vn ln an : ℕ) (es : List Edit) (rs us : List Rec) (R : Recs rs us) (
   abbrev e : Edit
   e = editOf es k
 
-  there : (r : ℕ) → Modes (recOf rs r) (recOf us r)
-  there r = record { each = modes-to (R .each r .locks) }
-
-  back : (r : ℕ) → Modes (recOf us r) (recOf rs r)
-  back r = record { each = modes-from (R .each r .locks) }
-
   none-eq : noCommon old k ≡ noCommon new k
   unfolding noCommon
-  none-eq = ap (ltb LAST) (earliest-same rs us there back k e)
+  none-eq = ap (ltb LAST) (earliest-same rs us (recs-to R) (recs-from R) k e)
 
   chosen-eq : (pick : Pick) → chosen old k pick ≡ chosen new k pick
-  chosen-eq Earliest = earliest-same rs us there back k e
-  chosen-eq Latest = latest-same rs us there back k e
+  chosen-eq Earliest = earliest-same rs us (recs-to R) (recs-from R) k e
+  chosen-eq Latest = latest-same rs us (recs-to R) (recs-from R) k e
   chosen-eq (Named p) = refl
 
   allowed-eq : (pick : Pick) → allowed old k pick ≡ allowed new k pick
   allowed-eq Earliest = refl
   allowed-eq Latest = refl
-  allowed-eq (Named p) = in-common-same rs us there back k e (p .0)
+  allowed-eq (Named p) = in-common-same rs us (recs-to R) (recs-from R) k e (p .0)
 
   lengths : (r : ℕ) → length (recOf rs r .versions) ≡ length (recOf us r .versions)
   lengths r = ap length (R .each r .versions)
@@ -176,14 +171,14 @@ module _ (vn ln an : ℕ) (es : List Edit) (rs us : List Rec) (R : Recs rs us) (
       (replies (finishedBy joined f (aborted new k) k) q)
   unfolding aborted withEdit
   aborted-step q f =
-      finished-step vn ln an (setEdit es k (ended e 3 0)) rs us R k n q f
-      (λ r z. absurd (omega (arith, z, ap (λ (x : Edit). x .state) (edit-same es k (ended e 3 0) range))))
+      finished-step vn ln an (setEdit es k (ended e ABORTED 0)) rs us R k n q f
+      (λ r z. absurd (omega (arith, z, ap (λ (x : Edit). x .state) (edit-same es k (ended e ABORTED 0) range))))
 
   committed-recs : (p : ℕ) → Recs (mapFrom 0 (committedRec e p) rs) (mapFrom 0 (committedRec e p) us)
   committed-recs p =
       record {
         count =
-            omega (arith, length-map-from (committedRec e p) 0 rs, length-map-from (committedRec e p) 0 us, R .count);
+            omega (arith, length-mapFrom (committedRec e p) 0 rs, length-mapFrom (committedRec e p) 0 us, R .count);
         each = map-alike (committedRec e p) (committedRec e p)
             (λ i x y a. record {
               versions =

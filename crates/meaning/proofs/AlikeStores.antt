@@ -1,26 +1,25 @@
--- Two stores with the same slots, of which one keeps its locks in the plain way and one joined: what it means that they
--- are alike, and that Begin, Write, View, Lock, Read and Purge keep them so and reply the same, but for the lock rows
--- that Purge counts, unless the first refuses with 11. Rests on Alike, Same and Granted.
-use Prim.Native.Nat.{ℕ, zero, suc, _-_, _≤_}
+-- Two stores with the same slots, of which one keeps its locks in the plain way and one joined: Begin, Write, View,
+-- Lock, Read and Purge keep them alike and reply the same, but for the lock rows that Purge counts, unless the first
+-- refuses with 11. Rests on AlikeRecs, Same and Granted.
+use Prim.Native.Nat.{ℕ, suc, _-_, _≤_}
 use native.Mathlib.Omega.{arith}
 use mathlib.Core.Path.{_≡_, refl, sym, ap, _∙_}
 use mathlib.Core.Logic.{_⊎_, inl, inr}
 use mathlib.Core.Bool.{Bool, true, false, not, cond, _&&_, false≢true}
-use mathlib.Core.List.{List, [], _∷_, List·Memᴰ·not-nil}
+use mathlib.Core.List.{List, []}
 use lib.Dec.{leb, ltb, eqb}
 use lib.ListN.{length, set}
 use borrow.Author.Tests.{leb-true, ltb-true, lt-ltb}
-use Rattle.meaning.specs.Lists.{_∈_, keep, any, pairwise, total, mapFrom, find}
+use Rattle.meaning.specs.Lists.{_∈_, keep, any, total, find}
 use Rattle.types.specs.Limits.{LAST, READ, WRITE, SETTLED}
 use Rattle.types.specs.Replies.{Reply, own, again, purged, refusing}
 use Rattle.types.specs.declared.Extent.{Extent}
 use Rattle.types.specs.declared.Extent.the-variants.{All, Part}
-use Rattle.meaning.specs.Store.{first, Rec, Edit, Store, freshRec, editOf, recOf, withEdit, withRecords, withRec}
+use Rattle.meaning.specs.Store.{first, Rec, Edit, Store, editOf, recOf, withEdit, withRecords, withRec}
 use Rattle.meaning.specs.Store.{accessOf, hasRead, locksUsed, accessesUsed, newestAt, newestBelow, versionOn, Val}
 use Rattle.meaning.specs.Store.{slotOf, Version, Lock}
-use Rattle.meaning.specs.Points.{isOwned, addLock, firstBlocked, firstOpen, frozen, holder, noLater, apartReads}
+use Rattle.meaning.specs.Points.{isOwned, addLock, firstBlocked, firstOpen, frozen, holder}
 use Rattle.meaning.specs.Points.{joined, plain}
-use Rattle.meaning.specs.Pointwise.{Proper}
 use Rattle.meaning.specs.Outcomes.{Outcome, replies, Verdict, orElse, needs, unless, knows, isOpen, hasRecord}
 use Rattle.meaning.specs.Outcomes.{isPoint, judge, accessRoom, lockRoom, pass, refuse}
 use Rattle.meaning.specs.Edits.{begun, beginChecks, beginning, written, writeChecks, writing}
@@ -34,83 +33,13 @@ use Rattle.meaning.proofs.Lists.{and-left, test, both, any-in, any-out,
 use Rattle.meaning.proofs.Verdicts.{needs-pass, forOpen-pass, orElse-pass, judge-refuses}
 use Rattle.meaning.proofs.Granted.{lock-taken, read-taken}
 use Rattle.meaning.proofs.Points.{lock-takes-run, read-takes-run, frozen-is}
-use Rattle.meaning.proofs.Rows.{none}
-use Rattle.meaning.proofs.Same.{Modes, first-blocked-same, first-open-same, holder-same, frozen-same}
-use Rattle.meaning.proofs.Alike.{perm-member, perm-sym, isPlain, plains, Locks, modes-to, modes-from, add-alike}
+use Rattle.meaning.proofs.Same.{first-blocked-same, first-open-same, holder-same, frozen-same}
+use Rattle.meaning.proofs.Alike.{perm-member, perm-sym, isPlain, plains, add-alike}
 use Rattle.meaning.proofs.Alike.{trim-alike, shorter}
-
-pub record AlikeRec (x y : Rec) : Type 0 where
-  pub versions : x .versions ≡ y .versions
-  pub floor : x .floor ≡ y .floor
-  pub locks : Locks (x .locks) (y .locks)
-
-pub record Recs (rs us : List Rec) : Type 0 where
-  pub count : length rs ≡ length us
-  pub each : (r : ℕ) → AlikeRec (recOf rs r) (recOf us r)
-
--- what is used of the soundness of the joined store
-pub record Good (us : List Rec) : Type 0 where
-  pub proper : (r : ℕ) → Proper (recOf us r)
-  pub rises : (r : ℕ) → pairwise noLater (recOf us r .locks) ≡ true
-  pub joined : (r : ℕ) → pairwise apartReads (recOf us r .locks) ≡ true
+use Rattle.meaning.proofs.AlikeRecs.{AlikeRec, Recs, Good, total-most, set-recs, recs-to, recs-from}
 
 counts-eq : (n m a b : ℕ) → n ≡ m → SameReply (purged n a) (purged m b)
 counts-eq n m a b e = rw (← e) (counts n a b)
-
--- a fresh record
-pub fresh-rec-alike : AlikeRec freshRec freshRec
-fresh-rec-alike =
-    record {
-      versions = refl;
-      floor = refl;
-      locks = record { rows = none; to = λ p w. w; from = λ p w. w; proper = λ l i. absurd (List·Memᴰ·not-nil i) };
-    }
-
--- lists of records, changed alike
-pub set-alike : (rs us : List Rec) → length rs ≡ length us → ((r : ℕ) → AlikeRec (recOf rs r) (recOf us r))
-    → (i : ℕ) (x y : Rec) → AlikeRec x y → (r : ℕ) → AlikeRec (recOf (set rs i x) r) (recOf (set us i y) r)
-unfolding recOf
-set-alike [] [] e f i x y a r = f r
-set-alike [] (u ∷ us) e f i x y a r = absurd (omega (arith, e))
-set-alike (z ∷ rs) [] e f i x y a r = absurd (omega (arith, e))
-set-alike (z ∷ rs) (u ∷ us) e f zero x y a zero = a
-set-alike (z ∷ rs) (u ∷ us) e f zero x y a (suc r) = f (suc r)
-set-alike (z ∷ rs) (u ∷ us) e f (suc i) x y a zero = f zero
-set-alike (z ∷ rs) (u ∷ us) e f (suc i) x y a (suc r) = set-alike rs us (omega (arith, e)) (λ j. f (suc j)) i x y a r
-
-pub map-alike : (g h : ℕ → Rec → Rec) → ((i : ℕ) (x y : Rec) → AlikeRec x y → AlikeRec (g i x) (h i y))
-    → (i : ℕ) (rs us : List Rec) → length rs ≡ length us
-    → ((r : ℕ) → AlikeRec (recOf rs r) (recOf us r)) → (r : ℕ)
-    → AlikeRec (recOf (mapFrom i g rs) r) (recOf (mapFrom i h us) r)
-unfolding recOf
-map-alike g h k i [] [] e f r = f r
-map-alike g h k i [] (u ∷ us) e f r = absurd (omega (arith, e))
-map-alike g h k i (z ∷ rs) [] e f r = absurd (omega (arith, e))
-map-alike g h k i (z ∷ rs) (u ∷ us) e f zero = k i z u (f zero)
-map-alike g h k i (z ∷ rs) (u ∷ us) e f (suc r) = map-alike g h k (suc i) rs us (omega (arith, e)) (λ j. f (suc j)) r
-
-pub total-most : (m : Rec → ℕ) (rs us : List Rec) → length rs ≡ length us
-    → ((r : ℕ) → m (recOf us r) ≤ m (recOf rs r)) → total m us ≤ total m rs
-unfolding recOf
-total-most m [] [] e f = omega arith
-total-most m [] (u ∷ us) e f = absurd (omega (arith, e))
-total-most m (z ∷ rs) [] e f = absurd (omega (arith, e))
-total-most m (z ∷ rs) (u ∷ us) e f = omega (arith, f zero, total-most m rs us (omega (arith, e)) (λ j. f (suc j)))
-
-pub length-map-from : (g : ℕ → Rec → Rec) (i : ℕ) (rs : List Rec) → length (mapFrom i g rs) ≡ length rs
-length-map-from g i [] = refl
-length-map-from g i (x ∷ rs) = ap suc (length-map-from g (suc i) rs)
-
-length-setted : (rs : List Rec) (i : ℕ) (x : Rec) → length (set rs i x) ≡ length rs
-length-setted [] i x = refl
-length-setted (z ∷ rs) zero x = refl
-length-setted (z ∷ rs) (suc i) x = ap suc (length-setted rs i x)
-
-pub set-recs : {rs us : List Rec} → Recs rs us → (i : ℕ) (x y : Rec) → AlikeRec x y → Recs (set rs i x) (set us i y)
-set-recs {rs} {us} R i x y a = record {
-  count = omega (arith, length-setted rs i x, length-setted us i y, R .count);
-  each = set-alike rs us (R .count) (R .each) i x y a;
-}
 
 module _ (vn ln an : ℕ) where
   abbrev pub mk : List Edit → List Rec → Store
@@ -143,12 +72,6 @@ module _ (vn ln an : ℕ) where
         go pass f = f refl
         go (refuse n more) f = stay (refusing n more)
 
-    to : (r : ℕ) → Modes (recOf rs r) (recOf us r)
-    to r = record { each = modes-to (R .each r .locks) }
-
-    from : (r : ℕ) → Modes (recOf us r) (recOf rs r)
-    from r = record { each = modes-from (R .each r .locks) }
-
     -- the tests of the refusals
     has-record : (r : ℕ) → hasRecord s r ≡ hasRecord t r
     unfolding hasRecord
@@ -160,13 +83,21 @@ module _ (vn ln an : ℕ) where
     frozen-eq : (r mode p : ℕ) → frozen s r mode p ≡ frozen t r mode p
     frozen-eq r mode p =
         both (frozen s r mode p) (frozen t r mode p)
-        (λ e. frozen-is t r mode p .1 (frozen-same s t r mode p (to r) (R .each r .versions) (frozen-is s r mode p .0
+        (λ e. frozen-is t r mode p .1 (frozen-same s t r mode p (recs-to R r) (R .each r .versions) (frozen-is s r
+        mode p .0
         e)))
-        (λ e. frozen-is s r mode p .1 (frozen-same t s r mode p (from r) (sym (R .each r .versions)) (frozen-is t r
+        (λ e. frozen-is s r mode p .1 (frozen-same t s r mode p (recs-from R r) (sym (R .each r .versions)) (frozen-is
+        t r
         mode p .0 e)))
 
     holder-eq : (r mode k p : ℕ) → holder mode k (recOf rs r) p ≡ holder mode k (recOf us r) p
-    holder-eq r mode k p = omega (arith, holder-same (to r) (from r) mode k p, holder-same (from r) (to r) mode k p)
+    holder-eq r mode k p =
+        omega (
+          arith,
+          holder-same (recs-to R r) (recs-from R r) mode k p,
+          holder-same (recs-from R r) (recs-to R r)
+              mode k p,
+        )
 
     judge-eq : (r mode k p : ℕ) → judge s r mode k p ≡ judge t r mode k p
     unfolding judge
@@ -251,11 +182,11 @@ module _ (vn ln an : ℕ) where
       first-eq : (r mode k low high : ℕ) → low ≤ high
           → firstBlocked mode k (recOf rs r) low high ≡ firstBlocked mode k (recOf us r) low high
       first-eq r mode k low high h =
-          first-blocked-same (to r) (from r) (R .each r .locks .proper) (G .proper r) mode k low high h
+          first-blocked-same (recs-to R r) (recs-from R r) (R .each r .locks .proper) (G .proper r) mode k low high h
 
       open-eq : (r mode k low high : ℕ) → low ≤ high
           → firstOpen mode k (recOf rs r) low high ≡ firstOpen mode k (recOf us r) low high
-      open-eq r mode k low high h = first-open-same (to r) (from r) mode k low high h
+      open-eq r mode k low high h = first-open-same (recs-to R r) (recs-from R r) mode k low high h
 
       -- Lock
       lock-granted : (w : Extent) (k r low high : ℕ) → low ≤ high

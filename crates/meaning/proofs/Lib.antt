@@ -48,6 +48,7 @@ pub mod Laws
 pub mod After
 pub mod Same
 pub mod Alike
+pub mod AlikeRecs
 pub mod AlikeStores
 pub mod AlikeEnding
 pub mod OldTable

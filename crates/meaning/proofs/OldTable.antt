@@ -23,7 +23,8 @@ use Rattle.meaning.proofs.Stores.{InRange}
 use Rattle.meaning.proofs.SoundParts.{sound-out}
 use Rattle.meaning.proofs.Laws.{calls-keep-sound, fresh-is-sound}
 use Rattle.meaning.proofs.Alike.{modes-to, modes-from}
-use Rattle.meaning.proofs.AlikeStores.{AlikeRec, Recs, Good, Step, mk, fresh-rec-alike, unless-step, begin-step}
+use Rattle.meaning.proofs.AlikeRecs.{AlikeRec, Recs, Good, fresh-rec-alike}
+use Rattle.meaning.proofs.AlikeStores.{Step, mk, unless-step, begin-step}
 use Rattle.meaning.proofs.AlikeStores.{view-step, write-step, lock-step, read-step, purge-step}
 use Rattle.meaning.proofs.AlikeEnding.{from-common, settled-step, aborted-step, commit-open}
 

@@ -107,7 +107,7 @@ module _ (v : ℕ) where
       go false p true q = le-leb (l .low) (max (m .low) (suc v)) (omega (arith, leb-true (l .low) (m .low) e))
       go false p false q = e
 
-  kind-kept : (l : Lock) → isSettledRead (trimmed v l) ≡ isSettledRead l
+  pub kind-kept : (l : Lock) → isSettledRead (trimmed v l) ≡ isSettledRead l
   kind-kept l = go (isOwned SETTLED l)
     where
       go : (b : Bool)
