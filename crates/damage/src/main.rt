@@ -1,14 +1,27 @@
-// Formats stores and damages one: each clause of "A store is sound when" is broken by a change of one word, or of those
-// of one lock row and its chain, and the verdict of the check is printed, 1 for sound and 0 for not, with what was
-// changed. A damage breaks the clause that its group names and no other; where that cannot be, the comment says why.
-// Beside what is refused stands what must pass. Rests on the crates `io`, `types`, `tables`, `soundness` and `format`.
-ghost use Prim.Native.Nat.{_<_};
+// Formats stores and damages one (`state`): each clause of "A store is sound when" is broken by a change of one word,
+// or of those of one lock row and its chain, and the verdict of the check is printed, 1 for sound and 0 for not, with
+// what was changed. A damage breaks the clause that its group names and no other; where that cannot be, the comment
+// says why. Beside what is refused stands what must pass. Rests on the crates `io`, `types`, `tables`, `soundness` and
+// `format`.
+mod state;
+
+use state::WORDS;
+use state::access;
+use state::lock;
+use state::reads;
+use state::record;
+use state::row5;
+use state::slot;
+use state::small;
+use state::state_in;
+use state::version;
+use state::with_word;
+use state::writes;
 use tables::A_FROM;
 use tables::A_NEXT;
 use tables::A_RECORD;
 use tables::A_VALUE;
 use tables::A_WRITTEN;
-use tables::ACCESS;
 use tables::FREE_ACCESS;
 use tables::FREE_LOCK;
 use tables::FREE_VERSION;
@@ -17,26 +30,19 @@ use tables::H_EDITS;
 use tables::H_LOCKS;
 use tables::H_RECORDS;
 use tables::H_VERSIONS;
-use tables::HEADER;
 use tables::L_HIGH;
 use tables::L_LOW;
 use tables::L_MODE;
 use tables::L_NEXT;
 use tables::L_RECORD;
-use tables::LOCK;
 use tables::R_FLOOR;
 use tables::R_LOCK;
-use tables::R_VERSION;
-use tables::RECORD;
 use tables::S_GENERATION;
 use tables::S_POINT;
 use tables::S_STATE;
-use tables::SLOT;
 use tables::V_NEXT;
 use tables::V_POINT;
 use tables::V_SPARE;
-use tables::VERSION;
-use types::COMMITTED;
 use types::Counts;
 use types::FREE;
 use types::FormatReply;
@@ -45,69 +51,6 @@ use types::LAST;
 use types::MAX_EDITS;
 use types::MAX_RECORDS;
 use types::MAX_ROWS;
-use types::OPEN;
-
-// The store 4 4 7 12 8: where its parts begin.
-const WORDS: usize = 164;
-
-const RECORDS: usize = HEADER;
-
-const SLOTS: usize = RECORDS + 4 * RECORD;
-
-const VERSIONS: usize = SLOTS + 4 * SLOT;
-
-const LOCKS: usize = VERSIONS + 7 * VERSION;
-
-const ACCESSES: usize = LOCKS + 12 * LOCK;
-
-// Rows and offsets stay far below any overflow.
-fn small(i: usize) -> usize
-    ensures { λ r. ⌜ r < 16 ⌝ }
-{
-    if i < 16 { i } else { 0 }
-}
-
-// The number of rows before row i.
-fn before(i: usize) -> usize
-    ensures { λ r. ⌜ r < 16 ⌝ }
-{
-    if i < 1 {
-        return 0;
-    }
-    small(i - 1)
-}
-
-// Where word o of a record, of a slot and of a row stands.
-
-fn record(r: usize, o: usize) -> usize {
-    RECORDS + small(r) * RECORD + small(o)
-}
-
-fn slot(k: usize, o: usize) -> usize {
-    SLOTS + before(k) * SLOT + small(o)
-}
-
-fn version(i: usize, o: usize) -> usize {
-    VERSIONS + before(i) * VERSION + small(o)
-}
-
-fn lock(i: usize, o: usize) -> usize {
-    LOCKS + before(i) * LOCK + small(o)
-}
-
-fn access(i: usize, o: usize) -> usize {
-    ACCESSES + before(i) * ACCESS + small(o)
-}
-
-// The mode word of a read lock and of a write lock of an owner; 0 is the owner of a settled lock.
-
-fn reads(owner: usize) -> u64 {
-    (small(owner) * 4 + 1) as u64
-}
-
-fn writes(owner: usize) -> u64 {
-    (small(owner) * 4 + 2) as u64
-}
 
 fn print(text: &[u8]) {
     io::write_all(1, text);
@@ -141,102 +84,19 @@ fn lay_out(w: &mut [u64], c: Counts, text: &[u8]) {
     print(text);
 }
 
-fn with_word(state: [u64; 164], i: usize, v: u64) -> [u64; 164] {
-    let mut w = state;
-    if i < WORDS {
-        w[i] = v;
-    }
-    w
-}
-
-fn judge(w: [u64; 164]) {
+fn judge(w: [u64; WORDS]) {
     print_verdict(soundness::check(&w));
 }
 
 // The verdict on the state with v in word i.
-fn damage(state: [u64; 164], i: usize, v: u64) {
+fn damage(state: [u64; WORDS], i: usize, v: u64) {
     judge(with_word(state, i, v));
-}
-
-// The state. Record 0 has versions 12, 7 and 5, which is its floor; record 1 has version 3; record 2 version 4, its
-// floor; record 3 none. Edit 1 read record 0 at 7, wrote it and committed at 12; edit 2 read record 1 at 0, wrote
-// record 3 and committed at 1; edit 3 is open and has written record 1; slot 4 is free. The lock rows 1 to 5 are on the
-// chain of record 0, the rows 6 to 9 on that of record 1, each in rising order of low end. Free are the version rows 6
-// and 7, the lock rows 11 and 12, the access rows 6 to 8.
-
-fn row4(state: [u64; 164], at: usize, a: u64, b: u64, c: u64, d: u64) -> [u64; 164] {
-    let mut w = state;
-    if at < 160 {
-        w[at] = a;
-        w[at + 1] = b;
-        w[at + 2] = c;
-        w[at + 3] = d;
-    }
-    w
-}
-
-fn row5(state: [u64; 164], at: usize, a: u64, b: u64, c: u64, d: u64, e: u64) -> [u64; 164] {
-    let mut w = row4(state, at, a, b, c, d);
-    if at < 160 {
-        w[at + 4] = e;
-    }
-    w
-}
-
-// The first version, the first lock and the floor of a record.
-fn with_record(state: [u64; 164], r: usize, a: u64, b: u64, c: u64) -> [u64; 164] {
-    let w = with_word(state, record(r, R_VERSION), a);
-    let w = with_word(w, record(r, R_LOCK), b);
-    with_word(w, record(r, R_FLOOR), c)
-}
-
-fn with_slots(state: [u64; 164]) -> [u64; 164] {
-    let w = with_word(state, FREE_VERSION, 6);
-    let w = with_word(w, FREE_LOCK, 11);
-    let w = with_word(w, FREE_ACCESS, 6);
-    let w = with_record(w, 0, 1, 1, 5);
-    let w = with_record(w, 1, 4, 6, 0);
-    let w = with_record(w, 2, 5, 0, 4);
-    let w = with_record(w, 3, 0, 10, 0);
-    let w = row4(w, slot(1, 0), COMMITTED, 1, 1, 12);
-    let w = row4(w, slot(2, 0), COMMITTED, 3, 2, 1);
-    let w = row4(w, slot(3, 0), OPEN, 0, 5, 0);
-    row4(w, slot(4, 0), FREE, 7, 0, 0)
-}
-
-fn with_versions(state: [u64; 164]) -> [u64; 164] {
-    let w = row4(state, version(1, 0), 12, 42, 0, 2);
-    let w = row4(w, version(2, 0), 7, 501, 0, 3);
-    let w = row4(w, version(3, 0), 5, 500, 0, 0);
-    let w = row4(w, version(4, 0), 3, 7, 0, 0);
-    row4(w, version(5, 0), 4, 9, 0, 0)
-}
-
-fn with_locks(state: [u64; 164]) -> [u64; 164] {
-    let w = row5(state, lock(1, 0), 6, 7, writes(0), 0, 2);
-    let w = row5(w, lock(2, 0), 6, 7, reads(0), 0, 3);
-    let w = row5(w, lock(3, 0), 8, 10, reads(1), 0, 4);
-    let w = row5(w, lock(4, 0), 9, 9, reads(1), 0, 5);
-    let w = row5(w, lock(5, 0), 11, 12, writes(1), 0, 0);
-    let w = row5(w, lock(6, 0), 1, 1, writes(2), 1, 7);
-    let w = row5(w, lock(7, 0), 1, 2, reads(2), 1, 8);
-    let w = row5(w, lock(8, 0), 3, 3, writes(0), 1, 9);
-    let w = row5(w, lock(9, 0), 20, 30, reads(0), 1, 0);
-    row5(w, lock(10, 0), 1, 1, writes(2), 3, 0)
-}
-
-fn with_accesses(state: [u64; 164]) -> [u64; 164] {
-    let w = row5(state, access(1, 0), 0, 8, 1, 42, 0);
-    let w = row5(w, access(2, 0), 1, 1, 0, 0, 3);
-    let w = row5(w, access(3, 0), 0, 0, 0, 0, 4);
-    let w = row5(w, access(4, 0), 3, 0, 1, 6, 0);
-    row5(w, access(5, 0), 1, 0, 1, 5, 0)
 }
 
 // "its length fits its counts, and they are in range". A changed count breaks the first, so that the words have no
 // parts of which the other clauses could speak. The second is never broken alone by one word: the sum of the counts
 // changes too.
-fn damage_header(w: [u64; 164]) {
+fn damage_header(w: [u64; WORDS]) {
     damage(w, H_RECORDS, 3);
     print(b"record count 3\n");
     damage(w, H_EDITS, 3);
@@ -260,7 +120,7 @@ fn damage_header(w: [u64; 164]) {
 }
 
 // "every row is on exactly one chain": broken on the free chains, which no other clause looks at.
-fn damage_chains(w: [u64; 164]) {
+fn damage_chains(w: [u64; WORDS]) {
     damage(w, version(7, V_NEXT), 6);
     print(b"the free versions in a circle\n");
     damage(w, version(7, V_NEXT), 8);
@@ -288,7 +148,7 @@ fn damage_chains(w: [u64; 164]) {
 }
 
 // The same on the chains of records and edits, where clauses on their rows are broken too.
-fn damage_used_chains(w: [u64; 164]) {
+fn damage_used_chains(w: [u64; WORDS]) {
     damage(w, version(3, V_NEXT), 1);
     print(b"the versions of record 0 in a circle\n");
     damage(w, version(4, V_NEXT), 2);
@@ -301,7 +161,7 @@ fn damage_used_chains(w: [u64; 164]) {
 
 // "lock rows name their chain's record"; "states, generations, commit points, written marks and modes are among those
 // listed".
-fn damage_marks(w: [u64; 164]) {
+fn damage_marks(w: [u64; WORDS]) {
     damage(w, lock(1, L_RECORD), 1);
     print(b"a lock row that names another record\n");
     damage(w, slot(3, S_STATE), 4);
@@ -321,7 +181,7 @@ fn damage_marks(w: [u64; 164]) {
 }
 
 // "a version chain falls strictly in point"; ".. ends at the floor if that is above 0"; "while no row has point 0".
-fn damage_versions(w: [u64; 164]) {
+fn damage_versions(w: [u64; WORDS]) {
     damage(w, version(1, V_POINT), 7);
     print(b"versions that do not fall strictly\n");
     damage(w, version(3, V_POINT), 6);
@@ -333,7 +193,7 @@ fn damage_versions(w: [u64; 164]) {
 // ".. lies in floor..LAST": no change of one word breaks it alone. A chain that falls strictly and ends at the floor
 // has no version below it. A version above LAST and above the floor has no lock that lies as locks must; the last
 // damage changes the floor with it, two words, and breaks this clause alone.
-fn damage_range(w: [u64; 164]) {
+fn damage_range(w: [u64; WORDS]) {
     damage(w, version(3, V_POINT), 4);
     print(b"a version below the floor\n");
     damage(w, record(2, R_FLOOR), 6);
@@ -347,7 +207,7 @@ fn damage_range(w: [u64; 164]) {
 
 // "locks lie in floor + 1..LAST with low ≤ high"; "owners are 0 or slots in use"; "no write lock shares a point with a
 // lock of another owner".
-fn damage_locks(w: [u64; 164]) {
+fn damage_locks(w: [u64; WORDS]) {
     damage(w, lock(1, L_LOW), 5);
     print(b"a lock at the floor\n");
     damage(w, lock(2, L_HIGH), 5);
@@ -363,14 +223,14 @@ fn damage_locks(w: [u64; 164]) {
 }
 
 // Two neighbours of a lock chain swapped: the word at leads to row i, i to row j, and j to the row next.
-fn swapped(state: [u64; 164], at: usize, i: usize, j: usize, next: u64) -> [u64; 164] {
+fn swapped(state: [u64; WORDS], at: usize, i: usize, j: usize, next: u64) -> [u64; WORDS] {
     let w = with_word(state, at, small(j) as u64);
     let w = with_word(w, lock(j, L_NEXT), small(i) as u64);
     with_word(w, lock(i, L_NEXT), next)
 }
 
 // "in rising order of low point, equal low points in any order".
-fn damage_order(w: [u64; 164]) {
+fn damage_order(w: [u64; WORDS]) {
     damage(w, lock(1, L_LOW), 7);
     print(b"a lock that starts before the one before it\n");
     judge(swapped(w, record(0, R_LOCK), 1, 2, 3));
@@ -382,14 +242,14 @@ fn damage_order(w: [u64; 164]) {
 }
 
 // Row 11 as the last lock of record 1, after the settled read lock 20..30.
-fn with_last(state: [u64; 164], low: u64, high: u64, mode: u64) -> [u64; 164] {
+fn with_last(state: [u64; WORDS], low: u64, high: u64, mode: u64) -> [u64; WORDS] {
     let w = with_word(state, FREE_LOCK, 12);
     let w = with_word(w, lock(9, L_NEXT), 11);
     row5(w, lock(11, 0), low, high, mode, 1, 0)
 }
 
 // "settled read rows that overlap or adjoin are one row".
-fn damage_joined(w: [u64; 164]) {
+fn damage_joined(w: [u64; WORDS]) {
     judge(with_last(w, 30, 40, reads(0)));
     print(b"settled read locks that share a point\n");
     judge(with_last(w, 22, 28, reads(0)));
@@ -408,7 +268,7 @@ fn damage_joined(w: [u64; 164]) {
 
 // "each version above the floor has a write lock on its point, settled or of an edit that wrote the record and
 // committed at that point".
-fn damage_backing(w: [u64; 164]) {
+fn damage_backing(w: [u64; WORDS]) {
     damage(w, lock(8, L_MODE), reads(0));
     print(b"a version under a read lock\n");
     damage(w, version(4, V_POINT), 4);
@@ -424,7 +284,7 @@ fn damage_backing(w: [u64; 164]) {
 // "an edit names an existing record at most once"; "a point read is a present version, or 0 under floor 0" (a read at 0
 // above floor 0 breaks another clause too: its lock would start at or below the floor); "and the edit has a read lock
 // starting just after it".
-fn damage_accesses(w: [u64; 164]) {
+fn damage_accesses(w: [u64; WORDS]) {
     damage(w, access(3, A_RECORD), 4);
     print(b"an access of a record that there is not\n");
     damage(w, access(3, A_RECORD), 1);
@@ -440,7 +300,7 @@ fn damage_accesses(w: [u64; 164]) {
 }
 
 // "a committed edit's point is in its common set"; "free slots have no accesses".
-fn damage_ends(w: [u64; 164]) {
+fn damage_ends(w: [u64; WORDS]) {
     damage(w, slot(2, S_POINT), 2);
     print(b"a commit point outside the write locks\n");
     damage(w, lock(10, L_MODE), reads(2));
@@ -454,7 +314,7 @@ fn damage_ends(w: [u64; 164]) {
 }
 
 // What the clauses do not judge.
-fn damage_nothing(w: [u64; 164]) {
+fn damage_nothing(w: [u64; WORDS]) {
     damage(w, access(7, A_FROM), 77);
     print(b"words of a free row\n");
     damage(w, version(1, V_SPARE), 9);
@@ -514,7 +374,7 @@ fn main() {
     check_short();
     let mut words = [7u64; WORDS];
     lay_out(&mut words, counts(4, 4, 7, 12, 8), b"store 4 4 7 12 8\n");
-    let state = with_accesses(with_locks(with_versions(with_slots(words))));
+    let state = state_in(words);
     damage(state, H_RECORDS, 4);
     print(b"the state as it is\n");
     damage_header(state);
