@@ -65,7 +65,7 @@ def imports(t):
     for m in re.finditer(r"(?m)^\s*(?:pub )?(?:ghost )?(?:pub )?use ([\w·'.\-]+?)\.\{([^}]*)\}", t):
         own = OWN_PATH.match(m.group(1)) and not re.search(r"specs\.(declared|contracts)", m.group(1))
         # what rattle makes of a function's folder below proofs/ is not ours
-        if own and re.search(r"\.(Statement|Tie|Goals|Given|Lts|Code|Rows)\b", m.group(1)):
+        if own and re.search(r"\.(Statement|Tie|Goals|Given|Lts)\b", m.group(1)):
             own = None
         if not own or m.group(1).split(".")[1] not in CRATES:
             for n in m.group(2).split(","):

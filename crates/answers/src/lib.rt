@@ -1,6 +1,8 @@
 // A line run on the store, by the public calls. The store is the part of the words that is in use; before the first
 // Format that succeeds it is empty, and no empty slice is a sound store. Rests on the crates `types`, `meaning`,
 // `tables`, `format`, `format_room`, `store`, `replies`, `fields`, `lines` and `rendering`.
+#![tactic(auto)]
+
 ghost use Rattle.std.specs.Prelude.{◌≤◌, length, take};
 ghost use Rattle.lines.specs.Calls.{parsed};
 ghost use Rattle.answers.specs.Script.{Says, Answers, called, formatted, said};
@@ -15,7 +17,7 @@ use store::perform;
 use types::{Call, Counts, FormatReply};
 
 // The line to print, and how many words are in use after it.
-#[derive(Drop)]
+#[derive(Clone, Copy)]
 pub struct Answered {
     pub line: Line,
     pub used: usize,

@@ -13,7 +13,7 @@ use Rattle.tables.specs.Words.{lent, decode, sound_words}
 use Rattle.codes.specs.Codes.{Tells}
 use Rattle.encoding.specs.Encoding.{row_of}
 use Rattle.asks.specs.Views.{ASK_WORDS, VIEW_NUMBERS, VIEW_WORDS, asked, asked_at, replies_of, Views}
-use Rattle.encoding.proofs.Rows.{stores, told-row, Told, told_none, told_more}
+use Rattle.encoding.proofs.Rows.{stores, told_row, Told, told_none, told_more}
 
 -- what View replies on sound words and on others
 pub asked_sound : (r p : ℕ) (w : List ℕ) {q : Reply} → sound_words (lent w) ≡ true
@@ -29,7 +29,7 @@ asked_unsound r p w s = rw s refl
 pub put_told : (w : List ℕ) (at : ℕ) {q : Reply} {code a b c : ℕ} → Tells q code (replicate 3 0) (a ∷ b ∷ c ∷ [])
     → set (set (set (set w at code) (at + 1) a) (at + 2) b) (at + 3) c ≡ sets w at (row_of VIEW_NUMBERS q)
 put_told w at {code = code} {a = a} {b = b} {c = c} t =
-    stores w at code (a ∷ b ∷ c ∷ []) ∙ ap (sets w at) (told-row VIEW_NUMBERS 3 t refl)
+    stores w at code (a ∷ b ∷ c ∷ []) ∙ ap (sets w at) (told_row VIEW_NUMBERS 3 t refl)
 
 pub record Viewing (words list area₀ : List ℕ) (n i : ℕ) (area : List ℕ) : Type 0 where
   pub upto : i ≤ n

@@ -1,6 +1,8 @@
 // Many views after one check of the words: a lent list of asks and a lent area for their replies. An ask is a row of
 // ASK_WORDS words, a record and a point; its reply a row of VIEW_WORDS words. Rests on the crates `types`, `meaning`,
 // `tables`, `soundness`, `calls`, `codes`, `telling` and `encoding`.
+#![tactic(auto)]
+
 ghost use Rattle.std.specs.Prelude.{◌+◌, ◌*◌, ◌≤◌, ◌≡◌, length};
 ghost use Rattle.std.proofs.lemmas.List.Edits.{sets};
 ghost use Rattle.types.specs.Replies.{of_view};

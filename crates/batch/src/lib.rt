@@ -2,6 +2,8 @@
 // The public function has no `requires`. Each call leaves the words as sound as they were, so that one check serves
 // all. Rests on the crates `types`, `meaning`, `tables`, `soundness`, `format`, `history`, `index`, `store`, `codes`,
 // `encoding` and `opened`.
+#![tactic(auto)]
+
 ghost use Rattle.std.specs.Prelude.{◌+◌, ◌*◌, ◌≤◌, ◌≡◌, length};
 ghost use Rattle.tables.specs.Words.{lent, decode, sound_words};
 ghost use Rattle.index.specs.Index.{Indexed};

@@ -4,6 +4,8 @@
 // `types`, `meaning`, `locks`, `chains`, `tables` and `lookups`.  A caller proves that the words have these counts
 // (`Fits`), that the record and the points are in range and that the record's locks rise (`Rises`), so the functions
 // have `requires`; `first_blocked` also asks that they are spans (`Proper`).
+#![tactic(auto)]
+
 ghost use Rattle.std.specs.Prelude.{◌≡◌, ◌≤◌, ◌<◌};
 ghost use Rattle.types.specs.Limits.{LAST};
 ghost use Rattle.meaning.specs.Points.{meets, first_free};
@@ -18,7 +20,7 @@ use locks::{larger, smaller};
 use types::{Counts, Lock, SETTLED, SLOTS};
 
 // What a search for a blocked point found: the point, and who blocks it: SETTLED if it is frozen, else the lowest slot.
-#[derive(Drop)]
+#[derive(Clone, Copy)]
 pub struct Blocked {
     pub point: u64,
     pub by: u64,

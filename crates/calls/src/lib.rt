@@ -2,6 +2,8 @@
 // words. Rests on the crates `types`, `meaning`, `chains`, `tables`, `changes`, `slots`, `lookups`, `blocking` and
 // `index`. They are for callers who prove the words sound (`requires sound_words`), once for many calls: no call here
 // looks at more than the chains it touches. The crate `store` has the same calls for everybody, with the check first.
+#![tactic(auto)]
+
 ghost use Rattle.std.specs.Prelude.{◌≡◌, true, ◌≤◌, ◌<◌, ltb};
 ghost use Rattle.chains.specs.Walk.{IsRow};
 ghost use Rattle.meaning.specs.Edits.{beginning, writing};
@@ -25,7 +27,7 @@ use types::{
 };
 
 // What Lock and Read get of the points that they want: a run of points, or the first blocked point with its judgement.
-#[derive(Drop)]
+#[derive(Clone, Copy)]
 pub enum Grant {
     Taken(u64, u64),
     Judged(Blocked),

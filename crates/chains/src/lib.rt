@@ -9,6 +9,8 @@
 //
 // This file has the types and the access to single words; `queries` walks chains, `partition` checks them. The crate
 // `updates` changes them.
+#![tactic(auto)]
+
 mod partition;
 mod queries;
 
@@ -21,7 +23,7 @@ pub use queries::{all_with, chain_length, find_place, first_with, largest};
 
 // Where a table's rows lie: its first word, the width of a row, the link word's offset in a row, the number of rows.
 // Rows count from 1.
-#[derive(Drop)]
+#[derive(Clone, Copy)]
 pub struct Table {
     pub base: usize,
     pub stride: usize,
@@ -31,7 +33,7 @@ pub struct Table {
 
 // Where the head words lie: the free chain's, the first owner's, the distance from one owner's to the next, the number
 // of owners.
-#[derive(Drop)]
+#[derive(Clone, Copy)]
 pub struct Heads {
     pub free: usize,
     pub first: usize,
@@ -40,21 +42,21 @@ pub struct Heads {
 }
 
 // How far a walk along a chain has come: the row that it meets next, and how many rows it may still meet.
-#[derive(Drop)]
+#[derive(Clone, Copy)]
 pub struct Cursor {
     pub row: usize,
     pub left: usize,
 }
 
 // Three tables that are checked together, and a walk in each.
-#[derive(Drop)]
+#[derive(Clone, Copy)]
 pub struct Tables {
     pub a: Table,
     pub b: Table,
     pub c: Table,
 }
 
-#[derive(Drop)]
+#[derive(Clone, Copy)]
 pub struct Cursors {
     pub a: Cursor,
     pub b: Cursor,
@@ -62,7 +64,7 @@ pub struct Cursors {
 }
 
 // The number of rows on a chain, if it ends.
-#[derive(Drop)]
+#[derive(Clone, Copy)]
 pub enum Len {
     Broken,
     Rows(usize),

@@ -23,7 +23,7 @@ use Rattle.types.specs.declared.Lock.{Lock}
 use Rattle.types.specs.declared.Counts.{Counts}
 use Rattle.tables.specs.Layout.{lock_table, lock_heads, Fits, MODES, L_LOW, L_HIGH, L_MODE, L_RECORD}
 use Rattle.tables.specs.Decode.{lock_at, lock_rows, locks_of, record_at, decode_at}
-use Rattle.writes.specs.Rows.{lockStored}
+use Rattle.writes.specs.Rows.{lock_stored}
 use Rattle.tables.specs.Words.{Well, names_record}
 use Rattle.tables.proofs.Places.{locks_laid}
 use Rattle.tables.proofs.Decoded.{rec_at_lem}
@@ -87,33 +87,33 @@ module _ {c : Counts} {w : List ℕ} (W : Well c w) {r : ℕ} (l : r < c.records
 
     -- and once filled it stands where its low point belongs
     module _ (x : Lock) where
-      inserted : Filled (lock_table c) (lock_heads c) w (lockStored c w₁ i r x) (suc r) 0
+      inserted : Filled (lock_table c) (lock_heads c) w (lock_stored c w₁ i r x) (suc r) 0
           (insertAfter (stands_before true (lock_table c) w L_LOW q) i (rows_of (lock_table c) (lock_heads c) w (suc r)))
           (tail (rows_of (lock_table c) (lock_heads c) w 0)) i
       inserted = lock_filled c lock_ready_back (filled_start lock_ready_back i lock_inserted.changed) lock_row r x
 
-      inserted_here : x.mode < MODES → x.low ≡ q → locks_of c (lockStored c w₁ i r x) r ≡ put_lock x (locks_of c w r)
+      inserted_here : x.mode < MODES → x.low ≡ q → locks_of c (lock_stored c w₁ i r x) r ≡ put_lock x (locks_of c w r)
       unfolding locks_of lock_rows lock_at lock_table stands_before precedes
       inserted_here m e =
           let rows = rows_of (lock_table c) (lock_heads c) w (suc r) in
-          sorted_entries (lock_at c (lockStored c w₁ i r x)) (lock_at c w) (λ y. ltb y.low q) lock_ready_back
+          sorted_entries (lock_at c (lock_stored c w₁ i r x)) (lock_at c w) (λ y. ltb y.low q) lock_ready_back
           lock_inserted.taken inserted (λ y q n. (lock_rest c inserted y q n).0)
           ∙ ap (λ y. insertAfter (λ z. ltb z.low q) y (map (lock_at c w) rows))
           (lock_stored_at lock_inserted_fits lock_row r x m)
           ∙ lock_after q x e (map (lock_at c w) rows)
 
       inserted_others : {A : Type 0} (f g : ℕ → A) → ((y : ℕ) → IsRow c.locks y → (y ≡ i → ⊥) → f y ≡ g y) → (j : ℕ)
-          → j < c.records → (j ≡ r → ⊥) → map f (lock_rows c (lockStored c w₁ i r x) j) ≡ map g (lock_rows c w j)
+          → j < c.records → (j ≡ r → ⊥) → map f (lock_rows c (lock_stored c w₁ i r x) j) ≡ map g (lock_rows c w j)
       unfolding lock_rows lock_heads lock_table
       inserted_others f g e j q n =
           taken-others f g lock_ready_back lock_inserted.taken inserted e (suc j) (omega arith)
           (λ z. n (omega arith)) (λ z. omega arith)
 
       inserted_named : (j : ℕ) → j < c.records
-          → all_of (names_record c (lockStored c w₁ i r x) j) (lock_rows c (lockStored c w₁ i r x) j) ≡ true
+          → all_of (names_record c (lock_stored c w₁ i r x) j) (lock_rows c (lock_stored c w₁ i r x) j) ≡ true
       unfolding lock_rows lock_table
       inserted_named j p =
-          let w₂ = lockStored c w₁ i r x in
+          let w₂ = lock_stored c w₁ i r x in
           let test = stands_before true (lock_table c) w L_LOW q in
           let rows = rows_of (lock_table c) (lock_heads c) w (suc r) in
           elim (ℕ_discrete j r) [
@@ -130,14 +130,14 @@ module _ {c : Counts} {w : List ℕ} (W : Well c w) {r : ℕ} (l : r < c.records
                 (W.named j p)
           ]
 
-      pub add_lock_law : {w₂ : List ℕ} → x.mode < MODES → x.low ≡ q → w₂ ≡ lockStored c w₁ i r x
+      pub add_lock_law : {w₂ : List ℕ} → x.mode < MODES → x.low ≡ q → w₂ ≡ lock_stored c w₁ i r x
           → Beside c w w₂
           (with_rec (decode_at c w) r (with_locks (rec_at (decode_at c w) r) (add_lock x (rec_at (decode_at c w) r).locks)))
       unfolding locks_of add_lock
       add_lock_law m z e = rw e (record {
         becomes =
             locks_become W inserted.only r l inserted.parted inserted_named
-            (inserted_others (lock_at c (lockStored c w₁ i r x)) (lock_at c w) (λ y q n. (lock_rest c inserted y q n).0))
+            (inserted_others (lock_at c (lock_stored c w₁ i r x)) (lock_at c w) (λ y q n. (lock_rest c inserted y q n).0))
             (inserted_here m z ∙ ap (put_lock x) (sym (locks_at c w r l)));
         accesses = accesses_kept (apart_kept (locks_accesses c) inserted.only);
       })

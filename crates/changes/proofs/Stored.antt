@@ -21,7 +21,7 @@ use Rattle.tables.specs.Layout.{lock_table, lock_heads, version_table, version_h
 use Rattle.tables.specs.Layout.{L_LOW, L_HIGH, L_MODE, L_RECORD, V_POINT, V_VALUE, V_SPARE, A_RECORD, A_FROM, A_WRITTEN}
 use Rattle.tables.specs.Layout.{A_VALUE}
 use Rattle.tables.specs.Decode.{version_at, lock_at, access_at}
-use Rattle.writes.specs.Rows.{lockTag, writtenMark, versionStored, lockStored, accessStored}
+use Rattle.writes.specs.Rows.{lock_tag, written_mark, version_stored, lock_stored, access_stored}
 use Rattle.tables.specs.Words.{names_record, marked}
 use Rattle.tables.proofs.Places
 
@@ -32,54 +32,54 @@ other t w {i} q o v u a b n = field_other t w i i o u v q.low q.low a b (λ z. n
 
 -- Locks
 module _ {c : Counts} {w : List ℕ} (f : Fits c w) {i : ℕ} (q : IsRow c.locks i) (r : ℕ) (l : Lock) where
-  pub lock_stored_fits : Fits c (lockStored c w i r l)
-  unfolding lockStored
+  pub lock_stored_fits : Fits c (lock_stored c w i r l)
+  unfolding lock_stored
   lock_stored_fits =
       Places.lock_fits i L_RECORD r
-      (Places.lock_fits i L_MODE (lockTag l)
+      (Places.lock_fits i L_MODE (lock_tag l)
       (Places.lock_fits i L_HIGH l.high (Places.lock_fits i L_LOW l.low f refl) refl) refl) refl
 
-  lock_stored_fields : (field (lock_table c) (lockStored c w i r l) i L_LOW ≡ l.low)
-      × (field (lock_table c) (lockStored c w i r l) i L_HIGH ≡ l.high)
-      × (field (lock_table c) (lockStored c w i r l) i L_MODE ≡ lockTag l)
-      × (field (lock_table c) (lockStored c w i r l) i L_RECORD ≡ r)
-  unfolding lockStored lock_table
+  lock_stored_fields : (field (lock_table c) (lock_stored c w i r l) i L_LOW ≡ l.low)
+      × (field (lock_table c) (lock_stored c w i r l) i L_HIGH ≡ l.high)
+      × (field (lock_table c) (lock_stored c w i r l) i L_MODE ≡ lock_tag l)
+      × (field (lock_table c) (lock_stored c w i r l) i L_RECORD ≡ r)
+  unfolding lock_stored lock_table
   lock_stored_fields =
       let t = lock_table c in
       let x1 = set w (place t i L_LOW) l.low in
       let x2 = set x1 (place t i L_HIGH) l.high in
-      let x3 = set x2 (place t i L_MODE) (lockTag l) in
+      let x3 = set x2 (place t i L_MODE) (lock_tag l) in
       let f1 : Fits c x1 = Places.lock_fits i L_LOW l.low f refl in
       let f2 : Fits c x2 = Places.lock_fits i L_HIGH l.high f1 refl in
-      let f3 : Fits c x3 = Places.lock_fits i L_MODE (lockTag l) f2 refl in (
+      let f3 : Fits c x3 = Places.lock_fits i L_MODE (lock_tag l) f2 refl in (
         other t x3 q L_RECORD r L_LOW (omega arith) (omega arith) (λ z. omega arith)
-            ∙ other t x2 q L_MODE (lockTag l) L_LOW (omega arith) (omega arith) (λ z. omega arith)
+            ∙ other t x2 q L_MODE (lock_tag l) L_LOW (omega arith) (omega arith) (λ z. omega arith)
             ∙ other t x1 q L_HIGH l.high L_LOW (omega arith) (omega arith) (λ z. omega arith)
             ∙ field_same t w i L_LOW l.low (lies (Places.locks_laid f)) q (omega arith),
         other t x3 q L_RECORD r L_HIGH (omega arith) (omega arith) (λ z. omega arith)
-            ∙ other t x2 q L_MODE (lockTag l) L_HIGH (omega arith) (omega arith) (λ z. omega arith)
+            ∙ other t x2 q L_MODE (lock_tag l) L_HIGH (omega arith) (omega arith) (λ z. omega arith)
             ∙ field_same t x1 i L_HIGH l.high (lies (Places.locks_laid f1)) q (omega arith),
         other t x3 q L_RECORD r L_MODE (omega arith) (omega arith) (λ z. omega arith)
-            ∙ field_same t x2 i L_MODE (lockTag l) (lies (Places.locks_laid f2)) q (omega arith),
+            ∙ field_same t x2 i L_MODE (lock_tag l) (lies (Places.locks_laid f2)) q (omega arith),
         field_same t x3 i L_RECORD r (lies (Places.locks_laid f3)) q (omega arith),
       )
 
-  pub lock_stored_at : l.mode < MODES → lock_at c (lockStored c w i r l) i ≡ l
-  unfolding lock_at lockTag
+  pub lock_stored_at : l.mode < MODES → lock_at c (lock_stored c w i r l) i ≡ l
+  unfolding lock_at lock_tag
   lock_stored_at m =
       let s = lock_stored_fields in
       let x : (l.mode + l.owner * MODES) % MODES ≡ l.mode = omega arith in
       let y : (l.mode + l.owner * MODES) / MODES ≡ l.owner = omega arith in
       rw (s.0, s.1, s.2, x, y) refl
 
-  pub lock_stored_record : field (lock_table c) (lockStored c w i r l) i L_RECORD ≡ r
+  pub lock_stored_record : field (lock_table c) (lock_stored c w i r l) i L_RECORD ≡ r
   lock_stored_record = lock_stored_fields.3
 
 -- Versions
 module _ {c : Counts} {w : List ℕ} (f : Fits c w) {i : ℕ} (q : IsRow c.versions i) (point value : ℕ) where
-  pub version_stored_at : version_at c (versionStored c w i point value) i
+  pub version_stored_at : version_at c (version_stored c w i point value) i
       ≡ record { point = point; value = Written value; spare = 0 }
-  unfolding version_at versionStored version_table
+  unfolding version_at version_stored version_table
   version_stored_at =
       let t = version_table c in
       let x1 = set w (place t i V_POINT) point in
@@ -98,20 +98,20 @@ module _ {c : Counts} {w : List ℕ} (f : Fits c w) {i : ℕ} (q : IsRow c.versi
       rw (a, b, d) refl
 
 -- Accesses
-mark_tested : (b : Bool) → (eqb (writtenMark b) 1 ≡ b) × (leb (writtenMark b) 1 ≡ true)
-unfolding writtenMark
+mark_tested : (b : Bool) → (eqb (written_mark b) 1 ≡ b) × (leb (written_mark b) 1 ≡ true)
+unfolding written_mark
 mark_tested true = (refl, refl)
 mark_tested false = (refl, refl)
 
 module _ {c : Counts} {w : List ℕ} (f : Fits c w) {i : ℕ} (q : IsRow c.accesses i) (a : Access) where
-  access_stored_fields : (field (access_table c) (accessStored c w i a) i A_RECORD ≡ a.rec)
-      × (field (access_table c) (accessStored c w i a) i A_FROM ≡ a.from)
-      × (field (access_table c) (accessStored c w i a) i A_WRITTEN ≡ writtenMark a.written)
-      × (field (access_table c) (accessStored c w i a) i A_VALUE ≡ a.value)
-  unfolding accessStored access_table
+  access_stored_fields : (field (access_table c) (access_stored c w i a) i A_RECORD ≡ a.rec)
+      × (field (access_table c) (access_stored c w i a) i A_FROM ≡ a.from)
+      × (field (access_table c) (access_stored c w i a) i A_WRITTEN ≡ written_mark a.written)
+      × (field (access_table c) (access_stored c w i a) i A_VALUE ≡ a.value)
+  unfolding access_stored access_table
   access_stored_fields =
       let t = access_table c in
-      let m = writtenMark a.written in
+      let m = written_mark a.written in
       let x1 = set w (place t i A_RECORD) a.rec in
       let x2 = set x1 (place t i A_FROM) a.from in
       let x3 = set x2 (place t i A_WRITTEN) m in
@@ -130,29 +130,29 @@ module _ {c : Counts} {w : List ℕ} (f : Fits c w) {i : ℕ} (q : IsRow c.acces
         field_same t x3 i A_VALUE a.value (lies (Places.accesses_laid f3)) q (omega arith),
       )
 
-  pub access_stored_at : access_at c (accessStored c w i a) i ≡ a
+  pub access_stored_at : access_at c (access_stored c w i a) i ≡ a
   unfolding access_at
   access_stored_at = let s = access_stored_fields in rw (s.0, s.1, s.2, s.3, (mark_tested a.written).0) refl
 
-  pub access_stored_marked : marked c (accessStored c w i a) i ≡ true
+  pub access_stored_marked : marked c (access_stored c w i a) i ≡ true
   access_stored_marked = ap (λ x. leb x 1) access_stored_fields.2 ∙ (mark_tested a.written).1
 
 -- The chains after a change of two of them, whose row i was then filled
 module _ (c : Counts) {w w₁ : List ℕ} {a b : ℕ} {A B : List ℕ} {i : ℕ} where
   pub lock_filled : Ready (lock_table c) (lock_heads c) w a b → Filled (lock_table c) (lock_heads c) w w₁ a b A B i
       → IsRow c.locks i → (r : ℕ) (l : Lock)
-      → Filled (lock_table c) (lock_heads c) w (lockStored c w₁ i r l) a b A B i
-  unfolding lockStored lock_table
+      → Filled (lock_table c) (lock_heads c) w (lock_stored c w₁ i r l) a b A B i
+  unfolding lock_stored lock_table
   lock_filled rd k q r l =
       filled_put rd L_RECORD r
-      (filled_put rd L_MODE (lockTag l)
+      (filled_put rd L_MODE (lock_tag l)
       (filled_put rd L_HIGH l.high (filled_put rd L_LOW l.low k q (omega arith) (λ e. omega arith)) q
       (omega arith) (λ e. omega arith)) q (omega arith) (λ e. omega arith)) q (omega arith) (λ e. omega arith)
 
   pub version_filled : Ready (version_table c) (version_heads c) w a b
       → Filled (version_table c) (version_heads c) w w₁ a b A B i → IsRow c.versions i → (point value : ℕ)
-      → Filled (version_table c) (version_heads c) w (versionStored c w₁ i point value) a b A B i
-  unfolding versionStored version_table
+      → Filled (version_table c) (version_heads c) w (version_stored c w₁ i point value) a b A B i
+  unfolding version_stored version_table
   version_filled rd k q point value =
       filled_put rd V_SPARE 0
       (filled_put rd V_VALUE value (filled_put rd V_POINT point k q (omega arith) (λ e. omega arith)) q (omega arith)
@@ -160,11 +160,11 @@ module _ (c : Counts) {w w₁ : List ℕ} {a b : ℕ} {A B : List ℕ} {i : ℕ}
 
   pub access_filled : Ready (access_table c) (access_heads c) w a b
       → Filled (access_table c) (access_heads c) w w₁ a b A B i → IsRow c.accesses i → (x : Access)
-      → Filled (access_table c) (access_heads c) w (accessStored c w₁ i x) a b A B i
-  unfolding accessStored access_table
+      → Filled (access_table c) (access_heads c) w (access_stored c w₁ i x) a b A B i
+  unfolding access_stored access_table
   access_filled rd k q x =
       filled_put rd A_VALUE x.value
-      (filled_put rd A_WRITTEN (writtenMark x.written)
+      (filled_put rd A_WRITTEN (written_mark x.written)
       (filled_put rd A_FROM x.from (filled_put rd A_RECORD x.rec k q (omega arith) (λ e. omega arith)) q
       (omega arith) (λ e. omega arith)) q (omega arith) (λ e. omega arith)) q (omega arith) (λ e. omega arith)
 

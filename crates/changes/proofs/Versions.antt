@@ -19,7 +19,7 @@ use Rattle.types.specs.declared.Version.{Version}
 use Rattle.types.specs.declared.Counts.{Counts}
 use Rattle.tables.specs.Layout.{version_table, version_heads, Fits, V_POINT, V_VALUE, V_SPARE}
 use Rattle.tables.specs.Decode.{version_at, version_rows, versions_of, record_at, decode_at}
-use Rattle.writes.specs.Rows.{versionStored}
+use Rattle.writes.specs.Rows.{version_stored}
 use Rattle.tables.specs.Words.{Well}
 use Rattle.tables.proofs.Places.{versions_laid}
 use Rattle.tables.proofs.Decoded.{rec_at_lem}
@@ -67,7 +67,7 @@ module _ {c : Counts} {w : List ℕ} (W : Well c w) {r : ℕ} (l : r < c.records
 
     -- and once filled it stands where its point belongs
     module _ (point value : ℕ) where
-      inserted : Filled (version_table c) (version_heads c) w (versionStored c w₁ i point value) (suc r) 0
+      inserted : Filled (version_table c) (version_heads c) w (version_stored c w₁ i point value) (suc r) 0
           (insertAfter (stands_before false (version_table c) w V_POINT q) i
           (rows_of (version_table c) (version_heads c) w (suc r)))
           (tail (rows_of (version_table c) (version_heads c) w 0)) i
@@ -76,32 +76,32 @@ module _ {c : Counts} {w : List ℕ} (W : Well c w) {r : ℕ} (l : r < c.records
           value
 
       inserted_here : point ≡ suc q
-          → versions_of c (versionStored c w₁ i point value) r ≡ insert (version_of point value) (versions_of c w r)
+          → versions_of c (version_stored c w₁ i point value) r ≡ insert (version_of point value) (versions_of c w r)
       unfolding versions_of version_rows version_at version_table stands_before precedes
       inserted_here e =
           let rows = rows_of (version_table c) (version_heads c) w (suc r) in
-          sorted_entries (version_at c (versionStored c w₁ i point value)) (version_at c w) (λ x. ltb q x.point)
+          sorted_entries (version_at c (version_stored c w₁ i point value)) (version_at c w) (λ x. ltb q x.point)
           version_ready version_inserted.taken inserted (λ y q n. version_rest c inserted y q n)
           ∙ ap (λ y. insertAfter (λ x. ltb q x.point) y (map (version_at c w) rows))
           (version_stored_at version_inserted_fits version_row point value)
           ∙ insert_after q (version_of point value) e (map (version_at c w) rows)
 
       inserted_others : (j : ℕ) → j < c.records → (j ≡ r → ⊥)
-          → versions_of c (versionStored c w₁ i point value) j ≡ versions_of c w j
+          → versions_of c (version_stored c w₁ i point value) j ≡ versions_of c w j
       unfolding versions_of version_rows version_heads version_table
       inserted_others j q n =
-          taken-others (version_at c (versionStored c w₁ i point value)) (version_at c w) version_ready
+          taken-others (version_at c (version_stored c w₁ i point value)) (version_at c w) version_ready
           version_inserted.taken inserted (λ y q n. version_rest c inserted y q n) (suc j) (omega arith)
           (λ e. n (omega arith)) (λ e. omega arith)
 
-      pub add_version_law : {w₂ : List ℕ} → point ≡ suc q → w₂ ≡ versionStored c w₁ i point value
+      pub add_version_law : {w₂ : List ℕ} → point ≡ suc q → w₂ ≡ version_stored c w₁ i point value
           → Becomes c w₂ (with_rec (decode_at c w) r
           (with_versions (rec_at (decode_at c w) r) (insert (version_of point value) (rec_at (decode_at c w) r).versions)))
       add_version_law e z =
           rw z (versions_become W inserted.only r l inserted.parted inserted_others
           (inserted_here e ∙ ap (insert (version_of point value)) (sym (versions_at c w r l))))
 
-      pub add_version_kept : {w₂ : List ℕ} → w₂ ≡ versionStored c w₁ i point value → AccessesKept c w w₂
+      pub add_version_kept : {w₂ : List ℕ} → w₂ ≡ version_stored c w₁ i point value → AccessesKept c w w₂
       add_version_kept z = rw z (accesses_kept (apart_kept (versions_accesses c) inserted.only))
 
   -- rows that pass a test of their entry were sent to the free chain

@@ -2,6 +2,8 @@
 // Each leaves the words well formed and equals a function of the decoded store; the callers prove that the words are
 // well formed (`Well`), that slots and records are in range, and that there is room, in the words of the meaning. Rests
 // on the crates `types`, `meaning`, `locks`, `chains`, `updates`, `tables` and `writes`.
+#![tactic(auto)]
+
 ghost use Rattle.std.specs.Prelude.{◌≡◌, true, not, suc, ◌≤◌, ◌<◌};
 ghost use Rattle.chains.specs.Walk.{IsRow};
 ghost use Rattle.chains.specs.Change.{Ready, Follows, Turned};

@@ -2,6 +2,8 @@
 // were granted and how many were refused, by the number of the refusal. Every round asks for the same, so each count is
 // a multiple of the rounds: a row or a slot that is lost, or refused while one is free, changes the output. Rests on
 // the crates `io`, `types`, `soundness`, `format` and `store`.
+#![tactic(auto)]
+
 use types::{
     AbortReply, BeginReply, CommitReply, Counts, Extent, Finish, FormatReply, Handle, LockReply,
     Pick, PurgeReply, ReadReply, Refusal, SettleReply, WriteReply,

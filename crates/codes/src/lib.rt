@@ -1,5 +1,7 @@
 // What a caller from another language says and hears as numbers: the flags of a call, the number of a refusal, and a
 // value. The crates `verdicts` and `telling` tell whole replies by them. Rests on the crates `types` and `meaning`.
+#![tactic(auto)]
+
 ghost use Rattle.std.specs.Prelude.{◌≡◌};
 ghost use Rattle.types.specs.Replies.{of_refusal};
 ghost use Rattle.codes.specs.Codes.{code_of, mark_of, bits_of, extent_of, finish_of};

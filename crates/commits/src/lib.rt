@@ -3,6 +3,8 @@
 // the locks of their records; if it settles the edit, along the locks of each record that it may have touched. Rests on
 // the crates `types`, `meaning`, `chains`, `tables`, `changes`, `slots`, `lookups`, `blocking`, `common`, `index`,
 // `calls` and `endings`.
+#![tactic(auto)]
+
 ghost use Rattle.std.specs.Prelude.{◌≡◌, true, ◌∷◌, [], ◌≤◌, ◌<◌};
 ghost use Rattle.chains.specs.Walk.{IsRow};
 ghost use Rattle.types.specs.Limits.{LAST, OPEN, COMMITTED};

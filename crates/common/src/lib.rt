@@ -3,6 +3,8 @@
 // these counts (`Fits`), that records and slots are in range and, for all but `write_on`, that every record's locks
 // rise (`AllRise`). `allowed` has the points that an access allows, `lifting` the earliest point of the set and
 // `sinking` the latest. Rests on the crates `types`, `meaning`, `locks`, `chains`, `tables`, `lookups` and `blocking`.
+#![tactic(auto)]
+
 mod allowed;
 mod lifting;
 mod sinking;

@@ -1,5 +1,7 @@
 // For programs that show what calls did: a line on standard output, and whether any word moved. Rests on the crates
 // `replies` and `printing`.
+#![tactic(auto)]
+
 ghost use Rattle.console.specs.Words.{Moved};
 
 use replies::Line;

@@ -3,6 +3,8 @@
 // what was changed. A damage breaks the clause that its group names and no other; where that cannot be, the comment
 // says why. Beside what is refused stands what must pass. Rests on the crates `io`, `types`, `tables`, `soundness` and
 // `format`.
+#![tactic(auto)]
+
 mod state;
 
 use state::{

@@ -4,6 +4,8 @@
 // value, and puts the session back. What each does is a program of calls of the store (specs/Desk), so that demand 3
 // holds of desks as it does of the store. Rests on the crates `types`, `meaning`, `tables`, `history`, `layers` and
 // `store`.
+#![tactic(auto)]
+
 ghost use Rattle.std.specs.Prelude.{◌≡◌, suc, min, max};
 ghost use Rattle.types.specs.Replies.{of_write, of_commit};
 ghost use Rattle.layers.specs.Programs.{slot, view};
@@ -19,7 +21,7 @@ use types::{
 };
 
 // A desk's session. It has ended if the interval is empty.
-#[derive(Drop)]
+#[derive(Clone, Copy)]
 pub struct Session {
     pub handle: Handle,
     pub low: Point,
@@ -29,40 +31,40 @@ pub struct Session {
 }
 
 // The session, or a refusal.
-#[derive(Drop)]
+#[derive(Clone, Copy)]
 pub enum OpenReply {
     Opened(Session),
     Refused(Refusal),
 }
 
 // The store's reply, or that nothing of the interval is left: the edit is aborted and settled.
-#[derive(Drop)]
+#[derive(Clone, Copy)]
 pub enum ReadReport {
     Told(ReadReply),
     Emptied,
 }
 
 // The session after a call, and what the desk is told.
-#[derive(Drop)]
+#[derive(Clone, Copy)]
 pub struct ReadStep {
     pub session: Session,
     pub report: ReadReport,
 }
 
-#[derive(Drop)]
+#[derive(Clone, Copy)]
 pub struct WriteStep {
     pub session: Session,
     pub reply: WriteReply,
 }
 
-#[derive(Drop)]
+#[derive(Clone, Copy)]
 pub struct CommitStep {
     pub session: Session,
     pub reply: CommitReply,
 }
 
 // What is left of an interval.
-#[derive(Drop)]
+#[derive(Clone, Copy)]
 enum Rest {
     Left(Session),
     Empty,

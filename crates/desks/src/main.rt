@@ -1,6 +1,8 @@
 // Shows every reply of the planning desk: each call is printed with what it told, the interval left after it and
 // whether any word of the store moved. Calls of the store itself stand between them as script lines. This file has the
 // scenes; `calls` makes a call and prints it, `lending` lends it the session. Rests on `desk`.
+#![tactic(auto)]
+
 mod calls;
 mod lending;
 

@@ -1,6 +1,8 @@
 // Calls and replies as words: a row of CALL_WORDS words is a call's kind and its numbers, a row of REPLY_WORDS words a
 // reply's code and its numbers, with 0 for those that it lacks. Every row is a call. Rests on the crates `types`,
 // `codes`, `verdicts` and `telling`.
+#![tactic(auto)]
+
 ghost use Rattle.std.specs.Prelude.{◌+◌, ◌*◌, ◌≤◌, min, ◌≡◌, ◌∷◌, length, replicate};
 ghost use Rattle.std.proofs.lemmas.List.Edits.{sets};
 ghost use Rattle.types.specs.Replies.{of_begin, of_lock, of_read, of_commit, of_purge, of_view, of_answer};
@@ -78,7 +80,7 @@ pub fn call_at(list: &[u64], i: usize) -> Call
 }
 
 // The words of a reply's row.
-#[derive(Drop)]
+#[derive(Clone, Copy)]
 pub struct Row {
     pub code: u64,
     pub first: u64,

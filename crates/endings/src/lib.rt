@@ -2,6 +2,8 @@
 // Rests on the crates `types`, `meaning`, `chains`, `tables`, `changes`, `slots`, `lookups`, `index` and `calls`. They
 // are for callers who prove the words sound (`requires sound_words`), as those of the crate `calls`. No call here looks
 // at more than the chains it touches; Settle looks once at the locks of each record that the edit may have touched.
+#![tactic(auto)]
+
 ghost use Rattle.std.specs.Prelude.{◌≡◌, true, ◌∷◌, [], ◌+◌, ◌≤◌, ◌<◌};
 ghost use Rattle.chains.specs.Walk.{IsRow};
 ghost use Rattle.types.specs.Limits.{OPEN, COMMITTED};

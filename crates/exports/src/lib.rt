@@ -2,6 +2,8 @@
 // call returns 0 for granted, else the number of the refusal. None has a `requires`; the contract of each is the
 // promise of its call. Rests on the crates `types`, `meaning`, `format`, `store`, `codes`, `verdicts`, `telling`,
 // `batch`, `asks`, `layers`, `desk` and `sessions`. The module `in_session` has the calls of a session.
+#![tactic(auto)]
+
 ghost use Rattle.std.specs.Prelude.{◌≡◌, [], ◌∷◌};
 ghost use Rattle.meaning.specs.Edits.{beginning, writing};
 ghost use Rattle.meaning.specs.Locking.{locking, reading};

@@ -1,6 +1,8 @@
 // Fields of a line, read at a position: a number, one letter, a flag, a commit's point. Each says what follows from the
 // field it found, and where the next one begins. Each function is proved against specs/. Rests on the crates `types`
 // and `texts`.
+#![tactic(auto)]
+
 ghost use Rattle.std.specs.Prelude.{◌≡◌, List, ℕ, ◌+◌, ◌*◌, get_or, leb};
 ghost use Rattle.fields.specs.declared.Parsed.{Parsed};
 ghost use Rattle.texts.specs.Text.{LARGEST};
@@ -16,7 +18,7 @@ use types::{Call, Counts, Extent, Finish, Pick};
 const LARGEST: u64 = 18446744073709551615;
 
 // What a line is. The contract of each function that reads a field says which of these follows from the field.
-#[derive(Drop)]
+#[derive(Clone, Copy)]
 pub enum Parsed {
     Format(Counts),
     Call(Call),
@@ -24,33 +26,33 @@ pub enum Parsed {
 }
 
 // A number found, and where the next field begins.
-#[derive(Drop)]
+#[derive(Clone, Copy)]
 pub enum FoundNumber {
     At(u64, usize),
     Missing,
 }
 
 // A field of one byte found, and where the next field begins.
-#[derive(Drop)]
+#[derive(Clone, Copy)]
 pub enum FoundLetter {
     At(u8, usize),
     Missing,
 }
 
 // A flag or a commit's point found, and where the next field begins.
-#[derive(Drop)]
+#[derive(Clone, Copy)]
 pub enum FoundExtent {
     At(Extent, usize),
     Missing,
 }
 
-#[derive(Drop)]
+#[derive(Clone, Copy)]
 pub enum FoundFinish {
     At(Finish, usize),
     Missing,
 }
 
-#[derive(Drop)]
+#[derive(Clone, Copy)]
 pub enum FoundPick {
     At(Pick, usize),
     Missing,

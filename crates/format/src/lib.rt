@@ -1,5 +1,7 @@
 // The call Format: it lays out a store in a lent slice, whatever the slice held, or refuses and leaves every word as it
 // was. Rests on the crates `types`, `meaning`, `chains` and `tables`.
+#![tactic(auto)]
+
 ghost use Rattle.std.specs.Prelude.{◌≡◌, ◌≤◌, ◌<◌, length, replicate};
 ghost use Rattle.std.proofs.lemmas.List.Edits.{sets};
 ghost use Rattle.chains.specs.Table.{Lies};

@@ -1,5 +1,7 @@
 // How many words a Format of a script is lent, out of those that there are. Rests on the crates `types`, `meaning` and
 // `tables`.
+#![tactic(auto)]
+
 ghost use Rattle.std.specs.Prelude.{◌≡◌};
 ghost use Rattle.format_room.specs.Room.{words_for};
 

@@ -1,4 +1,6 @@
 // The line that has begun, gathered byte by byte in a lent buffer. Rests on nothing.
+#![tactic(auto)]
+
 ghost use Rattle.std.specs.Prelude.{◌≤◌, ◌≡◌, length, take};
 ghost use Rattle.gathering.specs.Gathered.{gathered};
 

@@ -1,6 +1,8 @@
 // Starts from a sound store whose slot 1 has generation 65,535 and an open edit, and shows the wrap: after 65,535 comes
 // 0. Every call that takes a handle refuses one of another generation with 2, and after 65,536 begins in the slot the
 // stale handle is good again. Rests on `store`, and on `lines` for the text of calls and replies.
+#![tactic(auto)]
+
 use console::print_line;
 use fields::Parsed;
 use replies::Line;

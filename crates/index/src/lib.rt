@@ -2,6 +2,8 @@
 // too much and never too little; a slice of another length than `INDEX` says nothing, and one of which every number is
 // `UNKNOWN` is right of every store. The calls only read it; `begun` and `touch` keep it after them. Rests on the
 // crates `types`, `meaning`, `chains`, `tables` and `lookups`. A caller proves that slots and records are in range.
+#![tactic(auto)]
+
 ghost use Rattle.std.specs.Prelude.{◌≡◌, true, false, ◌<◌, length};
 ghost use Rattle.chains.specs.Walk.{IsRow};
 ghost use Rattle.types.specs.Replies.{of_begin};

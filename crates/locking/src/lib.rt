@@ -1,6 +1,8 @@
 // Lock on sound words: equal to its definition in the crate `meaning`, and leaving sound words. For callers who prove
 // the words sound (`requires sound_words`), as the calls of `calls`. It goes along one record's locks. Rests on the
 // crates `types`, `meaning`, `chains`, `tables`, `changes`, `lookups`, `blocking` and `calls`.
+#![tactic(auto)]
+
 ghost use Rattle.std.specs.Prelude.{◌≡◌, true, ◌≤◌, ◌<◌};
 ghost use Rattle.chains.specs.Walk.{IsRow};
 ghost use Rattle.types.specs.Limits.{LAST, WRITE};

@@ -1,6 +1,8 @@
 // What one lock is to a point, to a slot and to a span of points, by the definitions of `meaning`, and the smaller and
 // the larger of two ends. Rests on the crates `types` and `meaning`; it is a crate of its own so that its wrong
 // programs are tried quickly.
+#![tactic(auto)]
+
 ghost use Rattle.std.specs.Prelude.{◌≡◌, suc, min, max, leb};
 ghost use Rattle.meaning.specs.Points.{covers, conflicts, blocks, is_settled_read, touches};
 ghost use Rattle.meaning.specs.Sound.{starts_read};

@@ -3,6 +3,8 @@
 // slots are in range, so the functions have `requires`. Beyond that they are exact on any words. They also serve the
 // soundness check.  This file has the names; `edits`, `accesses` and `versions` look one up, `free_rows` has the room
 // for changes.
+#![tactic(auto)]
+
 mod accesses;
 mod edits;
 mod free_rows;

@@ -23,7 +23,7 @@ use Rattle.meaning.proofs.LockChanges.{IsOn, LeftOn, lock_on, is_on, drop_owner_
 use Rattle.meaning.proofs.LockChanges.{trim_to_is, trim_to_member}
 use Rattle.meaning.proofs.Joining.{put_out, put_old, put_new, join_is}
 use Rattle.meaning.proofs.Trimmed.{kind_kept}
-use Rattle.meaning.proofs.Rows.{Perm, none, skip, swap, then, perm-refl, perm-length, put-perm, fewer_reads}
+use Rattle.meaning.proofs.Rows.{Perm, none, skip, swap, then, perm_refl, perm_length, put_perm, fewer_reads}
 
 -- lists up to their order
 module _ {A : Type 0} where
@@ -64,9 +64,9 @@ module _ {A : Type 0} where
       go : (a b : Bool) → Perm (cond a (x ∷ cond b (y ∷ keep t xs) (keep t xs)) (cond b (y ∷ keep t xs) (keep t xs)))
           (cond b (y ∷ cond a (x ∷ keep t xs) (keep t xs)) (cond a (x ∷ keep t xs) (keep t xs)))
       go true true = swap
-      go true false = perm-refl (x ∷ keep t xs)
-      go false true = perm-refl (y ∷ keep t xs)
-      go false false = perm-refl (keep t xs)
+      go true false = perm_refl (x ∷ keep t xs)
+      go false true = perm_refl (y ∷ keep t xs)
+      go false false = perm_refl (keep t xs)
   perm_keep t (then p q) = then (perm_keep t p) (perm_keep t q)
 
   pub perm_map : (f : A → A) {xs ys : List A} → Perm xs ys → Perm (map f xs) (map f ys)
@@ -150,7 +150,7 @@ modes_from {xs} {ys} a = one_way {xs = ys} {ys = xs} (perm_sym a.rows) a.from
 pub add_alike : {xs ys : List Lock} (l : Lock) → l.low ≤ l.high → Locks xs ys → Locks (l ∷ xs) (put_lock l ys)
 add_alike {xs} {ys} l h a =
     record {
-      rows = then (front (is_plain l)) (perm_keep is_plain (put-perm l ys));
+      rows = then (front (is_plain l)) (perm_keep is_plain (put_perm l ys));
       to = into;
       from = out;
       proper = λ m i. each m (Memᴰ.cases_cons i);
@@ -202,7 +202,7 @@ pub left_alike : {xs ys : List Lock} (low high : ℕ) → low ≤ high → Locks
 left_alike {xs} {ys} low high h a =
     record {
       rows = then a.rows (then same (perm_keep is_plain
-          (put-perm (joined_row low high ys) (keep (λ l. not (touches low high l)) ys))));
+          (put_perm (joined_row low high ys) (keep (λ l. not (touches low high l)) ys))));
       to = λ p w. (join_is low high ys SETTLED READ p).1 (sides p ((cons_is (settled_lock READ low high) xs SETTLED READ
           p).0 w));
       from = λ p w. back p ((join_is low high ys SETTLED READ p).0 w);
@@ -245,7 +245,7 @@ left_alike {xs} {ys} low high h a =
         go (inr e) (inr f) ih = rw (f, e) (ap (λ zs. l ∷ zs) ih)
 
     same : Perm (plains ys) (plains (keep (λ l. not (touches low high l)) ys))
-    same = rw (untouched ys) (perm-refl (plains ys))
+    same = rw (untouched ys) (perm_refl (plains ys))
 
     each : (m : Lock) → (m ≡ settled_lock READ low high) ⊎ (m ∈ xs) → m.low ≤ m.high
     each m (inl e) = rw e h
@@ -301,6 +301,6 @@ shorter {xs} {ys} a proper rises joined =
       arith,
       keep_split is_settled_read xs,
       keep_split is_settled_read ys,
-      perm-length a.rows,
+      perm_length a.rows,
       fewer_reads xs ys (λ p. (a.to p, a.from p)) proper rises joined,
     )

@@ -29,6 +29,7 @@ module _ {c : Call} {s : Store} {o : Outcome} where
 
   pub first_says : {i : Item} {is : List Item} → Judging c s o is → sound_store s ≡ true → First c s i is
       → Says i o.reply
+  first_says {i = i} (granted _) good x6 = elim x6 [ ]
   first_says (refuses n more f v a e) good (here b) = rw (reply_of e) v
   first_says (refuses n more f v a e) good (there g w) = absurd (g (f good))
   first_says (answers r f v a e) good (here b) = rw e v

@@ -90,9 +90,12 @@ module _ {A : Type 0} (p : A → Bool) where
   pub none_any : (xs : List A) → ((x : A) → x ∈ xs → p x ≡ true → ⊥) → any p xs ≡ false
   none_any xs f = false_in (any p xs) (λ e. let w = any_out xs e in f w.0 w.1 w.2)
 
+  all_at : (x : A) (xs : List A) → x ∈ xs → all p xs ≡ true → p x ≡ true
+  all_at x xs (Memᴰ.head {x = y} {xs = ys} e) q = rw e (and_left (p y) (all p ys) q)
+  all_at x xs (Memᴰ.tail {x = y} {xs = ys} m) q = all_at x ys m (and_right (p y) (all p ys) q)
+
   pub all_out : (xs : List A) → all p xs ≡ true → (x : A) → x ∈ xs → p x ≡ true
-  all_out xs q x (Memᴰ.head {x = y} {xs = ys} e) = rw e (and_left (p y) (all p ys) q)
-  all_out xs q x (Memᴰ.tail {x = y} {xs = ys} m) = all_out ys (and_right (p y) (all p ys) q) x m
+  all_out xs q x m = all_at x xs m q
 
   pub all_in : (xs : List A) → ((x : A) → x ∈ xs → p x ≡ true) → all p xs ≡ true
   all_in [] f = refl
@@ -173,15 +176,19 @@ module _ {A : Type 0} where
   get_d_past (x ∷ xs) (suc i) d h = get_d_past xs i d (omega arith)
 
   -- pairwise
+  pairwise_at : (r : A → A → Bool) {x y : A} (xs : List A) → x ∈ xs → y ∈ xs → pairwise r xs ≡ true
+      → (x ≡ y) ⊎ ((r x y ≡ true) ⊎ (r y x ≡ true))
+  pairwise_at r xs (Memᴰ.head e) (Memᴰ.head f) h = inl (e ∙ sym f)
+  pairwise_at r {y = b} xs (Memᴰ.head {x = z} {xs = ys} e) (Memᴰ.tail m) h =
+      inr (inl (rw e (all_out (r z) ys (and_left (all (r z) ys) (pairwise r ys) h) b m)))
+  pairwise_at r {x = a} xs (Memᴰ.tail {x = z} {xs = ys} m) (Memᴰ.head e) h =
+      inr (inr (rw e (all_out (r z) ys (and_left (all (r z) ys) (pairwise r ys) h) a m)))
+  pairwise_at r xs (Memᴰ.tail {x = z} {xs = ys} m) (Memᴰ.tail n) h =
+      pairwise_at r ys m n (and_right (all (r z) ys) (pairwise r ys) h)
+
   pub pairwise_out : (r : A → A → Bool) (xs : List A) → pairwise r xs ≡ true → {x y : A} → x ∈ xs → y ∈ xs
       → (x ≡ y) ⊎ ((r x y ≡ true) ⊎ (r y x ≡ true))
-  pairwise_out r xs h (Memᴰ.head e) (Memᴰ.head f) = inl (e ∙ sym f)
-  pairwise_out r xs h {y = b} (Memᴰ.head {x = z} {xs = ys} e) (Memᴰ.tail m) =
-      inr (inl (rw e (all_out (r z) ys (and_left (all (r z) ys) (pairwise r ys) h) b m)))
-  pairwise_out r xs h {x = a} (Memᴰ.tail {x = z} {xs = ys} m) (Memᴰ.head e) =
-      inr (inr (rw e (all_out (r z) ys (and_left (all (r z) ys) (pairwise r ys) h) a m)))
-  pairwise_out r xs h (Memᴰ.tail {x = z} {xs = ys} m) (Memᴰ.tail n) =
-      pairwise_out r ys (and_right (all (r z) ys) (pairwise r ys) h) m n
+  pairwise_out r xs h m n = pairwise_at r xs m n h
 
   pub pairwise_in : (r : A → A → Bool) (xs : List A) → ((x y : A) → x ∈ xs → y ∈ xs → r x y ≡ true)
       → pairwise r xs ≡ true

@@ -16,7 +16,7 @@ use Rattle.meaning.specs.Sound.{versions_fall}
 use Rattle.meaning.specs.SoundFacts.{Backed, Span, SoundRec, Present, ReadStarts, SoundStore}
 use Rattle.meaning.proofs.Stores.{rec_same}
 use Rattle.meaning.proofs.Joining.{put_out, put_old, put_new, put_rises, length_put}
-use Rattle.meaning.proofs.Rows.{put-joined}
+use Rattle.meaning.proofs.Rows.{put_joined}
 use Rattle.meaning.specs.Points.{is_settled_read}
 use Rattle.meaning.proofs.Tests.{unowned_in}
 use native.Mathlib.Decide.{ℕ_discrete}
@@ -103,7 +103,7 @@ module _ (es : List Edit) (r : ℕ) (x : Rec) (l : Lock) (fit : LockFits es x l)
         apart = λ a b i j. added_each (λ c. Parted c b) l x.locks (newer b j) (λ c n. older c n b j) a i;
         backed = λ v m f. backed v (h.backed v m f);
         rises = put_rises l x.locks h.rises;
-        joined = put-joined l x.locks unsettled h.rises h.joined;
+        joined = put_joined l x.locks unsettled h.rises h.joined;
       }
     where
       newer : (b : Lock) → b ∈ add_lock l x.locks → Parted l b

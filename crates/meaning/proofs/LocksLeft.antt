@@ -21,7 +21,7 @@ use Rattle.meaning.proofs.LockChanges.{drop_owner_member, drop_owner_is, leave_s
 use Rattle.meaning.specs.Points.{settled_lock, put_lock, is_settled_read, touches, joined_row, join_read, no_later}
 use Rattle.meaning.specs.Points.{apart_reads}
 use Rattle.meaning.proofs.Joining.{put_out, put_old, put_new, put_rises, length_put, length_join, join_rises}
-use Rattle.meaning.proofs.Rows.{join-joined, put-joined}
+use Rattle.meaning.proofs.Rows.{join_joined, put_joined}
 use Rattle.meaning.specs.Lists.{pairwise}
 use Rattle.meaning.proofs.Lists.{keep_out, pairwise_keep}
 use Rattle.meaning.proofs.Tests.{own_in, write_in, unwrite_in, read_out, read_in}
@@ -218,14 +218,14 @@ module _ (k : ℕ) (e : Edit) (r : ℕ) (ls : List Lock) where
           l. not (is_owned k l)) ls)) ≡ true)
       reads true h = (
         join_rises a.from e.point (keep (λ l. not (is_owned k l)) ls) sorted,
-        join-joined a.from e.point h (keep (λ l. not (is_owned k l)) ls)
+        join_joined a.from e.point h (keep (λ l. not (is_owned k l)) ls)
             (λ l i. proper l (keep_out (λ l. not (is_owned k l)) ls i).0) dropped sorted,
       )
       reads false h = (sorted, dropped)
 
       writes : (b : Bool) (ms : List Lock) → (pairwise no_later ms ≡ true) × (pairwise apart_reads ms ≡ true)
           → pairwise apart_reads (cond b (put_lock (settled_lock WRITE e.point e.point) ms) ms) ≡ true
-      writes true ms w = put-joined (settled_lock WRITE e.point e.point) ms refl w.0 w.1
+      writes true ms w = put_joined (settled_lock WRITE e.point e.point) ms refl w.0 w.1
       writes false ms w = w.1
 
       go : (b : Bool) → eqb e.state COMMITTED ≡ b

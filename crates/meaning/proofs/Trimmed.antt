@@ -15,7 +15,7 @@ use Rattle.meaning.proofs.Lists.{length_keep, keep_out, pairwise_keep, and_in, a
 use Rattle.meaning.proofs.Lists.{all_out}
 use Rattle.meaning.specs.Points.{no_later, apart_reads, is_settled_read}
 use Rattle.meaning.specs.Lists.{pairwise, all}
-use Rattle.meaning.proofs.Rows.{Gap, gap-in, gap-out}
+use Rattle.meaning.proofs.Rows.{Gap, gap_in, gap_out}
 use mathlib.Core.Logic.{inl, inr}
 use mathlib.Core.List.Memᴰ
 use mathlib.Core.List.{[], ◌∷◌, map}
@@ -128,8 +128,8 @@ module _ (v : ℕ) where
 
   apart_trimmed : (l m : Lock) → apart_reads l m ≡ true → apart_reads (trimmed v l) (trimmed v m) ≡ true
   apart_trimmed l m e =
-      gap-in (trimmed v l) (trimmed v m)
-      (λ a b. wider (gap-out l m e (sym (kind_kept l) ∙ a) (sym (kind_kept m) ∙ b)))
+      gap_in (trimmed v l) (trimmed v m)
+      (λ a b. wider (gap_out l m e (sym (kind_kept l) ∙ a) (sym (kind_kept m) ∙ b)))
     where
       wider : Gap l m → Gap (trimmed v l) (trimmed v m)
       wider (inl q) = inl (omega (arith, q, (ends_kept l).1, (ends_kept m).0))

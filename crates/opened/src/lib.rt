@@ -2,6 +2,8 @@
 // callers who prove that words and index are still as the opening or the last call left them (`Opened`). Not a desk's
 // session, which the crate `sessions` has. Rests on the crates `types`, `meaning`, `tables`, `soundness`, `index`,
 // `calls`, `locking`, `reading`, `endings`, `commits`, `purges` and `store`.
+#![tactic(auto)]
+
 ghost use Rattle.std.specs.Prelude.{◌≡◌, true};
 ghost use Rattle.types.specs.Replies.{of_begin, of_write, of_lock, of_read, of_commit, of_abort, of_settle, of_purge, of_view};
 ghost use Rattle.types.specs.Replies.{of_answer};

@@ -1,4 +1,6 @@
 // A line written into a lent buffer. Nothing here knows a store. Rests on the crates `types`, `replies` and `texts`.
+#![tactic(auto)]
+
 ghost use Rattle.printing.specs.Shown.{Printed};
 
 use replies::Line;

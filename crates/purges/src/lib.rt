@@ -2,6 +2,8 @@
 // the words sound (`requires sound_words`), as the calls of `calls` and `endings`. It goes along one record's versions
 // and locks. Rests on the crates `types`, `meaning`, `chains`, `tables`, `changes`, `trims`, `lookups`, `calls` and
 // `endings`.
+#![tactic(auto)]
+
 ghost use Rattle.std.specs.Prelude.{◌≡◌, true, not, ◌&&◌, ◌≤◌, ◌<◌, leb};
 ghost use Rattle.types.specs.Limits.{LAST, SETTLED};
 ghost use Rattle.types.specs.Replies.{of_purge};

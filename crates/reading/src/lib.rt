@@ -2,6 +2,8 @@
 // the words sound (`requires sound_words`), as the calls of `calls`. It goes along the edit's accesses, unless the index
 // says that the record is new to it, and along one record's versions and locks. Rests on the crates `types`, `meaning`,
 // `chains`, `tables`, `changes`, `slots`, `lookups`, `blocking`, `index` and `calls`.
+#![tactic(auto)]
+
 ghost use Rattle.std.specs.Prelude.{◌≡◌, true, ◌≤◌, ◌<◌};
 ghost use Rattle.chains.specs.Walk.{IsRow};
 ghost use Rattle.types.specs.Limits.{LAST};

@@ -3,6 +3,8 @@
 // records. It asks that the slots are sound, for then the marks of `lock_marks` say of each lock whether its owner
 // wrote the record. Rests on the crates `types`, `meaning`, `locks`, `chains`, `tables`, `lookups`, `sweeps` and
 // `clauses` and on the module `lock_marks`.
+#![tactic(auto)]
+
 mod lock_marks;
 
 ghost use Rattle.std.specs.Prelude.{◌≡◌, true, ℕ, suc, ◌≤◌, ◌<◌};

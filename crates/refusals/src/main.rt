@@ -2,6 +2,8 @@
 // chain run in a circle, and on the empty slice, and prints each reply and whether any word moved. A store
 // that is not sound must reply `no 1` and keep every word; on the sound one each call has another reply, so that the
 // lines can differ. Rests on `store` and, for the text of calls and replies, on `lines`.
+#![tactic(auto)]
+
 use console::print_line;
 use fields::Parsed;
 use replies::Line;
@@ -21,7 +23,7 @@ const LOCKS: usize = VERSIONS + 4 * tables::VERSION;
 const ACCESSES: usize = LOCKS + 8 * tables::LOCK;
 
 // The tables with chains.
-#[derive(Drop)]
+#[derive(Clone, Copy)]
 enum Part {
     Versions,
     Locks,

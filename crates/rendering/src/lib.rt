@@ -1,5 +1,7 @@
 // The line that prints the answer of `perform`, for every program that runs calls read from text. Rests on the crates
 // `types`, `replies` and `value_replies`.
+#![tactic(auto)]
+
 ghost use Rattle.std.specs.Prelude.{◌≡◌};
 ghost use Rattle.types.specs.Replies.{of_answer};
 ghost use Rattle.replies.specs.Lines.{line_of};

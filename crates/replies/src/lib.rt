@@ -1,6 +1,8 @@
 // What a line prints, and the line of a refusal and of each call that answers `ok`, by the number and values that
 // `types` gives its case. `value_replies` has the calls that answer values; `printing` writes a line. Rests on the
 // crate `types`.
+#![tactic(auto)]
+
 ghost use Rattle.std.specs.Prelude.{◌≡◌};
 ghost use Rattle.types.specs.Replies.{of_refusal, of_format, of_write, of_abort, of_settle};
 ghost use Rattle.replies.specs.Lines.{line_of};
@@ -8,7 +10,7 @@ ghost use Rattle.replies.specs.Lines.{line_of};
 use types::{AbortReply, FormatReply, Refusal, SettleReply, Value, WriteReply};
 
 // What a line prints: a reply, or `?`.
-#[derive(Drop)]
+#[derive(Clone, Copy)]
 pub enum Line {
     Ok,
     Edit(u64),

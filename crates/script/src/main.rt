@@ -2,6 +2,8 @@
 // runs the public calls of the store. It reads and writes in blocks, and its memory does not grow with the input. Rests
 // on the crates `io`, `libc`, `lines`, `gathering`, which makes lines of bytes, and `answers`, which runs a line on the
 // store. This file reads blocks; `output` collects what is to be written.
+#![tactic(auto)]
+
 ghost use Rattle.std.specs.Prelude.{length};
 ghost use Rattle.script.specs.Run.{Inside};
 
@@ -19,7 +21,7 @@ const KEPT: usize = lines::LONGEST + 1;
 
 // Between two bytes of input: the words of the store in use, the bytes of the line that has begun, and the bytes that
 // wait to be written.
-#[derive(Drop)]
+#[derive(Clone, Copy)]
 struct Run {
     used: usize,
     held: usize,
@@ -27,7 +29,7 @@ struct Run {
 }
 
 // Whether there may be more input, and how the run stands.
-#[derive(Drop)]
+#[derive(Clone, Copy)]
 struct Turn {
     more: bool,
     run: Run,

@@ -13,7 +13,7 @@ module _ {A : Type 0} where
   prefix_in whole b i = i
   prefix_in (more g) b i = inl (prefix_in g b i)
 
-  pub prefix_before : {a s : Seq A} {b : A} → Prefix (a ▸ b) s → Prefix a s
+  pub prefix_before : {a : Seq A} {b : A} {s : Seq A} → Prefix (a ▸ b) s → Prefix a s
   prefix_before whole = more whole
   prefix_before (more g) = more (prefix_before g)
 

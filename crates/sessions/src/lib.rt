@@ -1,6 +1,8 @@
 // A desk's session as five numbers that a caller from another language lends, and what the caller hears of a desk: a
 // number, the lent numbers and the session's numbers after the call. Rests on the crates `types`, `desk`, `codes`,
 // `verdicts` and `telling`.
+#![tactic(auto)]
+
 ghost use Rattle.std.specs.Prelude.{◌≡◌, [], ◌∷◌};
 ghost use Rattle.desk.specs.Replies.{of_open, of_read_step, of_write_step, of_commit_step};
 ghost use Rattle.sessions.specs.Sessions.{setting_of, flag_of, session_of, with_interval, with_session};

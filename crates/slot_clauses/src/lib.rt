@@ -2,6 +2,8 @@
 // of them for all slots. It asks that the locks of every record rise, for so does the search for the common set. Rests
 // on the crates `types`, `meaning`, `locks`, `chains`, `tables`, `blocking` (for that a record's locks rise), `common`
 // (for the common set) and `clauses`.
+#![tactic(auto)]
+
 ghost use Rattle.std.specs.Prelude.{◌≡◌, true, ◌||◌, ◌-◌, ◌<◌, eqb};
 ghost use Rattle.chains.specs.Walk.{IsRow};
 ghost use Rattle.types.specs.Limits.{COMMITTED};

@@ -21,7 +21,7 @@ use Rattle.types.specs.declared.Access.{Access}
 use Rattle.types.specs.declared.Counts.{Counts}
 use Rattle.tables.specs.Layout.{access_table, access_heads, Fits, A_RECORD, A_FROM, A_WRITTEN, A_VALUE}
 use Rattle.tables.specs.Decode.{access_at, access_rows, accesses_of, slot_at, decode_at}
-use Rattle.writes.specs.Rows.{accessStored}
+use Rattle.writes.specs.Rows.{access_stored}
 use Rattle.tables.specs.Words.{Well, marked}
 use Rattle.tables.proofs.Places.{accesses_laid}
 use Rattle.tables.proofs.Decoded.{edit_at_lem}
@@ -81,33 +81,33 @@ module _ {c : Counts} {w : List ℕ} (W : Well c w) {k : ℕ} (l : IsRow c.edits
 
     -- and once filled it is the first of slot k's accesses
     module _ (x : Access) where
-      pushed : Filled (access_table c) (access_heads c) w (accessStored c w₁ i x) 0 k
+      pushed : Filled (access_table c) (access_heads c) w (access_stored c w₁ i x) 0 k
           (tail (rows_of (access_table c) (access_heads c) w 0)) (i ∷ rows_of (access_table c) (access_heads c) w k) i
       pushed = access_filled c access_ready (filled_start access_ready i access_moved.changed) access_row x
 
       pushed_on : 1 ≤ occ i (rows_of (access_table c) (access_heads c) w 0)
       pushed_on = rw access_moved.taken (occ_here i (tail (rows_of (access_table c) (access_heads c) w 0)))
 
-      pushed_here : accesses_of c (accessStored c w₁ i x) k ≡ x ∷ accesses_of c w k
+      pushed_here : accesses_of c (access_stored c w₁ i x) k ≡ x ∷ accesses_of c w k
       unfolding accesses_of access_rows access_table
       pushed_here =
-          pushed-entries (access_at c (accessStored c w₁ i x)) (access_at c w) access_ready access_moved.taken pushed
+          pushed-entries (access_at c (access_stored c w₁ i x)) (access_at c w) access_ready access_moved.taken pushed
           (λ y q n. (access_rest c pushed y q n).0)
           ∙ ap (λ y. y ∷ map (access_at c w) (rows_of (access_table c) (access_heads c) w k))
           (access_stored_at access_moved_fits access_row x)
 
       pushed_others : {A : Type 0} (f g : ℕ → A) → ((y : ℕ) → IsRow c.accesses y → (y ≡ i → ⊥) → f y ≡ g y) → (j : ℕ)
-          → IsRow c.edits j → (j ≡ k → ⊥) → map f (access_rows c (accessStored c w₁ i x) j) ≡ map g (access_rows c w j)
+          → IsRow c.edits j → (j ≡ k → ⊥) → map f (access_rows c (access_stored c w₁ i x) j) ≡ map g (access_rows c w j)
       unfolding access_rows access_heads access_table
       pushed_others f g e j q n =
           other_entries pushed f g W.accesses_parted_lem 0 (omega arith) pushed_on e j q.high
           (λ e. omega (arith, q.low)) n (λ e. omega (arith, q.low))
 
       pushed_marks : (j : ℕ) → 1 ≤ j → j ≤ c.edits
-          → all_of (marked c (accessStored c w₁ i x)) (access_rows c (accessStored c w₁ i x) j) ≡ true
+          → all_of (marked c (access_stored c w₁ i x)) (access_rows c (access_stored c w₁ i x) j) ≡ true
       unfolding access_rows access_heads access_table
       pushed_marks j p q =
-          let w₂ = accessStored c w₁ i x in
+          let w₂ = access_stored c w₁ i x in
           elim (ℕ_discrete j k) [
             | yes z ↦ all_pushed (marked c w₂) (marked c w) (access_rows c w j) (access_rows c w₂ j) (marked c w₂ i)
                 (rw z (pushed-entries (marked c w₂) (marked c w) access_ready access_moved.taken pushed
@@ -119,13 +119,13 @@ module _ {c : Counts} {w : List ℕ} (W : Well c w) {k : ℕ} (l : IsRow c.edits
                 (W.marks j p q)
           ]
 
-      pub add_access_law : {w₂ : List ℕ} → names (edit_at (decode_at c w) k) x.rec ≡ false → w₂ ≡ accessStored c w₁ i x
+      pub add_access_law : {w₂ : List ℕ} → names (edit_at (decode_at c w) k) x.rec ≡ false → w₂ ≡ access_stored c w₁ i x
           → Becomes c w₂ (with_edit (decode_at c w) k (with_access (edit_at (decode_at c w) k) x))
       unfolding accesses_of
       add_access_law h e =
           rw (e, new_access (edit_at (decode_at c w) k) x h)
           (accesses_become W pushed.only k l pushed.parted pushed_marks
-          (pushed_others (access_at c (accessStored c w₁ i x)) (access_at c w) (λ y q n. (access_rest c pushed y q n).0))
+          (pushed_others (access_at c (access_stored c w₁ i x)) (access_at c w) (λ y q n. (access_rest c pushed y q n).0))
           (pushed_here ∙ ap (λ y. x ∷ y) (sym (accesses_at c w k l))))
 
   -- all rows were sent to the free chain

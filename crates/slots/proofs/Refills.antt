@@ -24,7 +24,7 @@ use Rattle.types.specs.declared.Access.{Access}
 use Rattle.types.specs.declared.Counts.{Counts}
 use Rattle.tables.specs.Layout.{access_table, access_heads}
 use Rattle.tables.specs.Decode.{access_at, access_rows, accesses_of, decode_at}
-use Rattle.writes.specs.Rows.{accessStored}
+use Rattle.writes.specs.Rows.{access_stored}
 use Rattle.tables.specs.Words.{Well, marked}
 use Rattle.changes.specs.Becomes.{Becomes, with_accesses}
 use Rattle.changes.proofs.Parts.{all_same}
@@ -54,7 +54,7 @@ module _ {c : Counts} {w : List ℕ} (W : Well c w) {k : ℕ} (l : IsRow c.edits
   refill_row = on_chain (access_table c) (access_heads c) w W.accesses_parted_lem k l.high i on
 
   module _ (x : Access) (same : (access_at c w i).rec ≡ x.rec) (once : names_once (edit_at (decode_at c w) k) ≡ true) where
-    refilled : Filled (access_table c) (access_heads c) w (accessStored c w i x) 0 k
+    refilled : Filled (access_table c) (access_heads c) w (access_stored c w i x) 0 k
         (rows_of (access_table c) (access_heads c) w 0) (rows_of (access_table c) (access_heads c) w k) i
     refilled =
         let still : Changed (access_table c) (access_heads c) w w 0 k (rows_of (access_table c) (access_heads c) w 0)
@@ -75,7 +75,7 @@ module _ {c : Counts} {w : List ℕ} (W : Well c w) {k : ℕ} (l : IsRow c.edits
         (ap (pairwise (λ a b. not (eqb a.rec b.rec))) (sym (accesses_at c w k l)) ∙ once) i y on o n)
 
     refilled_entry : (y : ℕ) → 1 ≤ occ y (access_rows c w k)
-        → access_at c (accessStored c w i x) y ≡ cond (is_of x.rec (access_at c w y)) x (access_at c w y)
+        → access_at c (access_stored c w i x) y ≡ cond (is_of x.rec (access_at c w y)) x (access_at c w y)
     unfolding access_rows access_table access_heads
     refilled_entry y o = elim (ℕ_discrete y i) [
       | yes z ↦ rw (z, eq-eqb (access_at c w i).rec x.rec same) (access_stored_at W.fits refill_row x)
@@ -84,22 +84,22 @@ module _ {c : Counts} {w : List ℕ} (W : Well c w) {k : ℕ} (l : IsRow c.edits
           z).0
     ]
 
-    refilled_here : accesses_of c (accessStored c w i x) k ≡ map (λ b. cond (is_of x.rec b) x b) (accesses_of c w k)
+    refilled_here : accesses_of c (access_stored c w i x) k ≡ map (λ b. cond (is_of x.rec b) x b) (accesses_of c w k)
     unfolding accesses_of access_rows
-    refilled_here = ap (map (access_at c (accessStored c w i x))) refilled.at_b
-        ∙ entries-kept (access_at c (accessStored c w i x))
+    refilled_here = ap (map (access_at c (access_stored c w i x))) refilled.at_b
+        ∙ entries-kept (access_at c (access_stored c w i x))
         (λ y. cond (is_of x.rec (access_at c w y)) x (access_at c w y)) (rows_of (access_table c) (access_heads c) w k)
         refilled_entry
         ∙ sym (map_map (access_at c w) (λ b. cond (is_of x.rec b) x b) (rows_of (access_table c) (access_heads c) w k))
 
     refilled_others : {A : Type 0} (f g : ℕ → A) → ((y : ℕ) → IsRow c.accesses y → (y ≡ i → ⊥) → f y ≡ g y) → (j : ℕ)
-        → IsRow c.edits j → (j ≡ k → ⊥) → map f (access_rows c (accessStored c w i x) j) ≡ map g (access_rows c w j)
+        → IsRow c.edits j → (j ≡ k → ⊥) → map f (access_rows c (access_stored c w i x) j) ≡ map g (access_rows c w j)
     unfolding access_rows access_heads access_table
     refilled_others f g e j q n =
         other_entries refilled f g W.accesses_parted_lem k l.high on e j q.high (λ z. omega (arith, q.low)) n
         (λ z. n (sym z))
 
-    refilled_mark : (y : ℕ) → 1 ≤ occ y (access_rows c w k) → marked c (accessStored c w i x) y ≡ true
+    refilled_mark : (y : ℕ) → 1 ≤ occ y (access_rows c w k) → marked c (access_stored c w i x) y ≡ true
     unfolding access_rows access_table access_heads
     refilled_mark y o = elim (ℕ_discrete y i) [
       | yes z ↦ rw z (access_stored_marked W.fits refill_row x)
@@ -108,17 +108,17 @@ module _ {c : Counts} {w : List ℕ} (W : Well c w) {k : ℕ} (l : IsRow c.edits
           ∙ all_row (marked c w) (access_rows c w k) (W.marks k l.low l.high) y o
     ]
 
-    rows_same : access_rows c (accessStored c w i x) k ≡ access_rows c w k
+    rows_same : access_rows c (access_stored c w i x) k ≡ access_rows c w k
     unfolding access_rows
     rows_same = refilled.at_b
 
     refilled_marks : (j : ℕ) → 1 ≤ j → j ≤ c.edits
-        → all_of (marked c (accessStored c w i x)) (access_rows c (accessStored c w i x) j) ≡ true
+        → all_of (marked c (access_stored c w i x)) (access_rows c (access_stored c w i x) j) ≡ true
     refilled_marks j p q = elim (ℕ_discrete j k) [
-      | yes z ↦ rw (z, rows_same) (row_all (marked c (accessStored c w i x)) (access_rows c w k) refilled_mark)
-      | no z ↦ all_same (marked c (accessStored c w i x)) (marked c w) (access_rows c w j)
-          (access_rows c (accessStored c w i x) j)
-          (refilled_others (marked c (accessStored c w i x)) (marked c w) (λ y q n. (access_rest c refilled y q n).1) j
+      | yes z ↦ rw (z, rows_same) (row_all (marked c (access_stored c w i x)) (access_rows c w k) refilled_mark)
+      | no z ↦ all_same (marked c (access_stored c w i x)) (marked c w) (access_rows c w j)
+          (access_rows c (access_stored c w i x) j)
+          (refilled_others (marked c (access_stored c w i x)) (marked c w) (λ y q n. (access_rest c refilled y q n).1) j
           (record { low = p; high = q }) z)
           (W.marks j p q)
     ]
@@ -129,11 +129,11 @@ module _ {c : Counts} {w : List ℕ} (W : Well c w) {k : ℕ} (l : IsRow c.edits
         ap (λ as'. any (is_of x.rec) as') (accesses_at c w k l)
         ∙ any_entry (access_at c w) (is_of x.rec) (access_rows c w k) i on (eq-eqb (access_at c w i).rec x.rec same)
 
-    pub change_access_law : {w₂ : List ℕ} → w₂ ≡ accessStored c w i x
+    pub change_access_law : {w₂ : List ℕ} → w₂ ≡ access_stored c w i x
         → Becomes c w₂ (with_edit (decode_at c w) k (with_access (edit_at (decode_at c w) k) x))
     unfolding accesses_of
     change_access_law e =
         rw (e, old_access (edit_at (decode_at c w) k) x named)
         (accesses_become W refilled.only k l refilled.parted refilled_marks
-        (refilled_others (access_at c (accessStored c w i x)) (access_at c w) (λ y q n. (access_rest c refilled y q n).0))
+        (refilled_others (access_at c (access_stored c w i x)) (access_at c w) (λ y q n. (access_rest c refilled y q n).0))
         (refilled_here ∙ ap (map (λ b. cond (is_of x.rec b) x b)) (sym (accesses_at c w k l))))

@@ -1,6 +1,8 @@
 // Changes of a slot and of its accesses, as those of `changes`: each leaves the words well formed and equals a function
 // of the decoded store; the callers prove that the words are well formed (`Well`), that slots are in range, and that
 // there is room. Rests on the crates `types`, `meaning`, `chains`, `updates`, `tables`, `writes` and `changes`.
+#![tactic(auto)]
+
 ghost use Rattle.std.specs.Prelude.{◌≡◌, true, false, [], ◌≤◌, ◌<◌};
 ghost use Rattle.chains.specs.Lists.{occ};
 ghost use Rattle.chains.specs.Walk.{IsRow};

@@ -9,6 +9,8 @@
 //
 // This file has `check`; `word_clauses` has the clauses on the words. Rests on the crates `tables`, `slot_clauses` and
 // `record_clauses`.
+#![tactic(auto)]
+
 mod word_clauses;
 
 ghost use Rattle.std.specs.Prelude.{◌≡◌};

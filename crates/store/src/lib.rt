@@ -3,6 +3,8 @@
 // for every slice and argument. The calls below are lent an index that says nothing, a slice of one number: to make one
 // would take longer than a call. Rests on the crates `types`, `meaning`, `tables`, `soundness`, `format`, `lookups`,
 // `index`, `calls`, `locking`, `reading`, `endings`, `commits` and `purges`.
+#![tactic(auto)]
+
 ghost use Rattle.types.specs.Replies.{of_point, of_format, of_begin, of_write, of_lock, of_read, of_commit, of_abort};
 ghost use Rattle.types.specs.Replies.{of_settle, of_purge, of_view, of_answer};
 ghost use Rattle.meaning.specs.Edits.{beginning, writing};
@@ -22,7 +24,7 @@ use types::{
 };
 
 // Whether Begin would find a slot: `ok`, or how it would be refused.
-#[derive(Drop)]
+#[derive(Clone, Copy)]
 pub enum SlotReply {
     Free,
     Refused(Refusal),

@@ -2,6 +2,8 @@
 // read locks are joined, and no write lock shares a point with a lock of another owner. Of the locks behind it a pass
 // keeps a few numbers (`Swept`), so that no lock is compared with every other one; that this finds out exactly the
 // clauses, for any locks, is proofs/Agreeing. Rests on the crates `types`, `meaning` and `locks`.
+#![tactic(auto)]
+
 ghost use Rattle.std.specs.Prelude.{◌≡◌, ◌≤◌};
 ghost use Rattle.types.specs.Limits.{LAST};
 ghost use Rattle.sweeps.specs.Sweep.{others, reached, no_swept, joined_now, agrees_now, swept_now};
@@ -12,7 +14,7 @@ use types::{Lock, WRITE};
 
 // How far locks reach: the highest end, its owner, and the highest end of the other owners' locks. An end is one more
 // than a high end; 0 where there is no lock.
-#[derive(Drop)]
+#[derive(Clone, Copy)]
 pub struct Reach {
     pub top: u64,
     pub owner: u64,
@@ -21,7 +23,7 @@ pub struct Reach {
 
 // What a pass keeps of the locks behind it: the low end of the last one, the highest end of the settled read locks, and
 // how far all of them and the write locks among them reach.
-#[derive(Drop)]
+#[derive(Clone, Copy)]
 pub struct Swept {
     pub low: u64,
     pub joined: u64,

@@ -2,6 +2,8 @@
 // `types`, `meaning` and `chains`.  A caller proves that the words have these counts (`Fits`), so the functions have
 // `requires`. Each read equals a part of the decoded store; the stores of words and rows are the crate `writes`.  This
 // file has the layout and the header; `reads` has the words, rows and chains.
+#![tactic(auto)]
+
 mod reads;
 
 ghost use Rattle.std.specs.Prelude.{◌≡◌, ◌≤◌, ◌<◌, length, get_or};

@@ -1,5 +1,7 @@
 // What a caller from another language hears of a reply that hands something out: its number and the lent numbers after
 // it, by the number and values that `types` gives its case. Rests on the crates `types` and `codes`.
+#![tactic(auto)]
+
 ghost use Rattle.std.specs.Prelude.{[], ◌∷◌};
 ghost use Rattle.types.specs.Replies.{of_point, of_begin, of_lock, of_read, of_commit, of_purge, of_view};
 ghost use Rattle.codes.specs.Codes.{Tells};

@@ -1,5 +1,7 @@
 // Words, numbers and values written into a lent buffer. Each function answers where the bytes that it wrote end, and is
 // proved against specs/. Rests on the crate `types`.
+#![tactic(auto)]
+
 ghost use Rattle.std.specs.Prelude.{[], ◌∷◌, ◌+◌, ◌≤◌, ◌<◌, length};
 ghost use Rattle.texts.specs.Parts.{Appended, decimal, value_text, one as one·of, two as two·of, one_value};
 ghost use Rattle.texts.specs.Parts.{two_value};

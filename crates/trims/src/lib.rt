@@ -2,6 +2,8 @@
 // equals a function of the decoded store; the callers prove that the words are well formed (`Well`) and that records
 // and points are in range. Rests on the crates `types`, `meaning`, `chains`, `updates`, `tables`, `writes` and
 // `changes`.
+#![tactic(auto)]
+
 ghost use Rattle.std.specs.Prelude.{◌≡◌, cond, suc, ◌+◌, ◌≤◌, ◌<◌, leb, ltb};
 ghost use Rattle.chains.specs.Walk.{IsRow};
 ghost use Rattle.chains.specs.Change.{Ready, Follows, Turned};

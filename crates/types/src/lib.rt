@@ -1,6 +1,8 @@
 // What callers of the store say and hear: points, handles, values, calls and replies, and the entries of the store's
 // tables. Each function is proved against the definitions in specs/. What the calls do is said in the crate `meaning`;
 // nothing here knows a store or a word's place. Rests on nothing.
+#![tactic(auto)]
+
 ghost use Rattle.std.specs.Prelude.{◌≡◌};
 ghost use Rattle.types.specs.Replies.{of_point, number};
 ghost use Rattle.types.specs.Numbers.{pointing, handle, slot_of, generation_of, next_generation};
@@ -38,31 +40,31 @@ pub const WRITE: u64 = 2;
 pub const SETTLED: u64 = 0;
 
 // A clock reading. Only `make_point` turns it into a point.
-#[derive(Drop)]
+#[derive(Clone, Copy)]
 pub struct Reading(u64);
 
 // A seat number: which desk reads the clock.
-#[derive(Drop)]
+#[derive(Clone, Copy)]
 pub struct Seat(u64);
 
 // A point, the paper's timestamp: reading * 64 + seat. Its field is private, so that a bare reading never passes for a
 // point.
-#[derive(Drop)]
+#[derive(Clone, Copy)]
 pub struct Point(u64);
 
 // The handle of an edit, the paper's transaction: generation * 64 + slot.
-#[derive(Drop)]
+#[derive(Clone, Copy)]
 pub struct Handle(u64);
 
 // The value of a record, the paper's key: never written, or any 64 bits.
-#[derive(Drop)]
+#[derive(Clone, Copy)]
 pub enum Value {
     Never,
     Written(u64),
 }
 
 // The entries of the three tables, by value. A version: its point, its value and its third word.
-#[derive(Drop)]
+#[derive(Clone, Copy)]
 pub struct Version {
     pub point: u64,
     pub value: Value,
@@ -70,7 +72,7 @@ pub struct Version {
 }
 
 // A lock of low..high: its mode is 1 for read and 2 for write, its owner a slot, or 0 once settled.
-#[derive(Drop)]
+#[derive(Clone, Copy)]
 pub struct Lock {
     pub low: u64,
     pub high: u64,
@@ -79,7 +81,7 @@ pub struct Lock {
 }
 
 // `from` is the point read + 1, or 0; `value` counts once `written` is set.
-#[derive(Drop)]
+#[derive(Clone, Copy)]
 pub struct Access {
     pub rec: u64,
     pub from: u64,
@@ -88,7 +90,7 @@ pub struct Access {
 }
 
 // The five counts of a store.
-#[derive(Drop)]
+#[derive(Clone, Copy)]
 pub struct Counts {
     pub records: usize,
     pub edits: usize,
@@ -98,14 +100,14 @@ pub struct Counts {
 }
 
 // The flags A and P: all points or none, or a part.
-#[derive(Drop)]
+#[derive(Clone, Copy)]
 pub enum Extent {
     All,
     Part,
 }
 
 // Where a commit is wanted: E, L or a named point.
-#[derive(Drop)]
+#[derive(Clone, Copy)]
 pub enum Pick {
     Earliest,
     Latest,
@@ -113,14 +115,14 @@ pub enum Pick {
 }
 
 // The flags S and K: settle at the end, or keep the locks.
-#[derive(Drop)]
+#[derive(Clone, Copy)]
 pub enum Finish {
     Settle,
     Keep,
 }
 
 // The calls on a store, in the order of document 01. A record is named by its number.
-#[derive(Drop)]
+#[derive(Clone, Copy)]
 pub enum Call {
     Begin,
     Write(Handle, u64, u64),
@@ -134,7 +136,7 @@ pub enum Call {
 }
 
 // The sixteen ways to say no, in the order of their numbers.
-#[derive(Drop)]
+#[derive(Clone, Copy)]
 pub enum Refusal {
     Unsound,
     NoEdit,
@@ -155,42 +157,42 @@ pub enum Refusal {
 }
 
 // One reply for each call. Point: the point made, or refusal 6.
-#[derive(Drop)]
+#[derive(Clone, Copy)]
 pub enum PointReply {
     Made(Point),
     Refused(Refusal),
 }
 
 // `ok`, or refusal 16.
-#[derive(Drop)]
+#[derive(Clone, Copy)]
 pub enum FormatReply {
     Done,
     Refused(Refusal),
 }
 
 // The handle of the edit.
-#[derive(Drop)]
+#[derive(Clone, Copy)]
 pub enum BeginReply {
     Edit(Handle),
     Refused(Refusal),
 }
 
 // `ok`, or a refusal.
-#[derive(Drop)]
+#[derive(Clone, Copy)]
 pub enum WriteReply {
     Done,
     Refused(Refusal),
 }
 
 // The first and the last point locked.
-#[derive(Drop)]
+#[derive(Clone, Copy)]
 pub enum LockReply {
     Locked(Point, Point),
     Refused(Refusal),
 }
 
 // A new read: the point of the version, the last point locked, the value.
-#[derive(Drop)]
+#[derive(Clone, Copy)]
 pub enum ReadReply {
     Read(Point, Point, Value),
     Own(u64),
@@ -199,7 +201,7 @@ pub enum ReadReply {
 }
 
 // The commit point, or `nopoint`.
-#[derive(Drop)]
+#[derive(Clone, Copy)]
 pub enum CommitReply {
     Commit(Point),
     NoPoint,
@@ -207,35 +209,35 @@ pub enum CommitReply {
 }
 
 // `ok`, or a refusal.
-#[derive(Drop)]
+#[derive(Clone, Copy)]
 pub enum AbortReply {
     Done,
     Refused(Refusal),
 }
 
 // `ok`, or a refusal.
-#[derive(Drop)]
+#[derive(Clone, Copy)]
 pub enum SettleReply {
     Done,
     Refused(Refusal),
 }
 
 // The version rows and the lock rows freed.
-#[derive(Drop)]
+#[derive(Clone, Copy)]
 pub enum PurgeReply {
     Purged(u64, u64),
     Refused(Refusal),
 }
 
 // The point and the value of the version.
-#[derive(Drop)]
+#[derive(Clone, Copy)]
 pub enum ViewReply {
     At(Point, Value),
     Refused(Refusal),
 }
 
 // The reply of a call of any kind.
-#[derive(Drop)]
+#[derive(Clone, Copy)]
 pub enum Answer {
     Begin(BeginReply),
     Write(WriteReply),

@@ -1,5 +1,7 @@
 // Mutators of chains: each changes two chains, a and b, by three stores or by several turns of them. For callers who
 // prove where the table lies and that every row is on exactly one chain (`Ready`). Rests on the crate `chains`.
+#![tactic(auto)]
+
 ghost use Rattle.std.specs.Prelude.{◌≡◌, ◌<◌, ◌≤◌};
 ghost use Rattle.chains.specs.Walk.{IsRow};
 ghost use Rattle.chains.specs.Table.{head_of, holds};

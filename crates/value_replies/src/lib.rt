@@ -1,5 +1,7 @@
 // The line of the reply of each call that answers values, by the number and values that `types` gives its case. Rests
 // on the crates `types` and `replies`.
+#![tactic(auto)]
+
 ghost use Rattle.std.specs.Prelude.{◌≡◌};
 ghost use Rattle.types.specs.Replies.{of_begin, of_lock, of_read, of_commit, of_purge, of_view};
 ghost use Rattle.replies.specs.Lines.{line_of};

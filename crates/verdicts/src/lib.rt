@@ -1,5 +1,7 @@
 // What a caller from another language hears of a reply that is `ok` or a refusal: a number alone, 0 or that of the
 // refusal. Rests on the crates `types` and `codes`.
+#![tactic(auto)]
+
 ghost use Rattle.std.specs.Prelude.{[]};
 ghost use Rattle.types.specs.Replies.{of_format, of_write, of_abort, of_settle};
 ghost use Rattle.codes.specs.Codes.{Tells};

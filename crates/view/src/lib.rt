@@ -1,6 +1,8 @@
 // The chart reader: a struct that holds the lent store and answers from it. It is made once, with the one check of the
 // words, and asked many times; an ask costs one record's version chain. Nobody outside this file can make a reader
 // whose flag is not the check's verdict. Rests on the crates `types`, `meaning`, `tables`, `soundness` and `calls`.
+#![tactic(auto)]
+
 ghost use Rattle.std.specs.Prelude.{◌≡◌};
 ghost use Rattle.types.specs.Replies.{of_view};
 ghost use Rattle.tables.specs.Words.{lent, sound_words};
@@ -9,14 +11,14 @@ ghost use Rattle.view.specs.Seen.{Viewed, answered};
 use types::{Point, Refusal, ViewReply};
 
 // A reader of a lent store, and whether the store is sound.
-#[derive(Drop)]
+#[derive(Clone, Copy)]
 pub struct Chart<'a> {
     words: &'a [u64],
     good: bool,
 }
 
 // The replies of two asks.
-#[derive(Drop)]
+#[derive(Clone, Copy)]
 pub struct Pair {
     pub first: ViewReply,
     pub second: ViewReply,

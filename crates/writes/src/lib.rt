@@ -1,6 +1,8 @@
 // Stores of words and rows. Each promises the exact words after it; what changes make of the decoded store is the crate
 // `changes`. A caller proves that the words have these counts (`Fits`), so the functions have `requires`. Rests on the
 // crates `types`, `chains`, `updates` and `tables`, which alone names the layout.
+#![tactic(auto)]
+
 ghost use Rattle.std.specs.Prelude.{◌≡◌, true, false, suc, ◌≤◌, ◌<◌, set};
 ghost use Rattle.chains.specs.Table.{place};
 ghost use Rattle.chains.specs.Walk.{IsRow};
@@ -9,7 +11,7 @@ ghost use Rattle.types.specs.Limits.{MAX_EDITS};
 ghost use Rattle.tables.specs.Layout.{SLOT, VERSION, LOCK, ACCESS, record_table, slot_table, version_table};
 ghost use Rattle.tables.specs.Layout.{lock_table, access_table, version_heads, lock_heads, Fits, V_POINT, MODES, R_FLOOR};
 ghost use Rattle.tables.specs.Layout.{S_STATE, S_GENERATION, S_POINT, L_LOW};
-ghost use Rattle.writes.specs.Rows.{lockTag, writtenMark, versionStored, lockStored, accessStored};
+ghost use Rattle.writes.specs.Rows.{lock_tag, written_mark, version_stored, lock_stored, access_stored};
 
 use tables::{
     A_FROM, A_RECORD, A_VALUE, A_WRITTEN, L_HIGH, L_LOW, L_MODE, L_RECORD, MODES, R_FLOOR,
@@ -87,7 +89,7 @@ pub fn put_low(w: &mut [u64], c: Counts, i: usize, v: u64)
 
 pub fn put_version(w: &mut [u64], c: Counts, i: usize, point: u64, value: u64)
     requires { Fits c w.old × IsRow c.versions i }
-    ensures { w.new ≡ versionStored c w.old i point value }
+    ensures { w.new ≡ version_stored c w.old i point value }
 {
     set_version_word(w, c, i, V_POINT, point);
     set_version_word(w, c, i, V_VALUE, value);
@@ -97,14 +99,14 @@ pub fn put_version(w: &mut [u64], c: Counts, i: usize, point: u64, value: u64)
 // A lock's mode and owner in one word. Owners are slots, so they fit.
 fn lock_tag(l: Lock) -> u64
     requires { (l.mode < MODES) × (l.owner ≤ MAX_EDITS) }
-    ensures { result ≡ lockTag l }
+    ensures { result ≡ lock_tag l }
 {
     l.mode + l.owner * MODES
 }
 
 pub fn put_lock(w: &mut [u64], c: Counts, i: usize, r: usize, l: Lock)
     requires { Fits c w.old × IsRow c.locks i × (l.mode < MODES) × (l.owner ≤ MAX_EDITS) }
-    ensures { w.new ≡ lockStored c w.old i r l }
+    ensures { w.new ≡ lock_stored c w.old i r l }
 {
     let tag = lock_tag(l);
     set_lock_word(w, c, i, L_LOW, l.low);
@@ -114,14 +116,14 @@ pub fn put_lock(w: &mut [u64], c: Counts, i: usize, r: usize, l: Lock)
 }
 
 fn written_mark(b: bool) -> u64
-    ensures { result ≡ writtenMark b }
+    ensures { result ≡ written_mark b }
 {
     if b { 1 } else { 0 }
 }
 
 pub fn put_access(w: &mut [u64], c: Counts, i: usize, a: Access)
     requires { Fits c w.old × IsRow c.accesses i }
-    ensures { w.new ≡ accessStored c w.old i a }
+    ensures { w.new ≡ access_stored c w.old i a }
 {
     let mark = written_mark(a.written);
     set_access_word(w, c, i, A_RECORD, a.rec);

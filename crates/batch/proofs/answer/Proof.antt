@@ -3,7 +3,7 @@ use mathlib.Core.Path.{refl, ◌∙◌}
 use mathlib.Core.List.{[]}
 use Rattle.types.specs.Replies.{refusing}
 use Rattle.encoding.specs.Encoding.{NUMBERS}
-use Rattle.encoding.proofs.Rows.{told-row}
+use Rattle.encoding.proofs.Rows.{told_row}
 use Rattle.store.proofs.Doing.{does_unsound}
 use borrow.Author.Rules.{rules}
 use Rattle.batch.proofs.answer.Statement.{statement}
@@ -46,7 +46,7 @@ returns_2 c = (
   record {
     reply = _;
     does = does_unsound (c.before.before.before.before.before.requires.0 ∙ c.before.before.if1.false);
-    told = told-row NUMBERS 0 {q = refusing 1 []} (record {
+    told = told_row NUMBERS 0 {q = refusing 1 []} (record {
       number = c.before.refusal.ensures;
       values
           = refl;

@@ -1,7 +1,7 @@
 -- `encoding::of_read` meets its contract: what is told of the reply. Assumes nothing.
 use mathlib.Core.Path.{refl}
 use Rattle.encoding.specs.Encoding.{NUMBERS}
-use Rattle.encoding.proofs.Rows.{told-row}
+use Rattle.encoding.proofs.Rows.{told_row}
 use borrow.Author.Rules.{rules}
 use Rattle.encoding.proofs.of_read.Statement.{statement}
 use Rattle.encoding.proofs.of_read.Tie as tie
@@ -10,7 +10,7 @@ read_requires : tie.Need-read-requires
 read_requires c κs = search rules
 
 returns : tie.Need-returns
-returns c = told-row NUMBERS 5 c.read.ensures refl
+returns c = told_row NUMBERS 5 c.read.ensures refl
 
 pub of_read_spec : {M : Type 1} → statement M
 of_read_spec = tie.close (tie.spec read_requires returns)

@@ -1,6 +1,6 @@
 -- `encoding::row_of` meets its contract: the row of an answer is that of its call's reply. Assumes nothing.
 use Rattle.encoding.specs.Encoding.{NUMBERS}
-use Rattle.encoding.proofs.Rows.{told-row, of-case}
+use Rattle.encoding.proofs.Rows.{told_row, of_case}
 use borrow.Author.Rules.{rules}
 use Rattle.encoding.proofs.row_of.Statement.{statement}
 use Rattle.encoding.proofs.row_of.Tie as tie
@@ -69,37 +69,37 @@ of_view_requires : tie.Need-of-view-requires
 of_view_requires c κs = search rules
 
 returns : tie.Need-returns
-returns c = of-case c.before.before.a.given.1 c.of-begin.ensures
+returns c = of_case c.before.before.a.given.1 c.of-begin.ensures
 
 returns_2 : tie.Need-returns-2
 returns_2 c =
-    of-case c.before.before.before.a2.given.1
-    (told-row NUMBERS 0 c.before.write.ensures c.row-0.ensures)
+    of_case c.before.before.before.a2.given.1
+    (told_row NUMBERS 0 c.before.write.ensures c.row-0.ensures)
 
 returns_3 : tie.Need-returns-3
-returns_3 c = of-case c.before.before.a3.given.1 c.of-lock.ensures
+returns_3 c = of_case c.before.before.a3.given.1 c.of-lock.ensures
 
 returns_4 : tie.Need-returns-4
-returns_4 c = of-case c.before.before.a4.given.1 c.of-read.ensures
+returns_4 c = of_case c.before.before.a4.given.1 c.of-read.ensures
 
 returns_5 : tie.Need-returns-5
-returns_5 c = of-case c.before.before.a5.given.1 c.of-commit.ensures
+returns_5 c = of_case c.before.before.a5.given.1 c.of-commit.ensures
 
 returns_6 : tie.Need-returns-6
 returns_6 c =
-    of-case c.before.before.before.a6.given.1
-    (told-row NUMBERS 0 c.before.abort.ensures c.row-02.ensures)
+    of_case c.before.before.before.a6.given.1
+    (told_row NUMBERS 0 c.before.abort.ensures c.row-02.ensures)
 
 returns_7 : tie.Need-returns-7
 returns_7 c =
-    of-case c.before.before.before.a7.given.1
-    (told-row NUMBERS 0 c.before.settle.ensures c.row-03.ensures)
+    of_case c.before.before.before.a7.given.1
+    (told_row NUMBERS 0 c.before.settle.ensures c.row-03.ensures)
 
 returns_8 : tie.Need-returns-8
-returns_8 c = of-case c.before.before.a8.given.1 c.of-purge.ensures
+returns_8 c = of_case c.before.before.a8.given.1 c.of-purge.ensures
 
 returns_9 : tie.Need-returns-9
-returns_9 c = of-case c.before.before.a9.given.1 c.of-view.ensures
+returns_9 c = of_case c.before.before.a9.given.1 c.of-view.ensures
 
 pub row_of_spec : {M : Type 1} → statement M
 row_of_spec =

@@ -1,6 +1,6 @@
 -- `writes::lock_tag` meets its contract. Rests on nothing.
 use mathlib.Core.Path.{refl}
-use Rattle.writes.specs.Rows.{lockTag}
+use Rattle.writes.specs.Rows.{lock_tag}
 use borrow.Author.Rules.{rules}
 use Rattle.writes.proofs.lock_tag.Statement.{statement}
 use Rattle.writes.proofs.lock_tag.Tie as tie
@@ -12,7 +12,7 @@ add_result : tie.Need-overflow-add-result
 add_result c = search rules
 
 returns : tie.Need-returns
-unfolding lockTag
+unfolding lock_tag
 returns c = refl
 
 pub lock_tag_spec : {M : Type 1} → statement M

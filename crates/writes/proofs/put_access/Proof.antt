@@ -1,7 +1,7 @@
 -- `writes::put_access` meets its contract. Rests on Places of `tables`.
 use mathlib.Core.Path.{refl}
 use native.Mathlib.Omega.{arith}
-use Rattle.writes.specs.Rows.{accessStored}
+use Rattle.writes.specs.Rows.{access_stored}
 use Rattle.tables.proofs.Places
 use borrow.Author.Rules.{rules}
 use Rattle.writes.proofs.put_access.Statement.{statement}
@@ -49,7 +49,7 @@ same_length : tie.Need-same-length
 same_length c = search rules
 
 returns : tie.Need-returns
-unfolding accessStored
+unfolding access_stored
 returns c =
     let middle = c.before.before.before.before.before.before.before.before in
     let start = middle.before.before.before.before.before.before.before.before in

@@ -1,7 +1,7 @@
 -- `writes::put_version` meets its contract. Rests on Places of `tables`.
 use mathlib.Core.Path.{refl}
 use native.Mathlib.Omega.{arith}
-use Rattle.writes.specs.Rows.{versionStored}
+use Rattle.writes.specs.Rows.{version_stored}
 use Rattle.tables.proofs.Places
 use borrow.Author.Rules.{rules}
 use Rattle.writes.proofs.put_version.Statement.{statement}
@@ -33,7 +33,7 @@ same_length : tie.Need-same-length
 same_length c = search rules
 
 returns : tie.Need-returns
-unfolding versionStored
+unfolding version_stored
 returns c =
     let start = c.before.before.before.before.before.before.before.before.before.before in
     rw (

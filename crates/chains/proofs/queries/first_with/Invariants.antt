@@ -1,0 +1,12 @@
+-- `chains::first_with` meets its contract: a search with an early exit. Rests on Loops and Tests.
+use Rattle.chains.specs.Lists.{first_of}
+use Rattle.chains.specs.Table.{link, chain, holds}
+use Rattle.chains.proofs.Loops.{FindInv}
+use Rattle.chains.proofs.queries.first_with.Given as goal
+
+abbrev pub invariant-loop-t : goal.invariant-loop-t
+invariant-loop-t l =
+    FindInv (link l.t l.w) l.n (holds l.t l.w l.o l.v) (first_of (holds l.t l.w l.o l.v) (chain l.t l.w l.head)) l.cur l.left
+
+abbrev pub decreases-loop-t : goal.decreases-loop-t
+decreases-loop-t l = l.left

@@ -1,0 +1,24 @@
+-- `tables::access_heads` meets its contract. Rests on nothing.
+use mathlib.Core.Path.{refl}
+use native.Mathlib.Omega.{arith}
+use Rattle.tables.specs.Layout.{access_heads, slot_base}
+use Rattle.tables.proofs.access_heads.Goals as goal
+
+pub overflow_mul-result : goal.overflow_mul-result
+overflow_mul-result c =
+    let p = c.requires in
+    omega (arith, p.records_high, p.edits_high, p.versions_high, p.locks_high, p.accesses_high)
+
+pub overflow_add-result : goal.overflow_add-result
+overflow_add-result c =
+    let p = c.requires in
+    omega (arith, p.records_high, p.edits_high, p.versions_high, p.locks_high, p.accesses_high)
+
+pub overflow_add-result-2 : goal.overflow_add-result-2
+overflow_add-result-2 c =
+    let p = c.requires in
+    omega (arith, p.records_high, p.edits_high, p.versions_high, p.locks_high, p.accesses_high)
+
+pub returns : goal.returns
+unfolding access_heads slot_base
+returns c = refl

@@ -1,0 +1,12 @@
+-- `tables::lock_heads` meets its contract. Rests on nothing.
+use mathlib.Core.Path.{refl}
+use native.Mathlib.Omega.{arith}
+use Rattle.tables.specs.Layout.{lock_heads}
+use Rattle.tables.proofs.lock_heads.Goals as goal
+
+pub overflow_add-result : goal.overflow_add-result
+overflow_add-result c = omega arith
+
+pub returns : goal.returns
+unfolding lock_heads
+returns c = refl
