@@ -144,7 +144,7 @@ def convert(crate, path, table):
 
         body = re.sub(r"(?<![\w'.\-])c\.([\w'\-]+)\.(auto|new)\.(\d+)", kept, body)
         # today a test of `not x` says of x itself that it is false or true
-        body = re.sub(r"\bnot-(?:true|false) _ (c\.[\w'\-]+\.(?:true|false))", r"\1", body)
+        body = re.sub(r"\bnot-(?:true|false) (?:_|[\w'.\-]+) (c\.[\w'\-]+\.(?:true|false))", r"\1", body)
         for v in depth:
             if re.search(rf"(?<![\w'.\-]){re.escape(v)}(?:\.before)*(?![\w'.\-])", re.sub(r"λ[^.]*\.", "", body)):
                 notes.append(f"{v} stands alone at {place}")
@@ -203,14 +203,15 @@ def convert(crate, path, table):
                 notes.append(f"no goal {m.group(2)}: {body.strip()[:60]}")
                 continue
             new, place = need_new[key]
-            ks = params[1:]
+            ks = [k for k in params[1:] if k == "κs"]
+            more = "".join(" " + k for k in params[1:] if k != "κs")
             b = turn(body, place)
             if params[:1] != ["c"]:
                 notes.append(f"{new}: parameters {params}")
             for k in ks:
                 if re.search(rf"(?<![\w'.-]){re.escape(k)}(?![\w'-])", b):
                     notes.append(f"{new} uses {k}")
-            ans.append((order.get(new, 999), "\n".join(lead + [f"pub {new} : goal.{new}"] + unf + [f"{new} {params[0] if params else ''} ={b}"])))
+            ans.append((order.get(new, 999), "\n".join(lead + [f"pub {new} : goal.{new}"] + unf + [f"{new} {params[0] if params else ''}{more} ={b}"])))
             continue
         if re.search(r"\bstatement M\b", sig) or "tie.close" in sig:
             continue
