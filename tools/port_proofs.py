@@ -123,7 +123,7 @@ def convert(crate, path, table):
             depth[m.group(1)] = depth[base] + m.group(3).count(".before")
             return ""
 
-        body = re.sub(r"let ([\w'₀-₉]+) = ([\w'₀-₉]+)((?:\.before)+) in\s", alias, body)
+        body = re.sub(r"let ([\w'₀-₉]+) =\s+([\w'₀-₉]+)((?:\.before)*) in\s", alias, body)
 
         def one(m):
             v, befores, field = m.group(1), m.group(2) or "", m.group(3)
