@@ -81,6 +81,12 @@ def convert(crate, path, table):
     for (old, new), (op, np) in zip(T["needs"], T["asked_at"]):
         need_new.setdefault(norm(old), (new, op))
     places = {p[0]: p for p in T["places"]}
+    # today the facts of an arm of a match stand together: (step, path) of the old walk -> `arm.field`
+    arms = {}
+    for place, arm in zip(T["places"], T["arms"]):
+        if arm:
+            for field, step, fields in arm[2]:
+                arms.setdefault(place[0], []).append((step, fields, f"{arm[0]}.{field}"))
     loops = {l[0][0]: (l[0][1], l[1], ch) for l, ch in zip(T["loops"], T["changed"])}
     head, ds = decls(text)
     prefix = f"Rattle.{crate}.proofs.{fn}"
@@ -132,6 +138,24 @@ def convert(crate, path, table):
             return f"c.{s[2][1]}"
 
         body = re.sub(r"(?<![\w'.\-])([\w'₀-₉]+)((?:\.before)*)\.(?!before\b)([\w'\-]+)", one, body)
+
+        # what an arm of a match tells
+        told = {}
+        for s in chain:
+            for p in chain:
+                for step, fields, new in arms.get(p[0], []):
+                    if step == s[2][0]:
+                        told.setdefault(".".join([f"c.{s[2][1]}"] + fields), f"c.{new}")
+        if told:
+            longest = "|".join(re.escape(t) for t in sorted(told, key=len, reverse=True))
+            body = re.sub(rf"(?<![\w'.\-])({longest})(?![\w'\-])", lambda m: told[m.group(1)], body)
+            # which variants come to an arm for the rest is sealed today
+            opened = re.sub(r"(?<![\w'.\-])(c\.[\w\-]+\.[\w\-]+-own\.keys\d+)(?![\w'.\-])", r"(opened \1)", body)
+            if opened != body:
+                body = opened
+                use = "use borrow.Enum.Refused.{opened}"
+                if use not in uses:
+                    uses.append(use)
 
         # what a call keeps was numbered by its parameters, and is named after them today
         def kept(m):
