@@ -77,16 +77,18 @@ def convert(crate, path, table):
         text = f.read()
     if "as tie" not in text:
         return "no tie"
+    # port.py leaves the older words of a few files
+    if re.search(r"\.(pre|taken)\b", text):
+        text = re.sub(r"\.pre\b", ".requires", text)
+        text = re.sub(r"\.taken\b", ".true", text)
+        text = re.sub(r"(\.if\d*)\.left\b", r"\1.false", text)
+        text = re.sub(r"(\.loop\d*)\.inv\b", r"\1.invariant", text)
     need_new = {}
     for (old, new), (op, np) in zip(T["needs"], T["asked_at"]):
         need_new.setdefault(norm(old), (new, op))
     places = {p[0]: p for p in T["places"]}
-    # today the facts of an arm of a match stand together: (step, path) of the old walk -> `arm.field`
-    arms = {}
-    for place, arm in zip(T["places"], T["arms"]):
-        if arm:
-            for field, step, fields in arm[2]:
-                arms.setdefault(place[0], []).append((step, fields, f"{arm[0]}.{field}"))
+    # what an arm of a match knows: (older step, older path) -> today's field
+    arms = {p[0]: a for p, a in zip(T["places"], T["arms"]) if a}
     loops = {l[0][0]: (l[0][1], l[1], ch) for l, ch in zip(T["loops"], T["changed"])}
     head, ds = decls(text)
     prefix = f"Rattle.{crate}.proofs.{fn}"
@@ -121,7 +123,7 @@ def convert(crate, path, table):
             depth[m.group(1)] = depth[base] + m.group(3).count(".before")
             return ""
 
-        body = re.sub(r"let ([\w'₀-₉]+) = ([\w'₀-₉]+)((?:\.before)+) in\s", alias, body)
+        body = re.sub(r"let ([\w'₀-₉]+) =\s+([\w'₀-₉]+)((?:\.before)*) in\s", alias, body)
 
         def one(m):
             v, befores, field = m.group(1), m.group(2) or "", m.group(3)
@@ -129,33 +131,23 @@ def convert(crate, path, table):
                 return m.group(0)
             k = depth[v] + befores.count(".before")
             if field in ("args", "requires", "ranges", "well_formed", "lifetimes", "type_inv"):
-                return f"c.{field}"
+                return f"c.{field}{m.group(4)}"
             hits = [(i, s) for i, s in enumerate(chain) if norm(s[2][0]) == norm(field)]
+            hits = hits or [(i, s) for i, s in enumerate(chain) if norm(s[2][0]) == norm(field.removesuffix("_lem"))]
             if not hits:
                 notes.append(f"no step {field} at {place}")
                 return m.group(0)
             i, s = min(hits, key=lambda h: abs(h[0] - k))
-            return f"c.{s[2][1]}"
+            rest = m.group(4)
+            for place in chain:
+                arm = arms.get(place[0])
+                for new, old, path in arm[2] if arm else []:
+                    want = "." + ".".join(path)
+                    if path and norm(old) == norm(s[2][0]) and (rest + ".").startswith(want + "."):
+                        return f"c.{arm[0]}.{new}{rest[len(want):]}"
+            return f"c.{s[2][1]}{rest}"
 
-        body = re.sub(r"(?<![\w'.\-])([\w'₀-₉]+)((?:\.before)*)\.(?!before\b)([\w'\-]+)", one, body)
-
-        # what an arm of a match tells
-        told = {}
-        for s in chain:
-            for p in chain:
-                for step, fields, new in arms.get(p[0], []):
-                    if step == s[2][0]:
-                        told.setdefault(".".join([f"c.{s[2][1]}"] + fields), f"c.{new}")
-        if told:
-            longest = "|".join(re.escape(t) for t in sorted(told, key=len, reverse=True))
-            body = re.sub(rf"(?<![\w'.\-])({longest})(?![\w'\-])", lambda m: told[m.group(1)], body)
-            # which variants come to an arm for the rest is sealed today
-            opened = re.sub(r"(?<![\w'.\-])(c\.[\w\-]+\.[\w\-]+-own\.keys\d+)(?![\w'.\-])", r"(opened \1)", body)
-            if opened != body:
-                body = opened
-                use = "use borrow.Enum.Refused.{opened}"
-                if use not in uses:
-                    uses.append(use)
+        body = re.sub(r"(?<![\w'.\-])([\w'₀-₉]+)((?:\.before)*)\.(?!before\b)([\w'\-]+)((?:\.[\w'\-]+)*)", one, body)
 
         # what a call keeps was numbered by its parameters, and is named after them today
         def kept(m):
@@ -197,16 +189,19 @@ def convert(crate, path, table):
             if len(params) != len(full):
                 notes.append(f"{kind} of {loop}: {len(params)} parameters for {full}")
                 continue
+            rec = "l"
+            while re.search(rf"(?<![\w'.-]){rec}(?![\w'-])", body):
+                rec = {"l": "s", "s": "v", "v": "at"}[rec]
             sub = {}
             for j, (p, v) in enumerate(zip(params, full)):
                 if p == "_":
                     continue
                 if j < len(vars_) and changed[j]:
-                    sub[p] = f"l.initial.{v}"
+                    sub[p] = f"{rec}.initial.{v}"
                 else:
-                    sub[p] = f"l.{v}"
+                    sub[p] = f"{rec}.{v}"
             body = re.sub(r"(?<![^\s(){}\[\],;])([^\s(){}\[\],;.=]+)(?=[\s(){}\[\],;.]|$)", lambda k: sub.get(k.group(1), k.group(1)) if not re.match(r"\s*=\s", body[k.end():k.end() + 4]) else k.group(1), body)
-            inv.append("\n".join(lead + [f"abbrev pub {kind}-{new} : goal.{kind}-{new}"] + unf + [f"{kind}-{new} l ={body}"]))
+            inv.append("\n".join(lead + [f"abbrev pub {kind}-{new} : goal.{kind}-{new}"] + unf + [f"{kind}-{new} {rec} ={body}"]))
             continue
         m = re.match(r"^(?:pub )?(\S+) : tie\.Need-(\S+)", code[0])
         if m:

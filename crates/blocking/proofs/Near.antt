@@ -128,6 +128,12 @@ module _ (mode k low high : ℕ) where
   map_turn true l ls = refl
   map_turn false l ls = refl
 
+  keep_yes : (q : Lock → Bool) (l : Lock) (ls : List Lock) → q l ≡ true → l ∷ keep q ls ≡ keep q (l ∷ ls)
+  keep_yes q l ls e = rw e refl
+
+  keep_no : (q : Lock → Bool) (l : Lock) (ls : List Lock) → q l ≡ false → keep q ls ≡ keep q (l ∷ ls)
+  keep_no q l ls e = rw e refl
+
   -- the owners with one lock more, which blocks and meets low..high
   abbrev starters_turn : Lock → List Lock → ℕ → List ℕ
   starters_turn l ls p =
@@ -139,12 +145,41 @@ module _ (mode k low high : ℕ) where
       → found (nearer mode k low high b l) (starts ls) (starters ls) ≡ found b (starts (l ∷ ls)) (starters (l ∷ ls))
   unfolding nearer
   found_turn b l ls (inr e) f = rw e refl
-  found_turn b l ls (inl e) (inr f) = rw (e, f) refl
+  found_turn b l ls (inl e) (inr f) =
+      ap (λ (y : Blocked). found y (starts ls) (starters ls)) step
+      ∙ found_as b (starts ls) (starters ls) (starters (l ∷ ls)) ahead
+      ∙ ap (λ (S : List ℕ). found b S (starters (l ∷ ls))) first
+    where
+      step : nearer mode k low high b l ≡ b
+      step = rw (e, f) refl
+
+      first : starts ls ≡ starts (l ∷ ls)
+      first = rw e (ap (map start) (keep_no (meets low high) l (keep (blocks mode k) ls) f))
+
+      ahead : (p : ℕ) → starters ls p ≡ starters (l ∷ ls) p
+      ahead p =
+          let rest : List Lock = keep (starts_at p) (keep (blocks mode k) ls) in
+          let not_meets : false ≡ starts_at p l = rw f refl in
+          rw e (ap (λ (t : Bool). owners (cond t (l ∷ rest) rest)) not_meets)
   found_turn b l ls (inl e) (inl f) =
-      rw (e, f)
-      (joined_found b (start l) l.owner (starts ls) (starters ls)
+      ap (λ (y : Blocked). found y (starts ls) (starters ls)) step
+      ∙ joined_found b (start l) l.owner (starts ls) (starters ls)
       ∙ found_as b (start l ∷ starts ls) (also (start l) l.owner (starters ls)) (starters_turn l ls)
-      (λ p. map_turn (eqb (start l) p) l (keep (starts_at p) (keep (blocks mode k) ls))))
+      (λ p. map_turn (eqb (start l) p) l (keep (starts_at p) (keep (blocks mode k) ls)))
+      ∙ found_as b (start l ∷ starts ls) (starters_turn l ls) (starters (l ∷ ls)) ahead
+      ∙ ap (λ (S : List ℕ). found b S (starters (l ∷ ls))) first
+    where
+      step : nearer mode k low high b l ≡ joined b (start l) l.owner
+      step = rw (e, f) refl
+
+      first : start l ∷ starts ls ≡ starts (l ∷ ls)
+      first = rw e (ap (map start) (keep_yes (meets low high) l (keep (blocks mode k) ls) f))
+
+      ahead : (p : ℕ) → starters_turn l ls p ≡ starters (l ∷ ls) p
+      ahead p =
+          let rest : List Lock = keep (starts_at p) (keep (blocks mode k) ls) in
+          let also_meets : eqb (start l) p ≡ starts_at p l = rw f refl in
+          rw e (ap (λ (t : Bool). owners (cond t (l ∷ rest) rest)) also_meets)
 
   -- the walk of all locks; on rising ones the walk that stops finds the same
   abbrev nearest_of_all : Blocked → List Lock → Blocked

@@ -1,7 +1,7 @@
 -- The search for the earliest point, access by access: one pass over the first accesses, passes until none moves the
 -- point, one access more. Rests on Common, Fronts and on CommonEnds of the crate `meaning`.
 use Prim.Native.Nat.{ℕ, suc, ◌+◌, ◌-◌, ◌≤◌, ◌<◌}
-use mathlib.Core.Path.{◌≡◌, refl, sym, ap}
+use mathlib.Core.Path.{◌≡◌, refl, sym, ap, subst}
 use mathlib.Core.Logic.{◌⊎◌, inl, inr}
 use mathlib.Core.Bool.{Bool, true, false}
 use mathlib.Core.List.{List, [], ◌∷◌, map}
@@ -57,7 +57,7 @@ module _ {allow : ℕ → Access → Bool} {xs : List Access} {p : ℕ} where
         still = λ e l r.
             let s : q ≡ y = omega (arith, i.from, b.from) in
             rw s at
-            (i.still (omega (arith, i.from, b.from)) (omega (arith, b.from)) (rw s (and_in (b.inside l) r)));
+            (i.still (omega (arith, i.from, b.from)) (omega (arith, b.from)) (subst (λ z. all (allow z) (a ∷ rest) ≡ true) (sym s) (and_in (b.inside l) r)));
       }
     where
       go : (x : ℕ) → p ≤ x → x < y → all (allow x) xs ≡ true → (ltb x q ≡ true) ⊎ (ltb x q ≡ false) → ⊥

@@ -1,7 +1,7 @@
 -- The search for the latest point, access by access, as Lifts does it upwards. Rests on Common, Fronts and on
 -- CommonEnds of the crate `meaning`.
 use Prim.Native.Nat.{ℕ, ◌+◌, ◌-◌, ◌≤◌, ◌<◌}
-use mathlib.Core.Path.{◌≡◌, refl, sym, ap}
+use mathlib.Core.Path.{◌≡◌, refl, sym, ap, subst}
 use mathlib.Core.Logic.{◌⊎◌, inl, inr}
 use mathlib.Core.Bool.{Bool, true, false}
 use mathlib.Core.List.{List, [], ◌∷◌, map}
@@ -50,7 +50,7 @@ module _ {allow : ℕ → Access → Bool} {xs : List Access} {p : ℕ} where
         still = λ e l r.
             let s : q ≡ y = omega (arith, i.upto, b.upto) in
             rw s at
-            (i.still (omega (arith, i.upto, b.upto)) (omega (arith, b.upto)) (rw s (and_in (b.inside l) r)));
+            (i.still (omega (arith, i.upto, b.upto)) (omega (arith, b.upto)) (subst (λ z. all (allow z) (a ∷ rest) ≡ true) (sym s) (and_in (b.inside l) r)));
       }
     where
       go : (x : ℕ) → y < x → x ≤ p → all (allow x) xs ≡ true → (ltb q x ≡ true) ⊎ (ltb q x ≡ false) → ⊥

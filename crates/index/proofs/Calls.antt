@@ -142,10 +142,10 @@ module _ (k r : ℕ) (h : 1 ≤ k) where
 
         go : (t : Bool) → After (cond t (replies s (purged 0 0)) (Rattle.meaning.specs.Outcomes.unless s (purge_verdict
             x v)
-            (replies (Rattle.meaning.specs.Store.withRec s g y) reply))).store
+            (replies (Rattle.meaning.specs.Store.with_rec s g y) reply))).store
         go true q = q
         go false q =
-            unless_keeps After s (purge_verdict x v) (replies (Rattle.meaning.specs.Store.withRec s g y) reply) (λ p. p)
+            unless_keeps After s (purge_verdict x v) (replies (Rattle.meaning.specs.Store.with_rec s g y) reply) (λ p. p)
             (λ e. rec_change s k r g y (λ z p. by_locks s k r (λ q. q) (rw z (holds_trim k v x.locks p))) (λ q. q)) q
 
     pub view_after : (g p : ℕ) → After (viewing g p s).store

@@ -1,0 +1,10 @@
+-- `common::lifting::earliest` meets its contract: the least point of the first accesses, access by access. Rests on
+-- Lifts.
+use Rattle.common.proofs.Lifts.{Seeking}
+use Rattle.common.proofs.lifting.earliest.Given as goal
+
+abbrev pub invariant-loop-c : goal.invariant-loop-c
+invariant-loop-c l = Seeking l.c l.w l.k l.p l.j l.cur l.left
+
+abbrev pub decreases-loop-c : goal.decreases-loop-c
+decreases-loop-c l = l.left

@@ -1,0 +1,43 @@
+-- `index::turn` meets its contract. Rests on Says.
+use mathlib.Core.Path.{sym, ◌∙◌}
+use mir.Facts.{Fits-widen}
+use native.Mathlib.Omega.{arith}
+use Rattle.index.proofs.Says.{known_size, count_known, turn_known, turn_unknown}
+use Rattle.index.proofs.turn.Goals as goal
+
+pub overflow_add-result-then-known-2 : goal.overflow_add-result-then-known-2
+overflow_add-result-then-known-2 c =
+    omega (
+      arith,
+      c.requires.1 (sym c.known.ensures ∙ c.if-known.true),
+      count_known _ _
+          (sym c.known.ensures ∙ c.if-known.true),
+    )
+
+pub offset_bounds-ix-k : goal.offset_bounds-ix-k
+offset_bounds-ix-k c =
+    omega (
+      arith,
+      c.requires.1 (sym c.known.ensures ∙ c.if-known.true),
+      count_known _ _
+          (sym c.known.ensures ∙ c.if-known.true),
+    )
+
+pub bounds-ix-k : goal.bounds-ix-k
+bounds-ix-k c =
+    omega (
+      arith,
+      c.requires.0,
+      c.requires.1 (sym c.known.ensures ∙ c.if-known.true),
+      count_known _ _ (sym c.known.ensures ∙ c.if-known.true),
+      known_size _ _ (sym c.known.ensures ∙ c.if-known.true),
+    )
+
+pub overflow_cast-result : goal.overflow_cast-result
+overflow_cast-result c = Fits-widen tt (c.shared_slice_known-then-known-1.given _)
+
+pub returns-then-known : goal.returns-then-known
+returns-then-known c = sym (turn_known _ _ (sym c.known.ensures ∙ c.if-known.true) _)
+
+pub returns : goal.returns
+returns c = sym (turn_unknown _ _ (sym c.known.ensures ∙ c.if-known.false) _)

@@ -1,0 +1,42 @@
+-- `locking::lock_grant` meets its contract: all points or none, or the run from the first free point. Rests on
+-- Granting.
+use native.Mathlib.Omega.{arith}
+use Rattle.calls.proofs.Granting.{search_needs, lock_all_taken, lock_all_judged, lock_part_low}
+use Rattle.locking.proofs.lock_grant.Goals as goal
+
+pub first_blocked-b-requires : goal.first_blocked-b-requires
+first_blocked-b-requires c =
+    search_needs c.requires.0 c.requires.1 c.requires.3 c.requires.4 c.requires.5
+
+pub overflow_sub-result : goal.overflow_sub-result
+overflow_sub-result c = omega (arith, c.if-low-b.true)
+
+pub later_grant-requires : goal.later_grant-requires
+later_grant-requires c = (
+  c.requires.0,
+  c.requires.1,
+  c.requires.2,
+  c.requires.3,
+  c.requires.4,
+  c.requires.5,
+  c.first_blocked-b.ensures,
+)
+
+pub returns-then-high-b : goal.returns-then-high-b
+returns-then-high-b c =
+    rw c.in-All.is
+    (lock_all_taken _ _ _ _ _ _ c.first_blocked-b.ensures c.if-high-b.true)
+
+pub returns-else-high-b : goal.returns-else-high-b
+returns-else-high-b c =
+    rw c.in-All.is
+    (lock_all_judged _ _ _ _ _ _ c.first_blocked-b.ensures c.if-high-b.false)
+
+pub returns-then-low-b : goal.returns-then-low-b
+returns-then-low-b c =
+    rw c.in-Part.is
+    (lock_part_low _ _ _ _ _ _ c.first_blocked-b.ensures c.requires.3
+    c.if-low-b.true)
+
+pub returns-else-low-b : goal.returns-else-low-b
+returns-else-low-b c = rw c.in-Part.is c.later_grant.ensures

@@ -1,0 +1,47 @@
+use Prim.Native.Nat.{◌-◌}
+use mathlib.Core.Path.{◌∙◌}
+use native.Mathlib.Omega.{arith}
+use native.Mathlib.Numerals.{add-one}
+use Rattle.clauses.proofs.Counting.{up_start, up_again, up_fail, up_end}
+use Rattle.clauses.proofs.Slots.{slots_all, stamps_before}
+use Rattle.slot_clauses.proofs.slots_sound_with.Goals as goal
+
+pub loop-k-init : goal.loop-k-init
+loop-k-init c = (up_start, c.requires.1)
+
+pub overflow_add-k : goal.overflow_add-k
+overflow_add-k c = omega (arith, c.requires.0.ranged.edits_high)
+
+pub slot_sound-requires : goal.slot_sound-requires
+slot_sound-requires c = (
+  c.requires.0,
+  record { low = omega arith; high = omega arith },
+  stamps_before c.loop-k.invariant.1,
+  c.requires.2,
+)
+
+pub returns-then-not-slot_sound : goal.returns-then-not-slot_sound
+returns-then-not-slot_sound c =
+    up_fail c.loop-k.invariant.0 (omega arith)
+    (rw add-one at c.slot_sound.ensures.0) (c.if-not-slot_sound.true)
+    ∙ slots_all c.args.c
+    c.args.w.now
+
+pub overflow_add-k-in-loop-k : goal.overflow_add-k-in-loop-k
+overflow_add-k-in-loop-k c =
+    omega (arith, c.requires.0.ranged.edits_high)
+
+pub loop-k-smaller : goal.loop-k-smaller
+loop-k-smaller c = omega arith
+
+pub loop-k-preserved : goal.loop-k-preserved
+loop-k-preserved c = (
+  up_again c.loop-k.invariant.0 (omega arith)
+      (rw add-one at c.slot_sound.ensures.0) (c.if-not-slot_sound.false),
+  c.slot_sound.ensures.1,
+)
+
+pub returns : goal.returns
+returns c =
+    up_end c.loop-k.invariant.0 (omega arith)
+    ∙ slots_all c.args.c c.args.w.now
