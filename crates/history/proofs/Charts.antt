@@ -82,7 +82,7 @@ module _ (Lent : Type 0) (decode : Lent → Store) (soundLent : Lent → Bool) w
       → Leaves n l w
       → Leaves n (heard_after l ds ps) w'
   calls_leave done h = h
-  calls_leave (then {c = c} d r) h = calls_leave r (call_leaves c d h)
+  calls_leave {l = l} (then {c = c} {q = q} d r) h = calls_leave {l = l ▸ heard c q} r (call_leaves c d h)
 
   fresh_leaves : (counts : Counts) (w : Lent) → Formats Lent decode soundLent counts w → Leaves counts.records ε w
   fresh_leaves counts w f =
@@ -180,7 +180,7 @@ module _ (Lent : Type 0) (decode : Lent → Store) (soundLent : Lent → Bool) w
       → ViewsFit l end ds ps
   unfolding act_by
   views_fit done h e = tt
-  views_fit {l = l} {end = end} (then {w = w} {c = c} {q = q} d r) h e = (fits, views_fit r (call_leaves c d h) e)
+  views_fit {l = l} {end = end} (then {w = w} {c = c} {q = q} d r) h e = (fits, views_fit {l = l ▸ heard c q} r (call_leaves c d h) e)
     where
       fits : ViewFits l end c q
       fits r p i v a b m g f none-since =
@@ -198,8 +198,8 @@ module _ (Lent : Type 0) (decode : Lent → Store) (soundLent : Lent → Bool) w
       → Low r p (decode w)
       → Low r p (decode w')
   calls_low r p done h purges low = low
-  calls_low r p (then {w = w} {c = c} d rest) h purges low =
-      calls_low r p rest (call_leaves c d h) (λ b m. purges b (Memᴰ.tail m))
+  calls_low {l = l} r p (then {w = w} {c = c} {q = q} d rest) h purges low =
+      calls_low {l = l ▸ heard c q} r p rest (call_leaves c d h) (λ b m. purges b (Memᴰ.tail m))
       (subst (λ (t : Store). Low r p t) (sym (d.store h.sound))
       (call_keeps (low_kept r p) c (decode w)
       (λ i b e q.

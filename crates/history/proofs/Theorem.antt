@@ -81,7 +81,8 @@ list_left : {n : ℕ} {l : History Val} (cs : List Call) (s : Store) → Left n 
     → Left n (heard_after l cs (run cs s)) (after cs s)
 unfolding run_by after_by
 list_left [] s g = g
-list_left (c ∷ cs) s g = list_left cs (act c s).store (call_left c s g)
+list_left {l = l} (c ∷ cs) s g =
+    list_left {l = l ▸ heard c (act c s).reply} cs (act c s).store (call_left c s g)
 
 pub fresh_left : (c : Counts) → good_counts c ≡ true → Left c.records ε (fresh c)
 unfolding rec_of edit_of
