@@ -5,24 +5,13 @@
 ghost use Rattle.console.specs.Words.{Moved};
 
 use replies::Line;
-
-// The first n bytes.
-fn print_bytes(out: &[u8], n: usize) {
-    if n <= printing::WIDTH {
-        let k = io::count(n as isize, out);
-        io::write_all(1, &out[..k]);
-    }
-}
-
-fn print_out(out: &[u8; printing::WIDTH], n: usize) {
-    print_bytes(out, n);
-}
+use std::io;
 
 // The line's text, with no end of line.
-pub fn print_line(l: Line) {
+pub fn print_line(rt: &impl Print, l: Line) -> io::Result<()> {
     let mut out = [0u8; printing::WIDTH];
     let n = printing::print(l, &mut out);
-    print_out(&out, n);
+    rt.write_all(&out[..n])
 }
 
 // Whether the words after are others than those before.

@@ -1,10 +1,10 @@
 // The script program: standard input has one call a line, and each line is answered by one line on standard output. It
-// runs the public calls of the store. It reads and writes in blocks, and its memory does not grow with the input. Rests
-// on the crates `io`, `libc`, `lines`, `gathering`, which makes lines of bytes, and `answers`, which runs a line on the
-// store. This file reads blocks; `output` collects what is to be written.
+// runs the public calls of the store. It reads and writes in blocks, and its memory does not grow with the input. A read
+// or a write that fails ends it with that error. Rests on the crates `lines`, `gathering`, which makes lines of bytes, and
+// `answers`, which runs a line on the store. This file reads blocks; `output` collects what is to be written.
 #![tactic(auto)]
 
-ghost use Rattle.std.specs.Prelude.{length};
+ghost use Rattle.std.specs.Prelude.{length, IfOk};
 ghost use Rattle.script.specs.Run.{Inside};
 
 mod output;
@@ -12,6 +12,8 @@ mod output;
 use answers::answer;
 use gathering::gather;
 use output::{BUFFER, NEWLINE, finish, flush, put_line};
+use std::io;
+use std::io::Read;
 
 // "It lays out at most 8,000 words" (document 01).
 const WORDS: usize = 8000;
@@ -36,83 +38,108 @@ struct Turn {
 }
 
 // Answers the line that has ended.
-fn end_line(words: &mut [u64], line: &[u8], out: &mut [u8; BUFFER], run: Run) -> Run
+fn end_line(
+    rt: &impl Print,
+    words: &mut [u64],
+    line: &[u8],
+    out: &mut [u8; BUFFER],
+    run: Run,
+) -> io::Result<Run>
     requires { Inside run (length words.old) (length line.now) }
-    ensures { Inside result (length words.new) (length line.now) }
+    ensures { IfOk result (λ after. Inside after (length words.new) (length line.now)) }
 {
     let held = run.held;
     let answered = answer(words, run.used, &line[..held]);
     let said = answered.line;
-    let ready = put_line(out, run.ready, said);
-    Run {
+    let ready = put_line(rt, out, run.ready, said)?;
+    Ok(Run {
         used: answered.used,
         held: 0,
         ready,
-    }
+    })
 }
 
-fn take_byte(words: &mut [u64], line: &mut [u8], out: &mut [u8; BUFFER], run: Run, b: u8) -> Run
+fn take_byte(
+    rt: &impl Print,
+    words: &mut [u64],
+    line: &mut [u8],
+    out: &mut [u8; BUFFER],
+    run: Run,
+    b: u8,
+) -> io::Result<Run>
     requires { Inside run (length words.old) (length line.old) }
-    ensures { Inside result (length words.new) (length line.new) }
+    ensures { IfOk result (λ after. Inside after (length words.new) (length line.new)) }
 {
     if b == NEWLINE {
-        return end_line(words, line, out, run);
+        return end_line(rt, words, line, out, run);
     }
     let held = gather(line, run.held, b);
-    Run {
+    Ok(Run {
         used: run.used,
         held,
         ready: run.ready,
-    }
+    })
 }
 
 fn take_block(
+    rt: &impl Print,
     words: &mut [u64],
     line: &mut [u8],
     out: &mut [u8; BUFFER],
     run: Run,
     block: &[u8],
-) -> Run
+) -> io::Result<Run>
     requires { Inside run (length words.old) (length line.old) }
-    ensures { Inside result (length words.new) (length line.new) }
+    ensures { IfOk result (λ after. Inside after (length words.new) (length line.new)) }
 {
     let mut r = run;
     let mut i = 0;
     while i < block.len() {
-        r = take_byte(words, line, out, r, block[i]);
+        r = take_byte(rt, words, line, out, r, block[i])?;
         i += 1;
     }
-    r
+    Ok(r)
 }
 
-// Reads once, answers the lines that end in what came, and writes the answers. A read that fails ends the input, and so
-// does a write that fails.
-fn take_input(words: &mut [u64], line: &mut [u8], out: &mut [u8; BUFFER], run: Run) -> Turn
+// Reads once, answers the lines that end in what came, and writes the answers. A read of no byte ends the input.
+fn take_input<I: Read>(
+    rt: &impl Print,
+    input: &mut I,
+    words: &mut [u64],
+    line: &mut [u8],
+    out: &mut [u8; BUFFER],
+    run: Run,
+) -> io::Result<Turn>
     requires { Inside run (length words.old) (length line.old) }
-    ensures { Inside result.run (length words.new) (length line.new) }
+    ensures { IfOk result (λ turn. Inside turn.run (length words.new) (length line.new)) }
 {
-    let mut block = io::large_buffer();
-    let got = libc::read(libc::STDIN_FILENO, &mut block);
-    if got <= 0 {
-        return Turn { more: false, run };
+    let mut block = [0u8; BUFFER];
+    let n = input.read(&mut block)?;
+    if n == 0 {
+        return Ok(Turn { more: false, run });
     }
-    let n = io::count(got, &block);
-    let after = take_block(words, line, out, run, &block[..n]);
-    let more = flush(out, after.ready);
-    Turn {
-        more,
+    let after = take_block(rt, words, line, out, run, &block[..n])?;
+    flush(rt, out, after.ready)?;
+    Ok(Turn {
+        more: true,
         run: Run {
             used: after.used,
             held: after.held,
             ready: 0,
         },
-    }
+    })
 }
 
 // Reads to the end of the input. A proved loop has to end, and nothing says that the input does: the turns are counted
 // down from a number that no run uses up.
-fn take_all(words: &mut [u64], line: &mut [u8], out: &mut [u8; BUFFER]) -> Run
-    ensures { Inside result (length words.new) (length line.new) }
+fn take_all<I: Read>(
+    rt: &impl Print,
+    input: &mut I,
+    words: &mut [u64],
+    line: &mut [u8],
+    out: &mut [u8; BUFFER],
+) -> io::Result<Run>
+    ensures { IfOk result (λ run. Inside run (length words.new) (length line.new)) }
 {
     let mut run = Run {
         used: 0,
@@ -121,24 +148,26 @@ fn take_all(words: &mut [u64], line: &mut [u8], out: &mut [u8; BUFFER]) -> Run
     };
     let mut turns = u64::MAX;
     while turns > 0 {
-        let turn = take_input(words, line, out, run);
+        let turn = take_input(rt, input, words, line, out, run)?;
         run = turn.run;
         if !turn.more {
-            return run;
+            return Ok(run);
         }
         turns -= 1;
     }
-    run
+    Ok(run)
 }
 
-fn main() {
+fn main(rt: HostRuntime) -> io::Result<()> {
     let mut words = [0u64; WORDS];
     let mut line = [0u8; KEPT];
-    let mut out = io::large_buffer();
-    let run = take_all(&mut words, &mut line, &mut out);
+    let mut out = [0u8; BUFFER];
+    let mut input = rt.stdin();
+    let run = take_all(&rt, &mut input, &mut words, &mut line, &mut out)?;
     // a last line without a newline is a line
     if run.held > 0 {
-        let last = end_line(&mut words, &line, &mut out, run);
-        finish(&out, last.ready);
+        let last = end_line(&rt, &mut words, &line, &mut out, run)?;
+        finish(&rt, &out, last.ready)?;
     }
+    Ok(())
 }

@@ -1,24 +1,25 @@
-// What is to be written, collected in a buffer, so that one write takes many lines. Rests on the crates `io`, `libc`,
-// `replies` and `printing`.
-ghost use Rattle.std.specs.Prelude.{◌+◌, ◌≤◌, length};
+// What is to be written, collected in a buffer, so that one write takes many lines. Rests on the crates `replies` and
+// `printing`.
+ghost use Rattle.std.specs.Prelude.{◌+◌, ◌≤◌, length, IfOk};
 ghost use Rattle.printing.specs.Shown.{WIDTH};
 ghost use Rattle.script.specs.Run.{BUFFER};
 
 use replies::Line;
+use std::io;
 
 pub const NEWLINE: u8 = 10;
 
-// The length of `io::large_buffer`.
+// The bytes that are collected before they are written, and as many are read at once.
 pub const BUFFER: usize = 65536;
 
 // Up to here a line of any length, with its newline, still fits into the buffer.
 const LAST_START: usize = BUFFER - (printing::WIDTH + 1);
 
-// Writes the first bytes of the buffer, and answers whether all went out.
-pub fn flush(out: &[u8], ready: usize) -> bool
+// Writes the first bytes of the buffer.
+pub fn flush(rt: &impl Print, out: &[u8], ready: usize) -> io::Result<()>
     requires { ready ≤ length out.now }
 {
-    io::write_all(libc::STDOUT_FILENO, &out[..ready])
+    rt.write_all(&out[..ready])
 }
 
 // Copies the first n bytes of a text to a position, with a newline after them, and answers where that ends.
@@ -38,31 +39,42 @@ fn copy_line(out: &mut [u8; BUFFER], at: usize, text: &[u8], n: usize) -> usize
 }
 
 // Collects a text after the bytes that wait; where there might be no room for it, these are written first.
-fn append(out: &mut [u8; BUFFER], ready: usize, text: &[u8; printing::WIDTH], n: usize) -> usize
+fn append(
+    rt: &impl Print,
+    out: &mut [u8; BUFFER],
+    ready: usize,
+    text: &[u8; printing::WIDTH],
+    n: usize,
+) -> io::Result<usize>
     requires ready_bound { ready ≤ BUFFER }
     requires n_in_bounds { n ≤ length text.now }
-    ensures { result ≤ BUFFER }
+    ensures { IfOk result (λ end. end ≤ BUFFER) }
 {
     if ready <= LAST_START {
-        return copy_line(out, ready, text, n);
+        return Ok(copy_line(out, ready, text, n));
     }
-    flush(out, ready);
-    copy_line(out, 0, text, n)
+    flush(rt, out, ready)?;
+    Ok(copy_line(out, 0, text, n))
 }
 
 // Collects the line of a reply.
-pub fn put_line(out: &mut [u8; BUFFER], ready: usize, l: Line) -> usize
+pub fn put_line(
+    rt: &impl Print,
+    out: &mut [u8; BUFFER],
+    ready: usize,
+    l: Line,
+) -> io::Result<usize>
     requires { ready ≤ BUFFER }
-    ensures { result ≤ BUFFER }
+    ensures { IfOk result (λ end. end ≤ BUFFER) }
 {
     let mut text = [0u8; printing::WIDTH];
     let n = printing::print(l, &mut text);
-    append(out, ready, &text, n)
+    append(rt, out, ready, &text, n)
 }
 
 // Writes what waits at the end.
-pub fn finish(out: &[u8; BUFFER], ready: usize) -> bool
+pub fn finish(rt: &impl Print, out: &[u8; BUFFER], ready: usize) -> io::Result<()>
     requires { ready ≤ BUFFER }
 {
-    flush(out, ready)
+    flush(rt, out, ready)
 }

@@ -4,6 +4,7 @@ use Prim.Native.Nat.{ℕ}
 use mathlib.Core.Path.{◌≡◌, refl, ap, ◌∙◌}
 use mathlib.Core.Bool.{Bool, true, false, ◌&&◌, cond}
 use mathlib.Core.List.{List, []}
+use Rattle.std.proofs.Common.{Bor}
 use Rattle.types.specs.Replies.{Reply, refusing}
 use Rattle.meaning.specs.Records.{viewing}
 use Rattle.meaning.specs.Sound.{sound_store}
@@ -42,3 +43,12 @@ module _ (r p : ℕ) (w : List ℕ) where
 
   pub viewed : {q : Reply} → q ≡ answered (sound_words (lent w)) r p w → Viewed r p w q
   viewed k = record { unsound = λ e. k ∙ by_verdict false e; reply = λ e. k ∙ by_verdict true e }
+
+-- what a reader made by `open` answers is the call View
+pub by_reader : (r p : ℕ) (s x : Bor (List ℕ)) (good : Bool) (q : Reply) → (x ≡ s) × (good ≡ sound_words (lent s.now))
+    → q ≡ answered good r p x.now → Viewed r p s.now q
+by_reader r p s x good q m e =
+    viewed r p s.now
+    (e
+    ∙ ap (λ (y : Bor (List ℕ)). answered good r p y.now) m.0
+    ∙ ap (λ (b : Bool). answered b r p s.now) m.1)

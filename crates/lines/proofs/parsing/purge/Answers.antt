@@ -1,0 +1,32 @@
+-- `lines::parsing::purge` meets its contract: the fields are found one after another, and none is left; each missing one
+-- ends in `Malformed`. Assumes nothing.
+use Rattle.std.proofs.Common.{sym, ◌∙◌}
+use Rattle.lines.specs.Calls.{purging}
+use Rattle.fields.proofs.Found.{number_at, number_off, done_past, done_within, point_is}
+use Rattle.lines.proofs.parsing.purge.Goals as goal
+
+pub returns-in_default : goal.returns-in_default
+unfolding purging
+returns-in_default c =
+    sym (number_off _ _ _ c.number.ensures c.in_default.is _)
+
+pub returns-in_default-number : goal.returns-in_default-number
+unfolding purging
+returns-in_default-number c =
+    sym (number_at _ _ _ _ _ c.number.ensures c.in-At.is _
+    ∙ number_off _ _ _ c.number-2.ensures c.in_default-number.is _)
+
+pub returns-then-end-line : goal.returns-then-end-line
+unfolding purging
+returns-then-end-line c =
+    sym (number_at _ _ _ _ _ c.number.ensures c.in-At.is _
+    ∙ number_at _ _ _ _ _ c.number-2.ensures c.in-At-number.is _
+    ∙ done_within c.args.line.now _ _ c.if-end-line.true)
+
+pub returns : goal.returns
+unfolding purging
+returns c =
+    rw (point_is _ _ c.point_of_word.ensures)
+    (sym (number_at _ _ _ _ _ c.number.ensures c.in-At.is _
+    ∙ number_at _ _ _ _ _ c.number-2.ensures c.in-At-number.is _
+    ∙ done_past c.args.line.now _ _ c.if-end-line.false))
