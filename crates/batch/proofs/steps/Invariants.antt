@@ -9,7 +9,8 @@ use Rattle.batch.proofs.steps.Given as goal
 
 abbrev pub invariant-loop-i : goal.invariant-loop-i
 invariant-loop-i l =
-    Running l.list l.initial.words l.initial.replies l.good l.n l.i l.words l.replies × Indexed (decode (lent l.words)) l.ix × (length l.ix ≡ length l.initial.ix)
+    Running l.list l.initial.words l.initial.replies l.good l.n l.i l.words l.replies × Indexed (decode (lent l.words))
+    l.ix × (length l.ix ≡ length l.initial.ix)
 
 abbrev pub decreases-loop-i : goal.decreases-loop-i
 decreases-loop-i l = l.n - l.i
