@@ -45,8 +45,30 @@ def line_at(text, at):
     return a, len(text) if b < 0 else b
 
 
+def in_turn(names):
+    """The renamings in an order in which none makes a name that is still to be renamed: those of a ring go by a third name."""
+    names = dict(names)
+    while names:
+        ready = [a for a in names if names[a] not in names]
+        if ready:
+            yield {a: names.pop(a) for a in ready}
+        else:
+            a = next(iter(names))
+            names[a + "-away"] = names[a]
+            yield {a: a + "-away"}
+            del names[a]
+
+
 def pairs(text, names):
     """Pairs that rename each of these names in the text, each old text standing once in what the pairs before it made."""
+    out = []
+    for part in in_turn(names):
+        found, text = renamings(text, part)
+        out += found
+    return out, text
+
+
+def renamings(text, names):
     out = []
     at = 0
     while True:

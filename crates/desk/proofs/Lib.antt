@@ -1,9 +1,7 @@
--- The planning desk: its functions follow its programs, the thin ones by one walk, and its laws. Rests on `layers` and
+-- The planning desk: its functions follow its programs, and its laws. Rests on `layers` and
 -- on the laws of `meaning`.
 pub mod Leaves
 pub mod Following
-pub mod Numbers
-pub mod Thin
 pub mod Cases
 pub mod Refusals
 pub mod Intervals

@@ -14,11 +14,8 @@ returns-then-line-gt-LONGEST c = rw (lt-leb (length c.args.line.now) LONGEST c.i
 pub returns-in_default : goal.returns-in_default
 unfolding parsed
 returns-in_default c =
-    rw (
-      le-leb (length c.args.line.now) LONGEST
-          c.if-line-gt-LONGEST.false,
-      ← left_all c.args.line.now,
-    ) (sym (letter_off _ _ _ c.letter.ensures c.in_default.is _ _))
+    let short = le-leb (length c.args.line.now) LONGEST c.if-line-gt-LONGEST.false in
+    rw (short, ← left_all c.args.line.now) (sym (letter_off _ _ _ c.letter.ensures c.in_default.is _ _))
 
 pub returns : goal.returns
 unfolding parsed
