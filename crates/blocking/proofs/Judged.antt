@@ -11,7 +11,8 @@ use lib.Dec.{leb, eqb}
 use borrow.Author.Tests.{le-leb, lt-leb, eqb-true, eq-eqb}
 use Rattle.types.specs.Limits.{SLOTS, SETTLED}
 use Rattle.meaning.specs.Lists.{◌∈◌, any, keep, least, pairwise}
-use Rattle.meaning.specs.Points.{covers, meets, blocks, blockers, first_covered, first_blocked, frozen, holder, no_later}
+use Rattle.meaning.specs.Points.{covers, meets, blocks, blockers, first_covered, first_blocked, frozen, holder}
+use Rattle.meaning.specs.Points.{no_later}
 use Rattle.meaning.specs.Pointwise.{Proper, SettledOn, Frozen}
 use Rattle.meaning.specs.Store.{Rec, Store, rec_at}
 use Rattle.types.specs.declared.Lock.{Lock}

@@ -92,7 +92,8 @@ module _ (c : Counts) (w : List ℕ) where
         unchanged = λ _. refl;
       }
 
-  pub makes_done : (o : Outcome) (w' : List ℕ) (s : Store) (r : Reply) → Well c w' → decode_at c w' ≡ s → o ≡ replies s r
+  pub makes_done : (o : Outcome) (w' : List ℕ) (s : Store) (r : Reply) → Well c w'
+      → decode_at c w' ≡ s → o ≡ replies s r
       → refused r ≡ false
       → Makes c o w w' r
   makes_done o w' s r W d e f =

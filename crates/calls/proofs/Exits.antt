@@ -11,7 +11,8 @@ use Rattle.meaning.specs.Store.{Store, edit_at, rec_at, newest_at}
 use Rattle.types.specs.Numbers.{handle, slot_of, next_generation}
 use Rattle.types.specs.Values.{Val}
 use Rattle.types.specs.Replies.{ok, edit, at, refusing}
-use Rattle.meaning.specs.Outcomes.{Outcome, replies, Verdict, pass, needs, unless, knows, is_open, has_record, access_room}
+use Rattle.meaning.specs.Outcomes.{Outcome, replies, Verdict, pass, needs, unless, knows, is_open, has_record}
+use Rattle.meaning.specs.Outcomes.{access_room}
 use Rattle.meaning.specs.Edits.{free_slot, begun, begin_checks, beginning, written, write_checks, writing}
 use Rattle.meaning.specs.Records.{view_checks, viewing}
 use Rattle.calls.specs.Parts.{write_open}
@@ -23,16 +24,19 @@ pub begin_full : (s : Store) → length s.edits < free_slot s → beginning s �
 unfolding beginning begin_checks
 begin_full s l =
     needs_fails s
-    (replies (begun s (free_slot s)) (edit (handle (next_generation (edit_at s (free_slot s)).generation) (free_slot s))))
+    (replies (begun s (free_slot s))
+    (edit (handle (next_generation (edit_at s (free_slot s)).generation) (free_slot s))))
     (leb (free_slot s) (length s.edits)) 13 pass (lt-leb (free_slot s) (length s.edits) l)
 
 pub begin_done : (s : Store) → free_slot s ≤ length s.edits
     → beginning s
-    ≡ replies (begun s (free_slot s)) (edit (handle (next_generation (edit_at s (free_slot s)).generation) (free_slot s)))
+    ≡ replies (begun s (free_slot s))
+    (edit (handle (next_generation (edit_at s (free_slot s)).generation) (free_slot s)))
 unfolding beginning begin_checks
 begin_done s l =
     needs_holds s
-    (replies (begun s (free_slot s)) (edit (handle (next_generation (edit_at s (free_slot s)).generation) (free_slot s))))
+    (replies (begun s (free_slot s))
+    (edit (handle (next_generation (edit_at s (free_slot s)).generation) (free_slot s))))
     (leb (free_slot s) (length s.edits)) 13 pass (le-leb (free_slot s) (length s.edits) l)
 
 -- Write

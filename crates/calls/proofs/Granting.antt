@@ -95,7 +95,8 @@ module _ (s : Store) (k r low high : ℕ) (b : Blocked) (e : b ≡ first_judged 
 
   pub lock_all_taken : high < b.point → Taken low high ≡ lock_grant All s k r low high
   unfolding lock_grant
-  lock_all_taken l = let f = first_is in rw (lt-ltb high (first_blocked WRITE k (rec_at s r) low high) (omega arith)) refl
+  lock_all_taken l = let f = first_is in rw (lt-ltb high (first_blocked WRITE k (rec_at s r) low high) (omega arith))
+      refl
 
   pub lock_all_judged : b.point ≤ high → Judged b ≡ lock_grant All s k r low high
   unfolding lock_grant

@@ -70,6 +70,7 @@ module _ (c : Counts) (w : List ℕ) (R : Ready c w) (k r : ℕ) (v : Val) where
       ap (λ (x : Access). x.from) (f ∙ ap (λ (x : Edit). access_of x r) (sym (edit_at_lem c w k i))) in
       makes_done c w (write_open (decode_at c w) k r v) w' (written (decode_at c w) k r v) ok B.well
       (B.means ∙ ap
-      (λ (x : ℕ). on_edit (decode_at c w) k (λ y. with_access y (record { rec = r; from = x; written = true; value = v })))
+      (λ (x : ℕ). on_edit (decode_at c w) k
+      (λ y. with_access y (record { rec = r; from = x; written = true; value = v })))
       from)
       (write_done (decode_at c w) k r v e) refl

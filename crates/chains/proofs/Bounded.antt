@@ -63,7 +63,8 @@ unfolding sum_to
 sum_ge2 f zero a b h k d = absurd (omega arith)
 sum_ge2 f (suc m) a b h k d = go (ℕ_discrete a m) (ℕ_discrete b m) (sum_ge2 f m a b)
   where
-    go : Dec (a ≡ m) → Dec (b ≡ m) → (a < m → b < m → (a ≡ b → ⊥) → f a + f b ≤ sum_to m f) → f a + f b ≤ sum_to (suc m) f
+    go : Dec (a ≡ m) → Dec (b ≡ m) → (a < m → b < m → (a ≡ b → ⊥) → f a + f b ≤ sum_to m f)
+        → f a + f b ≤ sum_to (suc m) f
     go (yes p) (yes q) ih = absurd (d (p ∙ sym q))
     go (yes p) (no q) ih = omega (arith, ap f p, sum_ge f m b (omega arith))
     go (no p) (yes q) ih = omega (arith, ap f q, sum_ge f m a (omega arith))
@@ -78,7 +79,8 @@ sum_front f (suc m) k l =
     [ yes p ↦ omega (arith, ap f p, ap (λ j. sum_to j f) p) | no p ↦ omega (arith, sum_front f m k (omega arith)) ]
 
 -- a change of one summand
-pub sum_one : (f g : ℕ → ℕ) (m a : ℕ) → a < m → ((j : ℕ) → (j ≡ a → ⊥) → f j ≡ g j) → sum_to m f + g a ≡ sum_to m g + f a
+pub sum_one : (f g : ℕ → ℕ) (m a : ℕ) → a < m → ((j : ℕ) → (j ≡ a → ⊥) → f j ≡ g j)
+    → sum_to m f + g a ≡ sum_to m g + f a
 unfolding sum_to
 sum_one f g zero a h e = absurd (omega arith)
 sum_one f g (suc m) a h e = go (ℕ_discrete a m) (sum_one f g m a)

@@ -161,7 +161,8 @@ unfolding after_cell
 after_row t h a zero e = absurd (e refl)
 after_row t h a (suc p) e = refl
 
-pub after_head : (t : Table) (h : Heads) (w : List ℕ) (a p : ℕ) → p ≡ 0 → get_or w (after_cell t h a p) 0 ≡ head_of h w a
+pub after_head : (t : Table) (h : Heads) (w : List ℕ) (a p : ℕ) → p ≡ 0
+    → get_or w (after_cell t h a p) 0 ≡ head_of h w a
 unfolding head_of
 after_head t h w a p e = ap (λ c. get_or w c 0) (after_start t h a p e)
 
@@ -183,7 +184,8 @@ module _ {t : Table} {h : Heads} {w : List ℕ} (l : Laid t h w) where
   link_after_at a zero v z q = absurd (z refl)
   link_after_at a (suc p) v z q = link_set l (suc p) v (record { low = omega arith; high = q })
 
-  pub head_after : (a p v j : ℕ) → j ≤ h.owners → (j ≡ a → ⊥) → head_of h (set w (after_cell t h a p) v) j ≡ head_of h w j
+  pub head_after : (a p v j : ℕ) → j ≤ h.owners → (j ≡ a → ⊥)
+      → head_of h (set w (after_cell t h a p) v) j ≡ head_of h w j
   unfolding after_cell
   head_after a zero v j q d = head_set_other l a v j d
   head_after a (suc p) v j q d = head_place l (suc p) t.off v j q

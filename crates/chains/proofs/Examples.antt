@@ -26,20 +26,24 @@ unfolding rows_of chain head_of head_cell rows among field place
 free_rows = refl
 
 good_parted : partition table heads good ≡ true
-unfolding partition on_chains all_to sum_to occ ended_of ended ends rows_of chain head_of head_cell rows among field place
+unfolding partition on_chains all_to sum_to occ ended_of ended ends rows_of chain head_of head_cell
+    rows among field place
 good_parted = refl
 
 -- the free chain is circular
 circular : partition table heads (1 ∷ 2 ∷ 0 ∷ 10 ∷ 3 ∷ 20 ∷ 0 ∷ 30 ∷ 1 ∷ []) ≡ false
-unfolding partition on_chains all_to sum_to occ ended_of ended ends rows_of chain head_of head_cell rows among field place
+unfolding partition on_chains all_to sum_to occ ended_of ended ends rows_of chain head_of head_cell
+    rows among field place
 circular = refl
 
 -- row 3 is on two chains
 twice : partition table heads (1 ∷ 2 ∷ 3 ∷ 10 ∷ 3 ∷ 20 ∷ 0 ∷ 30 ∷ 0 ∷ []) ≡ false
-unfolding partition on_chains all_to sum_to occ ended_of ended ends rows_of chain head_of head_cell rows among field place
+unfolding partition on_chains all_to sum_to occ ended_of ended ends rows_of chain head_of head_cell
+    rows among field place
 twice = refl
 
 -- row 1 is on no chain
 missing : partition table heads (3 ∷ 2 ∷ 0 ∷ 10 ∷ 3 ∷ 20 ∷ 0 ∷ 30 ∷ 0 ∷ []) ≡ false
-unfolding partition on_chains all_to sum_to occ ended_of ended ends rows_of chain head_of head_cell rows among field place
+unfolding partition on_chains all_to sum_to occ ended_of ended ends rows_of chain head_of head_cell
+    rows among field place
 missing = refl

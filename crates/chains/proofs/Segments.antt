@@ -102,7 +102,8 @@ unfolding sum_to
 none zero = refl
 none (suc k) = omega (arith, none k, occ_nil (suc k))
 
-pub occ_sum : (nx : ℕ → ℕ) (n : ℕ) (rs : List ℕ) (a b : ℕ) → Seg nx n a rs b → sum_to n (λ i. occ (suc i) rs) ≡ length rs
+pub occ_sum : (nx : ℕ → ℕ) (n : ℕ) (rs : List ℕ) (a b : ℕ) → Seg nx n a rs b
+    → sum_to n (λ i. occ (suc i) rs) ≡ length rs
 occ_sum nx n [] a b s = none n
 occ_sum nx n (zero ∷ rs) a b s = absurd (omega (arith, s.1))
 occ_sum nx n (suc r ∷ rs) a b s =

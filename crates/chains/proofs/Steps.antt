@@ -80,7 +80,8 @@ module _ (t : Table) (h : Heads) (w : List ℕ) (a b p r x y z : ℕ) (l : Laid 
       record {
         size = length-set w2 (head_cell h b) z ∙ length-set w1 (link_cell t r) y ∙ length-set w (after_cell t h a p) x;
         kept =
-            λ c f g. get_or-set_other w2 (head_cell h b) c z 0 (f b hb) ∙ get_or-set_other w1 (link_cell t r) c y 0 (g r row)
+            λ c f g. get_or-set_other w2 (head_cell h b) c z 0 (f b hb) ∙ get_or-set_other w1
+            (link_cell t r) c y 0 (g r row)
             ∙ Cells.after_kept l a p x c ha hp f g;
       }
 
@@ -127,7 +128,8 @@ unlink_law {t} {h} {w} {w'} {a} {b} {p} {r} rd f ex ey e ks ys sp =
 -- the code's steps of `insert_after`
 pub insert_law : {t : Table} {h : Heads} {w w' : List ℕ} {a b p r x y : ℕ} → Ready t h w a b → Place t h w a p
     → r ≡ head_of h w b → (r ≡ 0 → ⊥)
-    → x ≡ link t w r → y ≡ get_or w (after_cell t h a p) 0 → w' ≡ relinked t h w a b p r r y x → Inserted t h w w' a b p r
+    → x ≡ link t w r → y ≡ get_or w (after_cell t h a p) 0 → w' ≡ relinked t h w a b p r r y x
+    → Inserted t h w w' a b p r
 unfolding Inserted
 insert_law {t} {h} {w} {w'} {a} {b} {p} {r} rd f er z ex ey e ks ys sp =
     let q : w' ≡ relinked t h w a b p r r (first ys) (link t w r) =

@@ -22,6 +22,7 @@ module _ (t : Table) (w : List ℕ) (o v x f : ℕ) (e : f ≡ field t w x o) wh
   unfolding holds
   holds_same w₀ k = ap (λ y. eqb y v) (e ∙ k)
 
-  pub stands_before_lem : (rising : Bool) {b c : Bool} → b ≡ precedes rising f v → b ≡ c → stands_before rising t w o v x ≡ c
+  pub stands_before_lem : (rising : Bool) {b c : Bool} → b ≡ precedes rising f v → b ≡ c
+      → stands_before rising t w o v x ≡ c
   unfolding stands_before
   stands_before_lem rising k q = ap (λ y. precedes rising y v) (sym e) ∙ sym k ∙ q

@@ -1,6 +1,7 @@
 -- A table of rows in a list of words, its chains, and the words at which they start.
 -- The chains of a table are numbered: 0 is the free chain, k + 1 the chain of owner k. Rests on Walk.
-use Rattle.std.specs.Prelude.{ℕ, zero, suc, ◌+◌, ◌*◌, ◌-◌, ◌≤◌, ◌<◌, max, Bool, true, false, cond, List, length, get_or, ltb, eqb}
+use Rattle.std.specs.Prelude.{ℕ, zero, suc, ◌+◌, ◌*◌, ◌-◌, ◌≤◌, ◌<◌, max, Bool, true, false, cond, List, length, get_or}
+use Rattle.std.specs.Prelude.{ltb, eqb}
 use Rattle.chains.specs.declared.Table.{Table}
 use Rattle.chains.specs.declared.Heads.{Heads}
 use Rattle.chains.specs.declared.Len.{Len}

@@ -12,8 +12,10 @@ use Rattle.chains.specs.Walk.{IsRow}
 use Rattle.chains.specs.Table.{place, field, head_cell, head_of}
 use Rattle.chains.proofs.Frames.{Kept, Apart, OnlyTable}
 use Rattle.types.specs.declared.Counts.{Counts}
-use Rattle.tables.specs.Layout.{slot_base, version_base, lock_base, access_base, record_table, slot_table, version_table}
-use Rattle.tables.specs.Layout.{lock_table, access_table, version_heads, lock_heads, access_heads, H_ACCESSES, SLOT, R_FLOOR}
+use Rattle.tables.specs.Layout.{slot_base, version_base, lock_base, access_base, record_table, slot_table}
+use Rattle.tables.specs.Layout.{version_table}
+use Rattle.tables.specs.Layout.{lock_table, access_table, version_heads, lock_heads, access_heads, H_ACCESSES, SLOT}
+use Rattle.tables.specs.Layout.{R_FLOOR}
 use Rattle.tables.specs.Layout.{S_ACCESS}
 
 pub record Off (t : Table) (h : Heads) (p : ℕ) : Type 0 where
@@ -70,7 +72,8 @@ module _ (c : Counts) where
   pub floor_locks : (x : ℕ) → x < c.records → Off (lock_table c) (lock_heads c) (place (record_table c) (suc x) R_FLOOR)
   unfolding place record_table lock_table lock_base lock_heads
   floor_locks x q =
-      off (lock_table c) (lock_heads c) (place (record_table c) (suc x) R_FLOOR) (λ e. omega arith) (λ k l e. omega arith)
+      off (lock_table c) (lock_heads c) (place (record_table c) (suc x) R_FLOOR) (λ e. omega arith)
+      (λ k l e. omega arith)
       (λ i o r l e. omega arith)
 
   pub floor_accesses : (x : ℕ) → x < c.records
@@ -130,9 +133,11 @@ module _ (c : Counts) where
   locks_versions = apart_off
       (off (lock_table c) (lock_heads c) (version_heads c).free (λ e. omega arith) (λ k l e. omega arith)
       (λ i o r l e. omega arith))
-      (λ j p. off (lock_table c) (lock_heads c) ((version_heads c).first + j * (version_heads c).step) (λ e. omega arith)
+      (λ j p. off (lock_table c) (lock_heads c) ((version_heads c).first + j * (version_heads c).step)
+      (λ e. omega arith)
       (λ k l e. omega arith) (λ i o r l e. omega arith))
-      (λ x u s b. off (lock_table c) (lock_heads c) (place (version_table c) x u) (λ e. omega arith) (λ k l e. omega arith)
+      (λ x u s b. off (lock_table c) (lock_heads c) (place (version_table c) x u) (λ e. omega arith)
+      (λ k l e. omega arith)
       (λ i o r l e. omega (arith, s.low, s.high, r.low)))
 
   pub accesses_versions : Apart (access_table c) (access_heads c) (version_table c) (version_heads c)
@@ -140,7 +145,8 @@ module _ (c : Counts) where
   accesses_versions = apart_off
       (off (access_table c) (access_heads c) (version_heads c).free (λ e. omega arith) (λ k l e. omega arith)
       (λ i o r l e. omega arith))
-      (λ j p. off (access_table c) (access_heads c) ((version_heads c).first + j * (version_heads c).step) (λ e. omega arith)
+      (λ j p. off (access_table c) (access_heads c) ((version_heads c).first + j * (version_heads c).step)
+      (λ e. omega arith)
       (λ k l e. omega arith) (λ i o r l e. omega arith))
       (λ x u s b. off (access_table c) (access_heads c) (place (version_table c) x u) (λ e. omega arith)
       (λ k l e. omega arith) (λ i o r l e. omega (arith, s.low, s.high, r.low)))

@@ -33,7 +33,8 @@ all_inserted f g ks ys rs' b e z h =
     ∙ all_between (map g ks) (map g ys) ∙ ap (all_of (λ x. x)) (sym (map_append g ks ys))
     ∙ sym (entries_all g (λ x. x) (ks ++ ys)) ∙ h
 
-pub all_pushed : (f g : ℕ → Bool) (rs rs' : List ℕ) (b : Bool) → map f rs' ≡ b ∷ map g rs → b ≡ true → all_of g rs ≡ true
+pub all_pushed : (f g : ℕ → Bool) (rs rs' : List ℕ) (b : Bool) → map f rs' ≡ b ∷ map g rs
+    → b ≡ true → all_of g rs ≡ true
     → all_of f rs' ≡ true
 all_pushed f g rs rs' b e z h = all_inserted f g [] rs rs' b e z h
 

@@ -88,7 +88,8 @@ module _ {c : Counts} {w : List ℕ} (W : Well c w) {r : ℕ} (l : r < c.records
     -- and once filled it stands where its low point belongs
     module _ (x : Lock) where
       inserted : Filled (lock_table c) (lock_heads c) w (lock_stored c w₁ i r x) (suc r) 0
-          (insertAfter (stands_before true (lock_table c) w L_LOW q) i (rows_of (lock_table c) (lock_heads c) w (suc r)))
+          (insertAfter (stands_before true (lock_table c) w L_LOW q) i
+          (rows_of (lock_table c) (lock_heads c) w (suc r)))
           (tail (rows_of (lock_table c) (lock_heads c) w 0)) i
       inserted = lock_filled c lock_ready_back (filled_start lock_ready_back i lock_inserted.changed) lock_row r x
 
@@ -132,12 +133,14 @@ module _ {c : Counts} {w : List ℕ} (W : Well c w) {r : ℕ} (l : r < c.records
 
       pub add_lock_law : {w₂ : List ℕ} → x.mode < MODES → x.low ≡ q → w₂ ≡ lock_stored c w₁ i r x
           → Beside c w w₂
-          (with_rec (decode_at c w) r (with_locks (rec_at (decode_at c w) r) (add_lock x (rec_at (decode_at c w) r).locks)))
+          (with_rec (decode_at c w) r (with_locks (rec_at (decode_at c w) r)
+          (add_lock x (rec_at (decode_at c w) r).locks)))
       unfolding locks_of add_lock
       add_lock_law m z e = rw e (record {
         becomes =
             locks_become W inserted.only r l inserted.parted inserted_named
-            (inserted_others (lock_at c (lock_stored c w₁ i r x)) (lock_at c w) (λ y q n. (lock_rest c inserted y q n).0))
+            (inserted_others (lock_at c (lock_stored c w₁ i r x)) (lock_at c w)
+            (λ y q n. (lock_rest c inserted y q n).0))
             (inserted_here m z ∙ ap (put_lock x) (sym (locks_at c w r l)));
         accesses = accesses_kept (apart_kept (locks_accesses c) inserted.only);
       })
@@ -145,7 +148,8 @@ module _ {c : Counts} {w : List ℕ} (W : Well c w) {r : ℕ} (l : r < c.records
   -- rows that pass a test were sent to the free chain
   module _ {w' : List ℕ} (test : ℕ → Bool) (unlinked : Changed (lock_table c) (lock_heads c) w w' (suc r) 0
       (dropIf test (rows_of (lock_table c) (lock_heads c) w (suc r)))
-      (push_if test (rows_of (lock_table c) (lock_heads c) w (suc r)) (rows_of (lock_table c) (lock_heads c) w 0))) where
+      (push_if test (rows_of (lock_table c) (lock_heads c) w (suc r))
+      (rows_of (lock_table c) (lock_heads c) w 0))) where
     unlinked_rest : (x : ℕ) → IsRow c.locks x
         → (lock_at c w' x ≡ lock_at c w x) × ((j : ℕ) → names_record c w' j x ≡ names_record c w j x)
     unlinked_rest x q = lock_kept W.fits unlinked.elsewhere x q
@@ -175,7 +179,8 @@ module _ {c : Counts} {w : List ℕ} (W : Well c w) {r : ℕ} (l : r < c.records
 
     unlinked_named : (j : ℕ) → j < c.records → all_of (names_record c w' j) (lock_rows c w' j) ≡ true
     unlinked_named j q = elim (ℕ_discrete j r) [
-      | yes z ↦ rw z (all_same (names_record c w' r) (names_record c w r) (dropIf test (lock_rows c w r)) (lock_rows c w' r)
+      | yes z ↦ rw z (all_same (names_record c w' r) (names_record c w r) (dropIf test (lock_rows c w r))
+          (lock_rows c w' r)
           (unlinked_here (names_record c w' r) (names_record c w r) (λ x q. (unlinked_rest x q).1 r))
           (all_dropped (names_record c w r) test (lock_rows c w r) (W.named r l)))
       | no z ↦ all_same (names_record c w' j) (names_record c w j) (lock_rows c w j) (lock_rows c w' j)

@@ -18,7 +18,8 @@ use Rattle.types.specs.declared.Access.{Access}
 use Rattle.types.specs.declared.Counts.{Counts}
 use Rattle.tables.specs.Layout.{lock_table, lock_heads, version_table, version_heads, access_table}
 use Rattle.tables.specs.Layout.{access_heads, Fits, S_STATE, S_GENERATION, S_POINT}
-use Rattle.tables.specs.Decode.{lock_rows, access_rows, versions_of, locks_of, accesses_of, floor_of, record_at, slot_at}
+use Rattle.tables.specs.Decode.{lock_rows, access_rows, versions_of, locks_of, accesses_of, floor_of, record_at}
+use Rattle.tables.specs.Decode.{slot_at}
 use Rattle.tables.specs.Decode.{decode_at}
 use Rattle.tables.specs.Words.{Well, names_record, marked}
 use Rattle.tables.proofs.Places.{fits_same}
@@ -56,7 +57,8 @@ versions_fit {c} f o = fits_same f o.size (λ p q. Apart.off_same (Apart.count_v
 pub locks_fit : {c : Counts} {w w' : List ℕ} → Fits c w → OnlyTable (lock_table c) (lock_heads c) w w' → Fits c w'
 locks_fit {c} f o = fits_same f o.size (λ p q. Apart.off_same (Apart.count_locks c p q) o)
 
-pub accesses_fit : {c : Counts} {w w' : List ℕ} → Fits c w → OnlyTable (access_table c) (access_heads c) w w' → Fits c w'
+pub accesses_fit : {c : Counts} {w w' : List ℕ} → Fits c w → OnlyTable (access_table c) (access_heads c) w w'
+    → Fits c w'
 accesses_fit {c} f o = fits_same f o.size (λ p q. Apart.off_same (Apart.count_accesses c p q) o)
 
 module _ {c : Counts} {w w' : List ℕ} (W : Well c w) where

@@ -27,7 +27,8 @@ use Rattle.changes.specs.Becomes.{Becomes, with_floor, with_state, with_point, w
 use Rattle.changes.proofs.Apart
 use Rattle.changes.proofs.Parts
 
-floor_slot : (c : Counts) (k o r : ℕ) → r < c.records → place (record_table c) (suc r) R_FLOOR ≡ place (slot_table c) k o
+floor_slot : (c : Counts) (k o r : ℕ) → r < c.records → place (record_table c) (suc r) R_FLOOR ≡ place
+    (slot_table c) k o
     → ⊥
 unfolding place record_table slot_table slot_base
 floor_slot c k o r l e = omega arith
@@ -138,7 +139,8 @@ module _ {c : Counts} {w : List ℕ} (W : Well c w) (r : ℕ) (l : r < c.records
       let vs = Parts.versions_same W (Apart.off_kept w v (Apart.floor_versions c r l)) in
       let ls = Parts.locks_same W (Apart.off_kept w v (Apart.floor_locks c r l)) in
       let acs = Parts.accesses_same W (Apart.off_kept w v (Apart.floor_accesses c r l)) in
-      let e : record_at c w' r ≡ with_floor (record_at c w r) v = rw (vs.entries r l, ls.entries r l, floor_here) refl in
+      let e : record_at c w' r ≡ with_floor (record_at c w r) v =
+      rw (vs.entries r l, ls.entries r l, floor_here) refl in
       record {
         well = record {
           fits = record_fits (suc r) R_FLOOR v W.fits refl;
@@ -170,7 +172,8 @@ edit_there : (c : Counts) (w : List ℕ) (k : ℕ) (e : Edit) → IsRow c.edits 
 unfolding with_edit decode_at
 edit_there c w k e l = edit_same (edits_of c w) k e (record { from = l.low; upto = rw (edits_length c w) l.high })
 
-pub rec_there : (c : Counts) (w : List ℕ) (r : ℕ) (x : Rec) → r < c.records → rec_at (with_rec (decode_at c w) r x) r ≡ x
+pub rec_there : (c : Counts) (w : List ℕ) (r : ℕ) (x : Rec) → r < c.records
+    → rec_at (with_rec (decode_at c w) r x) r ≡ x
 unfolding with_records decode_at
 rec_there c w r x l = rec_same (records_of c w) r x (rw (records_length c w) l)
 

@@ -20,7 +20,8 @@ use Rattle.tables.specs.Layout.{slot_table, lock_table, lock_heads, version_tabl
 use Rattle.tables.specs.Layout.{access_heads, SLOT, S_STATE, S_GENERATION, S_ACCESS, S_POINT, L_LOW, L_HIGH}
 use Rattle.tables.specs.Layout.{L_MODE, L_RECORD, V_POINT, V_VALUE, V_SPARE, A_RECORD, A_FROM, A_WRITTEN, A_VALUE}
 use Rattle.tables.specs.Layout.{A_NEXT}
-use Rattle.tables.specs.Decode.{build, version_at, lock_at, access_at, version_rows, lock_rows, access_rows, versions_of}
+use Rattle.tables.specs.Decode.{build, version_at, lock_at, access_at, version_rows, lock_rows, access_rows}
+use Rattle.tables.specs.Decode.{versions_of}
 use Rattle.tables.specs.Decode.{locks_of, accesses_of, floor_of, record_at, slot_at, records_of, edits_of, decode_at}
 use Rattle.tables.specs.Words.{Well, names_record, marked}
 use Rattle.tables.proofs.Builds.{build_ext, build_set}

@@ -17,7 +17,8 @@ use Rattle.types.specs.declared.Value.TheVariants.{Written}
 use Rattle.types.specs.declared.Lock.{Lock}
 use Rattle.types.specs.declared.Access.{Access}
 use Rattle.types.specs.declared.Counts.{Counts}
-use Rattle.tables.specs.Layout.{lock_table, lock_heads, version_table, version_heads, access_table, access_heads, Fits, MODES}
+use Rattle.tables.specs.Layout.{lock_table, lock_heads, version_table, version_heads, access_table, access_heads, Fits}
+use Rattle.tables.specs.Layout.{MODES}
 use Rattle.tables.specs.Layout.{L_LOW, L_HIGH, L_MODE, L_RECORD, V_POINT, V_VALUE, V_SPARE, A_RECORD, A_FROM, A_WRITTEN}
 use Rattle.tables.specs.Layout.{A_VALUE}
 use Rattle.tables.specs.Decode.{version_at, lock_at, access_at}

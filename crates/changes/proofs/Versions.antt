@@ -96,7 +96,8 @@ module _ {c : Counts} {w : List ℕ} (W : Well c w) {r : ℕ} (l : r < c.records
 
       pub add_version_law : {w₂ : List ℕ} → point ≡ suc q → w₂ ≡ version_stored c w₁ i point value
           → Becomes c w₂ (with_rec (decode_at c w) r
-          (with_versions (rec_at (decode_at c w) r) (insert (version_of point value) (rec_at (decode_at c w) r).versions)))
+          (with_versions (rec_at (decode_at c w) r)
+          (insert (version_of point value) (rec_at (decode_at c w) r).versions)))
       add_version_law e z =
           rw z (versions_become W inserted.only r l inserted.parted inserted_others
           (inserted_here e ∙ ap (insert (version_of point value)) (sym (versions_at c w r l))))

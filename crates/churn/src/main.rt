@@ -1,9 +1,10 @@
 // Fills and frees every table of a small store three thousand times through the public calls, and prints how many calls
 // were granted and how many were refused, by the number of the refusal. Every round asks for the same, so each count is
 // a multiple of the rounds: a row or a slot that is lost, or refused while one is free, changes the output. Rests on
-// the crates `io`, `types`, `soundness`, `format` and `store`.
+// the crates `types`, `soundness`, `format` and `store`.
 #![tactic(auto)]
 
+use std::io;
 use types::{
     AbortReply, BeginReply, CommitReply, Counts, Extent, Finish, FormatReply, Handle, LockReply,
     Pick, PurgeReply, ReadReply, Refusal, SettleReply, WriteReply,
@@ -279,69 +280,72 @@ fn rounds(words: &mut [u64; 128], tally: &mut [u64; 32], t: u64, n: u64) {
 
 // What was counted.
 
-fn print_grants(tally: &[u64; 32], i: usize, text: &[u8]) {
+fn print_grants(rt: &impl Print, tally: &[u64; 32], i: usize, text: &[u8]) -> io::Result<()> {
     if i < 32 {
-        io::write_all(1, text);
-        io::write_all(1, b" ");
-        io::print_decimal(1, tally[i]);
-        io::write_all(1, b"\n");
+        rt.write_all(text)?;
+        rt.write_all(b" ")?;
+        print!(rt; "{}", tally[i])?;
+        rt.write_all(b"\n")?;
     }
+    Ok(())
 }
 
-fn print_refusal(tally: &[u64; 32], i: usize) {
+fn print_refusal(rt: &impl Print, tally: &[u64; 32], i: usize) -> io::Result<()> {
     if i < 32 {
         if 0 < tally[i] {
-            io::write_all(1, b"no ");
-            io::print_decimal(1, i as u64);
-            io::write_all(1, b" ");
-            io::print_decimal(1, tally[i]);
-            io::write_all(1, b"\n");
+            rt.write_all(b"no ")?;
+            print!(rt; "{}", i as u64)?;
+            rt.write_all(b" ")?;
+            print!(rt; "{}", tally[i])?;
+            rt.write_all(b"\n")?;
         }
     }
+    Ok(())
 }
 
-fn print_refusals(tally: &[u64; 32]) {
-    print_refusal(tally, 1);
-    print_refusal(tally, 2);
-    print_refusal(tally, 3);
-    print_refusal(tally, 4);
-    print_refusal(tally, 5);
-    print_refusal(tally, 6);
-    print_refusal(tally, 7);
-    print_refusal(tally, 8);
-    print_refusal(tally, 9);
-    print_refusal(tally, 10);
-    print_refusal(tally, 11);
-    print_refusal(tally, 12);
-    print_refusal(tally, 13);
-    print_refusal(tally, 14);
-    print_refusal(tally, 15);
-    print_refusal(tally, 16);
+fn print_refusals(rt: &impl Print, tally: &[u64; 32]) -> io::Result<()> {
+    print_refusal(rt, tally, 1)?;
+    print_refusal(rt, tally, 2)?;
+    print_refusal(rt, tally, 3)?;
+    print_refusal(rt, tally, 4)?;
+    print_refusal(rt, tally, 5)?;
+    print_refusal(rt, tally, 6)?;
+    print_refusal(rt, tally, 7)?;
+    print_refusal(rt, tally, 8)?;
+    print_refusal(rt, tally, 9)?;
+    print_refusal(rt, tally, 10)?;
+    print_refusal(rt, tally, 11)?;
+    print_refusal(rt, tally, 12)?;
+    print_refusal(rt, tally, 13)?;
+    print_refusal(rt, tally, 14)?;
+    print_refusal(rt, tally, 15)?;
+    print_refusal(rt, tally, 16)
 }
 
-fn print_tally(tally: &[u64; 32]) {
-    print_grants(tally, BEGUN, b"begun");
-    print_grants(tally, WRITTEN, b"written");
-    print_grants(tally, LOCKED, b"locked");
-    print_grants(tally, READS, b"read");
-    print_grants(tally, COMMITTED, b"committed");
-    print_grants(tally, NO_POINT, b"nopoint");
-    print_grants(tally, ABORTED, b"aborted");
-    print_grants(tally, SETTLED, b"settled");
-    print_grants(tally, PURGED_VERSIONS, b"versions purged");
-    print_grants(tally, PURGED_LOCKS, b"locks purged");
-    print_refusals(tally);
+fn print_tally(rt: &impl Print, tally: &[u64; 32]) -> io::Result<()> {
+    print_grants(rt, tally, BEGUN, b"begun")?;
+    print_grants(rt, tally, WRITTEN, b"written")?;
+    print_grants(rt, tally, LOCKED, b"locked")?;
+    print_grants(rt, tally, READS, b"read")?;
+    print_grants(rt, tally, COMMITTED, b"committed")?;
+    print_grants(rt, tally, NO_POINT, b"nopoint")?;
+    print_grants(rt, tally, ABORTED, b"aborted")?;
+    print_grants(rt, tally, SETTLED, b"settled")?;
+    print_grants(rt, tally, PURGED_VERSIONS, b"versions purged")?;
+    print_grants(rt, tally, PURGED_LOCKS, b"locks purged")?;
+    print_refusals(rt, tally)
 }
 
-fn print_verdict(words: &[u64; 128]) {
+fn print_verdict(rt: &impl Print, words: &[u64; 128]) -> io::Result<()> {
     if soundness::check(words) {
-        io::write_all(1, b"sound\n");
+        rt.write_all(b"sound\n")?;
     } else {
-        io::write_all(1, b"not sound\n");
+        rt.write_all(b"not sound\n")?;
     }
+    Ok(())
 }
 
-fn lay_out(words: &mut [u64; 128]) {
+fn lay_out(rt: &impl Print, words: &mut [u64; 128]) -> io::Result<()> {
     let counts = Counts {
         records: 4,
         edits: 3,
@@ -351,28 +355,29 @@ fn lay_out(words: &mut [u64; 128]) {
     };
     let reply = format::format(words, counts);
     match reply {
-        FormatReply::Done => io::write_all(1, b"store 4 3 4 8 8\n"),
-        FormatReply::Refused(_) => io::write_all(1, b"no store\n"),
+        FormatReply::Done => rt.write_all(b"store 4 3 4 8 8\n")?,
+        FormatReply::Refused(_) => rt.write_all(b"no store\n")?,
     };
+    Ok(())
 }
 
 // Runs n rounds from point t on, and prints their counts and the verdict.
-fn run(words: &mut [u64; 128], text: &[u8], t: u64, n: u64) {
+fn run(rt: &impl Print, words: &mut [u64; 128], text: &[u8], t: u64, n: u64) -> io::Result<()> {
     let mut tally = [0u64; 32];
     rounds(words, &mut tally, t, n);
-    io::write_all(1, text);
-    print_tally(&tally);
-    print_verdict(words);
+    rt.write_all(text)?;
+    print_tally(rt, &tally)?;
+    print_verdict(rt, words)
 }
 
-fn main() {
+fn main(rt: HostRuntime) -> io::Result<()> {
     let mut words = [0u64; 128];
-    lay_out(&mut words);
+    lay_out(&rt, &mut words)?;
     let mut first = [0u64; 32];
     write_at(&mut words, &mut first, 1);
     purge(&mut words, &mut first, 0, 1);
-    io::write_all(1, b"-- a version at point 1, which becomes the floor\n");
-    print_tally(&first);
-    run(&mut words, b"-- one round\n", 1, 1);
-    run(&mut words, b"-- 3000 rounds\n", 17, ROUNDS);
+    rt.write_all(b"-- a version at point 1, which becomes the floor\n")?;
+    print_tally(&rt, &first)?;
+    run(&rt, &mut words, b"-- one round\n", 1, 1)?;
+    run(&rt, &mut words, b"-- 3000 rounds\n", 17, ROUNDS)
 }

@@ -51,7 +51,8 @@ module _ (c : Counts) (w : List ℕ) (k r t : ℕ) {s : ℕ} (es : s ≡ k) (row
           and_on (ap (λ x. eqb x.state COMMITTED) slot ∙ eq-eqb (slot_at c w s).state COMMITTED (sym et ∙ h))
           (and_no _ (ap (λ x. eqb x.point t) slot ∙ ne_eqb (slot_at c w s).point t (λ z. o (ep ∙ z))))
 
-      pub wrote_here : {b : Bool} → point ≡ t → b ≡ (access_of (slot_at c w s) r).written → b ≡ wrote_at (edits_of c w) k r t
+      pub wrote_here : {b : Bool} → point ≡ t → b ≡ (access_of (slot_at c w s) r).written
+          → b ≡ wrote_at (edits_of c w) k r t
       unfolding wrote_at
       wrote_here o ea =
           and_on (ap (λ x. eqb x.state COMMITTED) slot ∙ eq-eqb (slot_at c w s).state COMMITTED (sym et ∙ h))

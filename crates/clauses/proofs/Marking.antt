@@ -68,7 +68,8 @@ module _ (c : Counts) (w : List ℕ) where
       ∙ go (ℕ_discrete i j)
     where
       go : Dec (i ≡ j) → get_or (set m j (own_mark c w k (get_or m j 0) j)) i 0 ≡ get_or m i 0
-      go (yes p) = ap (λ x. get_or (set m x (own_mark c w k (get_or m x 0) x)) i 0) (sym p) ∙ own_same k m i l ∙ rw e refl
+      go (yes p) = ap (λ x. get_or (set m x (own_mark c w k (get_or m x 0) x)) i 0) (sym p)
+          ∙ own_same k m i l ∙ rw e refl
       go (no p) = get_or-set_other m j i (own_mark c w k (get_or m j 0) j) 0 p
 
   -- a row that bears 1 keeps it
@@ -165,7 +166,8 @@ module _ (c : Counts) (w : List ℕ) (d : partition (lock_table c) (lock_heads c
               (elsewhere a.rec (ltb-true a.rec c.records q)
               (λ z. false≢true (sym h ∙ rw (eq-eqb a.rec r z, p) refl))))
 
-      keeps : (m : List ℕ) (xs : List Access) → i < length m → get_or m i 0 ≡ 1 → get_or (mark_accesses c w k m xs) i 0 ≡ 1
+      keeps : (m : List ℕ) (xs : List Access) → i < length m → get_or m i 0 ≡ 1
+          → get_or (mark_accesses c w k m xs) i 0 ≡ 1
       unfolding mark_accesses mark_access
       keeps m [] l o = o
       keeps m (a ∷ xs) l o =
@@ -181,7 +183,8 @@ module _ (c : Counts) (w : List ℕ) (d : partition (lock_table c) (lock_heads c
       unfolding mark_accesses
       own_slot m [] l o = rw o refl
       own_slot m (a ∷ xs) l o =
-          go (test (is_of r a && a.written)) (own_slot (mark_access c w k m a) xs (omega (arith, access_size c w k m a)))
+          go (test (is_of r a && a.written))
+          (own_slot (mark_access c w k m a) xs (omega (arith, access_size c w k m a)))
         where
           go : ((is_of r a && a.written) ≡ true) ⊎ ((is_of r a && a.written) ≡ false)
               → (get_or (mark_access c w k m a) i 0 ≡ 0
@@ -201,7 +204,8 @@ module _ (c : Counts) (w : List ℕ) (d : partition (lock_table c) (lock_heads c
       (ne_eqb (lock_at c w i).owner (suc n) (λ e. omega arith))
       ∙ slots_before m n l z (omega arith)
 
-  slots_from : (m : List ℕ) (n : ℕ) → i < length m → get_or m i 0 ≡ 0 → 1 ≤ (lock_at c w i).owner → (lock_at c w i).owner ≤ n
+  slots_from : (m : List ℕ) (n : ℕ) → i < length m → get_or m i 0 ≡ 0 → 1 ≤ (lock_at c w i).owner
+      → (lock_at c w i).owner ≤ n
       → eqb (get_or (mark_slots c w m n) i 0) 1 ≡ says_written r (slot_at c w (lock_at c w i).owner).accesses
   unfolding mark_slots
   slots_from m zero l z p o = absurd (omega arith)
@@ -267,7 +271,8 @@ writers c w m d few size zero-all once r l =
       size = slots_size c w m c.edits ∙ size;
       wrote = λ i on row.
           slots_from c w d r i l on m c.edits
-          (omega (arith, (on_chain (lock_table c) (lock_heads c) w d (suc r) (omega arith) i on).high, size)) (zero-all i)
+          (omega (arith, (on_chain (lock_table c) (lock_heads c) w d (suc r) (omega arith) i on).high, size))
+          (zero-all i)
           row.low row.high
           ∙ says_found r (slot_at c w (lock_at c w i).owner).accesses (once (lock_at c w i).owner row);
     }

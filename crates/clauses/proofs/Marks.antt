@@ -15,7 +15,8 @@ use Rattle.chains.proofs.Loops.{Walk, walk_again, walk_end}
 use Rattle.chains.proofs.Occurs.{occ_here, occ_there}
 use Rattle.chains.proofs.Parts.{zeros}
 use Rattle.chains.proofs.Walks.{step}
-use Rattle.meaning.specs.Sound.{state_listed, generation_listed, point_listed, names_existing, names_once, reads_present}
+use Rattle.meaning.specs.Sound.{state_listed, generation_listed, point_listed, names_existing, names_once}
+use Rattle.meaning.specs.Sound.{reads_present}
 use Rattle.meaning.specs.Sound.{reads_locked, point_common, free_idle, sound_edit}
 use Rattle.meaning.specs.Store.{access_of}
 use Rattle.types.specs.declared.Lock.{Lock}
@@ -141,9 +142,11 @@ writers_new c w n e f d s o r l =
     once zero row = absurd (omega (arith, row.low))
     once (suc k) row =
         every_at
-        (state_listed (slot_at c w (suc k)) ∷ generation_listed (slot_at c w (suc k)) ∷ point_listed (slot_at c w (suc k))
+        (state_listed (slot_at c w (suc k)) ∷ generation_listed (slot_at c w (suc k))
+        ∷ point_listed (slot_at c w (suc k))
         ∷ names_existing (records_of c w) (slot_at c w (suc k)) ∷ names_once (slot_at c w (suc k))
-        ∷ reads_present (records_of c w) (slot_at c w (suc k)) ∷ reads_locked (records_of c w) (suc k) (slot_at c w (suc k))
+        ∷ reads_present (records_of c w) (slot_at c w (suc k)) ∷ reads_locked (records_of c w)
+        (suc k) (slot_at c w (suc k))
         ∷ point_common (records_of c w) (suc k) (slot_at c w (suc k)) ∷ free_idle (slot_at c w (suc k)) ∷ [])
         (all_at (λ j. sound_edit (records_of c w) (suc j) (slot_at c w (suc j))) c.edits k (slots_all c w ∙ s)
         (omega (arith, row.high))) 4

@@ -10,7 +10,8 @@ use Rattle.types.specs.declared.Lock.{Lock}
 use Rattle.meaning.specs.Lists.{all, pairwise}
 use Rattle.meaning.specs.Points.{no_later, apart_reads}
 use Rattle.meaning.specs.Store.{Rec, Edit}
-use Rattle.meaning.specs.Sound.{modes_listed, versions_fall, versions_lie, versions_end, none_at_zero, locks_lie, owners_in_use}
+use Rattle.meaning.specs.Sound.{modes_listed, versions_fall, versions_lie, versions_end, none_at_zero, locks_lie}
+use Rattle.meaning.specs.Sound.{owners_in_use}
 use Rattle.meaning.specs.Sound.{agree, writes_apart, locks_rise, reads_joined, versions_backed, sound_rec}
 use Rattle.meaning.proofs.Lists.{and_in, and_left, and_right, all_in, all_out, every_at}
 use Rattle.meaning.proofs.Lists.{both, test}
@@ -117,7 +118,8 @@ module _ (es : List Edit) (r : ℕ) (x : Rec) where
   back h =
       let at =
       every_at
-      (modes_listed x ∷ versions_fall x ∷ versions_lie x ∷ versions_end x ∷ none_at_zero x ∷ locks_lie x ∷ owners_in_use es x
+      (modes_listed x ∷ versions_fall x ∷ versions_lie x ∷ versions_end x ∷ none_at_zero x ∷ locks_lie x
+      ∷ owners_in_use es x
       ∷ writes_apart x ∷ versions_backed es r x ∷ locks_rise x ∷ reads_joined x ∷ [])
       h in
       and_in

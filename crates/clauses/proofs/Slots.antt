@@ -33,7 +33,8 @@ module _ (c : Counts) (w : List ℕ) where
   pub records_all : all_to c.records (λ j. sound_rec (edits_of c w) j (record_at c w j)) ≡ records_sound c w
   unfolding records_sound records_of
   records_all =
-      all_ext (λ j. sound_rec (edits_of c w) j (record_at c w j)) (λ j. sound_rec (edits_of c w) (0 + j) (record_at c w j))
+      all_ext (λ j. sound_rec (edits_of c w) j (record_at c w j))
+      (λ j. sound_rec (edits_of c w) (0 + j) (record_at c w j))
       c.records
       (λ j l. let e : j ≡ 0 + j = omega arith in ap (λ i. sound_rec (edits_of c w) i (record_at c w j)) e)
       ∙ sym (all_from_build c.records 0 (record_at c w) (sound_rec (edits_of c w)))

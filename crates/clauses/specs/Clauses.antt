@@ -1,7 +1,8 @@
 -- The clauses of soundness as the check tests them: those of one lock, of a version after another, of one access and of
 -- a slot's words. The laws that these are the clauses of document 01 are in proofs/. Rests on specs/Sound of the crate
 -- `meaning`.
-use Rattle.std.specs.Prelude.{ℕ, suc, ◌≤◌, ◌≡◌, Bool, true, not, ◌&&◌, ◌||◌, List, [], ◌∷◌, length, get_or, set, leb, ltb, eqb}
+use Rattle.std.specs.Prelude.{ℕ, suc, ◌≤◌, ◌≡◌, Bool, true, not, ◌&&◌, ◌||◌, List, [], ◌∷◌, length, get_or, set, leb}
+use Rattle.std.specs.Prelude.{ltb, eqb}
 use Rattle.meaning.specs.Lists.{any, all_from}
 use Rattle.types.specs.Limits.{LAST, MAX_RECORDS, READ, WRITE, SETTLED}
 use Rattle.meaning.specs.Store.{Rec, Edit, rec_of, in_use, has_read}
@@ -9,7 +10,8 @@ use Rattle.types.specs.declared.Version.{Version}
 use Rattle.types.specs.declared.Lock.{Lock}
 use Rattle.types.specs.declared.Access.{Access}
 use Rattle.meaning.specs.Points.{is_owned}
-use Rattle.meaning.specs.Sound.{backs, is_present, starts_read, state_listed, generation_listed, point_listed, free_idle}
+use Rattle.meaning.specs.Sound.{backs, is_present, starts_read, state_listed, generation_listed, point_listed}
+use Rattle.meaning.specs.Sound.{free_idle}
 use Rattle.meaning.specs.Sound.{sound_rec, sound_edit}
 use Rattle.types.specs.declared.Counts.{Counts}
 use Rattle.chains.specs.Lists.{all_to}

@@ -71,7 +71,8 @@ module _ (c : Counts) (w : List ℕ) (k : ℕ) (R : Ready c w) (st : (edit_at (d
     pub at_full : version_room s k ≡ false → Makes c (commit_at s k t f) w w (refusing 12 [])
     at_full e = makes_refused c w (commit_at s k t f) 12 [] R.well (CommitExits.at_full s k f t e)
 
-    pub at_done : version_room s k ≡ true → (w' : List ℕ) (p : ℕ) → p ≡ t → Becomes c w' (finished f (committed s k t) k)
+    pub at_done : version_room s k ≡ true → (w' : List ℕ) (p : ℕ) → p ≡ t
+        → Becomes c w' (finished f (committed s k t) k)
         → Makes c (commit_at s k t f) w w' (commit p)
     at_done e w' p q B =
         rw q (makes_done c w (commit_at s k t f) w' (finished f (committed s k t) k) (commit t) B.well B.means

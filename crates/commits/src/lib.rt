@@ -1,8 +1,8 @@
 // Commit on sound words: equal to its definition in the crate `meaning`, and leaving sound words. For callers who prove
-// the words sound (`requires sound_words`), as the calls of `calls` and `endings`. It goes along the edit's accesses and
-// the locks of their records; if it settles the edit, along the locks of each record that it may have touched. Rests on
-// the crates `types`, `meaning`, `chains`, `tables`, `changes`, `slots`, `lookups`, `blocking`, `common`, `index`,
-// `calls` and `endings`.
+// the words sound (`requires sound_words`), as the calls of `calls` and `endings`. It goes along the edit's accesses
+// and the locks of their records; if it settles the edit, along the locks of each record that it may have touched.
+// Rests on the crates `types`, `meaning`, `chains`, `tables`, `changes`, `slots`, `lookups`, `blocking`, `common`,
+// `index`, `calls` and `endings`.
 #![tactic(auto)]
 
 ghost use Rattle.std.specs.Prelude.{◌≡◌, true, ◌∷◌, [], ◌≤◌, ◌<◌};

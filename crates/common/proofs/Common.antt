@@ -49,7 +49,8 @@ module _ (c : Counts) (w : List ℕ) (k : ℕ) (a : Access) (l : a.rec < c.recor
 
   pub own_reach : {q : ℕ} (mode from : ℕ) → q ≡ first_free (counted true mode j (record_at c w r).locks) from LAST
       → q ≡ first_free (own_on (records_of c w) k a) from LAST
-  own_reach mode from d = d ∙ ap (λ ls. first_free ls from LAST) (counted_own mode j (record_at c w r).locks ∙ own_on_lem)
+  own_reach mode from d = d ∙ ap (λ ls. first_free ls from LAST)
+      (counted_own mode j (record_at c w r).locks ∙ own_on_lem)
 
 -- the read part, over the locks
 module _ (ls : List Lock) (a : Access) (p : ℕ) where

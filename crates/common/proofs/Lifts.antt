@@ -57,7 +57,8 @@ module _ {allow : ℕ → Access → Bool} {xs : List Access} {p : ℕ} where
         still = λ e l r.
             let s : q ≡ y = omega (arith, i.from, b.from) in
             rw s at
-            (i.still (omega (arith, i.from, b.from)) (omega (arith, b.from)) (subst (λ z. all (allow z) (a ∷ rest) ≡ true) (sym s) (and_in (b.inside l) r)));
+            (i.still (omega (arith, i.from, b.from)) (omega (arith, b.from))
+            (subst (λ z. all (allow z) (a ∷ rest) ≡ true) (sym s) (and_in (b.inside l) r)));
       }
     where
       go : (x : ℕ) → p ≤ x → x < y → all (allow x) xs ≡ true → (ltb x q ≡ true) ⊎ (ltb x q ≡ false) → ⊥

@@ -50,7 +50,8 @@ module _ {allow : ℕ → Access → Bool} {xs : List Access} {p : ℕ} where
         still = λ e l r.
             let s : q ≡ y = omega (arith, i.upto, b.upto) in
             rw s at
-            (i.still (omega (arith, i.upto, b.upto)) (omega (arith, b.upto)) (subst (λ z. all (allow z) (a ∷ rest) ≡ true) (sym s) (and_in (b.inside l) r)));
+            (i.still (omega (arith, i.upto, b.upto)) (omega (arith, b.upto))
+            (subst (λ z. all (allow z) (a ∷ rest) ≡ true) (sym s) (and_in (b.inside l) r)));
       }
     where
       go : (x : ℕ) → y < x → x ≤ p → all (allow x) xs ≡ true → (ltb q x ≡ true) ⊎ (ltb q x ≡ false) → ⊥

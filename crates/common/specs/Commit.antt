@@ -1,7 +1,8 @@
 -- The search for the commit point, access by access: the least point of a set at or above a point, the greatest at or
 -- below it, and the steps that lead there. A set of points is given by its test. Rests on Search and on Decode of the
 -- crate `tables`.
-use Rattle.std.specs.Prelude.{ℕ, suc, ◌+◌, ◌≤◌, ◌<◌, min, max, ◌≡◌, Bool, true, cond, ◌&&◌, List, [], ◌∷◌, ◌++◌, map, leb}
+use Rattle.std.specs.Prelude.{ℕ, suc, ◌+◌, ◌≤◌, ◌<◌, min, max, ◌≡◌, Bool, true, cond, ◌&&◌, List, [], ◌∷◌, ◌++◌, map}
+use Rattle.std.specs.Prelude.{leb}
 use Rattle.chains.specs.Table.{front, head_of}
 use Rattle.types.specs.Limits.{LAST}
 use Rattle.meaning.specs.Lists.{keep, least, greatest}

@@ -5,7 +5,8 @@ ghost use Rattle.std.specs.Prelude.{◌≡◌, true, ◌&&◌, ◌≤◌, ◌<�
 ghost use Rattle.chains.specs.Walk.{IsRow};
 ghost use Rattle.types.specs.Limits.{LAST};
 ghost use Rattle.meaning.specs.Lists.{all};
-ghost use Rattle.meaning.specs.Points.{covered, own, writes, covers, own_on, allows_write, allows_read, allows, in_common};
+ghost use Rattle.meaning.specs.Points.{covered, own, writes, covers, own_on, allows_write, allows_read, allows};
+ghost use Rattle.meaning.specs.Points.{in_common};
 ghost use Rattle.meaning.specs.Sound.{names_existing};
 ghost use Rattle.tables.specs.Layout.{Fits};
 ghost use Rattle.tables.specs.Decode.{records_of, record_at, slot_at};

@@ -170,7 +170,8 @@ module _ (s : Session) {w : List ℕ} where
     commit_goes r' e =
         rw m (asked (C.Commit s.handle (Named (named s)) Settle) of_commit (rw n at d) e answered)
 
-    pub commit_ended : (r' : CommitReply) (after : Session) → r ≡ r' → ends_edit (of_commit r') ≡ true → after ≡ closed s
+    pub commit_ended : (r' : CommitReply) (after : Session) → r ≡ r' → ends_edit (of_commit r') ≡ true
+        → after ≡ closed s
         → Layer (desk_commit s) w w₁ (says after (of_commit r'))
     commit_ended r' after e f g = rw g (rw f at (commit_goes r' e))
 

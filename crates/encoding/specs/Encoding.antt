@@ -53,7 +53,8 @@ word_at list i = get_or list i 0
 unfoldable pub call_at : List ℕ → ℕ → Call
 call_at list i =
     let at = i * CALL_WORDS in
-    call_of (word_at list at) (word_at list (at + 1)) (word_at list (at + 2)) (word_at list (at + 3)) (word_at list (at + 4))
+    call_of (word_at list at) (word_at list (at + 1)) (word_at list (at + 2)) (word_at list (at + 3))
+    (word_at list (at + 4))
     (word_at list (at + 5))
 
 abbrev pub calls_of : List ℕ → ℕ → List Call

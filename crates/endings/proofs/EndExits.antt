@@ -7,7 +7,8 @@ use Rattle.meaning.specs.Store.{Store}
 use Rattle.types.specs.Numbers.{slot_of}
 use Rattle.types.specs.Replies.{ok, refusing}
 use Rattle.meaning.specs.Outcomes.{Outcome, replies, Verdict, pass, needs, knows, is_open}
-use Rattle.meaning.specs.Ending.{finished, aborted, settled, abort_checks, aborting, aborting_by, settle_checks, settling}
+use Rattle.meaning.specs.Ending.{finished, aborted, settled, abort_checks, aborting, aborting_by, settle_checks}
+use Rattle.meaning.specs.Ending.{settling}
 use Rattle.meaning.specs.Ending.{settling_by}
 use Rattle.types.specs.declared.Finish.{Finish}
 use Rattle.calls.proofs.Verdicts.{needs_fails, needs_holds, no_edit, edit_ended, edit_open}

@@ -14,7 +14,8 @@ use Rattle.meaning.specs.Lists.{total, map_from}
 use Rattle.types.specs.Limits.{READ, WRITE, COMMITTED}
 use Rattle.types.specs.declared.Access.{Access}
 use Rattle.types.specs.declared.Lock.{Lock}
-use Rattle.meaning.specs.Store.{Rec, Edit, Store, fresh_rec, rec_of, edit_at, rec_at, with_edit, with_records, with_locks}
+use Rattle.meaning.specs.Store.{Rec, Edit, Store, fresh_rec, rec_of, edit_at, rec_at, with_edit, with_records}
+use Rattle.meaning.specs.Store.{with_locks}
 use Rattle.meaning.specs.Store.{no_access, access_of, has_read, locks_used}
 use Rattle.meaning.specs.Points.{put_lock, join_read, leave_settled}
 use Rattle.meaning.specs.Ending.{freed, settled_locks_by, settled_rec, settled, settled_by}

@@ -34,7 +34,8 @@ unfolding saved_rec
 idle t r x = refl
 
 pub saved_all : (s : Store) (k t : ℕ) → SoundStore s
-    → along (saved_rec t) (edit_at s k).accesses s ≡ with_records s (map_from 0 (committed_rec (edit_at s k) t) s.records)
+    → along (saved_rec t) (edit_at s k).accesses s ≡ with_records s
+    (map_from 0 (committed_rec (edit_at s k) t) s.records)
 unfolding names_once access_of saved_rec
 saved_all s k t good =
     along_all (saved_rec t) (idle t) (edit_at s k).accesses s (good.edits k).existing (good.edits k).once

@@ -71,7 +71,8 @@ module _ (c : Counts) (w : List ℕ) (k : ℕ) (R : Ready c w) (u : in_use (deco
       ends x p q z = D.means ∙ rw (p, q) (sym z)
 
       go : (b : Bool) → eqb state COMMITTED ≡ b
-          → decode_at c w₂ ≡ cond b (along (left_rec t) (edit_at (freed_all k s) k).accesses (freed_all k s)) (freed_all k s)
+          → decode_at c w₂ ≡ cond b (along (left_rec t) (edit_at (freed_all k s) k).accesses (freed_all k s))
+          (freed_all k s)
           → decode_at c w₃ ≡ settled s k
       go true q p =
           let z : e.state ≡ COMMITTED = sym state_is ∙ eqb-true state COMMITTED q in

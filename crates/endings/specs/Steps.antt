@@ -4,7 +4,8 @@ use Rattle.std.specs.Prelude.{ℕ, ◌+◌, ◌≤◌, ◌<◌, Bool, cond, List
 use Rattle.meaning.specs.Lists.{◌∈◌, keep, total, map_from}
 use Rattle.types.specs.Limits.{READ, WRITE, COMMITTED}
 use Rattle.types.specs.declared.Access.{Access}
-use Rattle.meaning.specs.Store.{Rec, Store, edit_at, rec_at, with_rec, with_records, with_locks, has_read, versions_used}
+use Rattle.meaning.specs.Store.{Rec, Store, edit_at, rec_at, with_rec, with_records, with_locks, has_read}
+use Rattle.meaning.specs.Store.{versions_used}
 use Rattle.meaning.specs.Store.{locks_used}
 use Rattle.meaning.specs.Points.{leave_settled, drop_owner}
 use Rattle.meaning.specs.Ending.{insert, new_version}

@@ -27,7 +27,8 @@ use types::{
 // Settle.
 
 fn leave_if(w: &mut [u64], c: Counts, wanted: bool, r: usize, mode: u64, low: u64, high: u64)
-    requires { Well c w.old × (r < c.records) × (mode < MODES) × (locks_used (decode_at c w.old) + mark wanted ≤ c.locks) }
+    requires { Well c w.old × (r < c.records) × (mode < MODES)
+        × (locks_used (decode_at c w.old) + mark wanted ≤ c.locks) }
     ensures { Beside c w.old w.new
         (on_locks (decode_at c w.old) r (leave_settled wanted mode low high)) }
 {

@@ -120,7 +120,8 @@ missing_by s i next true false true eq er et h = rw (eq, drop-cons s i 0 (leb-fa
 missing_by s i next true false false eq er et h =
     rw (eq, drop-cons s i 0 (leb-false (length s) i er), et, not_digit (get_or s i 0) h)
 
-pub number_missing : (s : List ℕ) (i : ℕ) (next : Next) → 10 ≤ digit_of (get_or s i 0) → number (left s i) next ≡ Malformed
+pub number_missing : (s : List ℕ) (i : ℕ) (next : Next) → 10 ≤ digit_of (get_or s i 0)
+    → number (left s i) next ≡ Malformed
 number_missing s i next h =
     missing_by s i next (leb i (length s)) (leb (length s) i) (eqb (get_or s i 0) SPACE) refl refl refl h
 
@@ -137,7 +138,8 @@ pub letter_none : (s : List ℕ) (i : ℕ) (other : Parsed) (next : Next) → en
 letter_none s i other next e = letter_none_by s i other next (leb i (length s)) refl e
 
 letter_one_by : (s : List ℕ) (i : ℕ) (other : Parsed) (next : Next) (fs : List (List ℕ)) → Goes s i
-    → first (drop (suc i) s) ≡ [] → others (drop (suc i) s) ≡ fs → letter_or (left s i) other next ≡ next (get_or s i 0) fs
+    → first (drop (suc i) s) ≡ [] → others (drop (suc i) s) ≡ fs
+    → letter_or (left s i) other next ≡ next (get_or s i 0) fs
 unfolding letter_or left first others
 letter_one_by s i other next fs g a b =
     rw (le-leb i (length s) (omega (arith, g.within)), drop-cons s i 0 g.within, g.here, a, b)

@@ -18,9 +18,11 @@ use Rattle.meaning.proofs.Lists.{and_in}
 use Rattle.meaning.proofs.SoundParts.{fresh_is_sound}
 use Rattle.tables.specs.Layout as Layout
 use Rattle.tables.specs.Layout.{HEADER, R_FLOOR, S_STATE, S_GENERATION, S_POINT, Fits, size_of, slot_base, version_base}
-use Rattle.tables.specs.Layout.{lock_base, access_base, record_table, slot_table, version_table, lock_table, access_table}
+use Rattle.tables.specs.Layout.{lock_base, access_base, record_table, slot_table, version_table, lock_table}
+use Rattle.tables.specs.Layout.{access_table}
 use Rattle.tables.specs.Layout.{version_heads, lock_heads, access_heads}
-use Rattle.tables.specs.Decode.{build, record_at, slot_at, floor_of, records_of, edits_of, decode_at, version_rows, lock_rows}
+use Rattle.tables.specs.Decode.{build, record_at, slot_at, floor_of, records_of, edits_of, decode_at, version_rows}
+use Rattle.tables.specs.Decode.{lock_rows}
 use Rattle.tables.specs.Decode.{access_rows, versions_of, locks_of, accesses_of}
 use Rattle.tables.specs.Words.{Well, names_record, marked, decode, sound_words}
 use Rattle.tables.proofs.Bridge.{well_in}
@@ -119,7 +121,8 @@ module _ (c : Counts) where
       → link (version_table c) (formatted_words c) i ≡ next_free (version_table c).count i
   unfolding field linked
   version_links i l =
-      let p = Places.version_word c i (version_table c).off l (versions_lie_lem c (blank_words c) (blank_size c)).within in
+      let p = Places.version_word c i (version_table c).off l
+      (versions_lie_lem c (blank_words c) (blank_size c)).within in
       let b = Places.bases c in
       below_access (place (version_table c) i (version_table c).off) (omega (arith, p.1, b.3))
       ∙ below_lock (place (version_table c) i (version_table c).off) p.1
@@ -183,7 +186,8 @@ module _ (c : Counts) where
     unfolding head_of head_cell access_heads access_table
     access_free = header_word 7 (omega arith) ∙ first_free_lem c.accesses fits.ranged.accesses_low
 
-    version_heads_lem : (k : ℕ) → k < (version_heads c).owners → head_of (version_heads c) (formatted_words c) (suc k) ≡ 0
+    version_heads_lem : (k : ℕ) → k < (version_heads c).owners → head_of (version_heads c)
+        (formatted_words c) (suc k) ≡ 0
     unfolding head_of version_heads head_cell version_base
     version_heads_lem k l = zero_word (HEADER + 0 + k * 3) (omega arith) (omega arith)
 
@@ -199,7 +203,8 @@ module _ (c : Counts) where
     no_versions : (r : ℕ) → r < c.records → version_rows c (formatted_words c) r ≡ []
     unfolding version_rows version_heads
     no_versions r l =
-        free_rows (version_table c) (version_heads c) (formatted_words c) version_links version_free version_heads_lem r l
+        free_rows (version_table c) (version_heads c) (formatted_words c) version_links version_free
+        version_heads_lem r l
 
     no_locks : (r : ℕ) → r < c.records → lock_rows c (formatted_words c) r ≡ []
     unfolding lock_rows lock_heads
@@ -218,10 +223,13 @@ module _ (c : Counts) where
         record {
           fits = fits;
           versions_parted_lem =
-              free_parted (version_table c) (version_heads c) (formatted_words c) version_links version_free version_heads_lem;
-          locks_parted_lem = free_parted (lock_table c) (lock_heads c) (formatted_words c) lock_links lock_free lock_heads_lem;
+              free_parted (version_table c) (version_heads c) (formatted_words c) version_links
+              version_free version_heads_lem;
+          locks_parted_lem = free_parted (lock_table c) (lock_heads c) (formatted_words c) lock_links
+              lock_free lock_heads_lem;
           accesses_parted_lem =
-              free_parted (access_table c) (access_heads c) (formatted_words c) access_links access_free access_heads_lem;
+              free_parted (access_table c) (access_heads c) (formatted_words c) access_links
+              access_free access_heads_lem;
           named = λ r l. ap (all_of (names_record c (formatted_words c) r)) (no_locks r l);
           marks = λ k p q. ap (all_of (marked c (formatted_words c))) (no_accesses k (record { low = p; high = q }));
         }

@@ -15,7 +15,8 @@ use Rattle.meaning.specs.Records.{good_counts}
 use Rattle.types.specs.declared.Counts.{Counts}
 use Rattle.meaning.proofs.Lists.{and_left, and_right}
 use Rattle.tables.proofs.Header.{good_ranged}
-use Rattle.tables.specs.Layout.{HEADER, Ranged, size_of, version_base, lock_base, access_base, version_table, lock_table}
+use Rattle.tables.specs.Layout.{HEADER, Ranged, size_of, version_base, lock_base, access_base, version_table}
+use Rattle.tables.specs.Layout.{lock_table}
 use Rattle.tables.specs.Layout.{access_table}
 use Rattle.tables.proofs.Header.{size_least}
 use Rattle.format.specs.Format.{header_words, blank_words, next_free, linked_to, linked, format_fits}
@@ -64,7 +65,8 @@ blank_is c n l =
 
 pub blank_words_lem : (c : Counts) (n : ℕ) → n ≡ size_of c → sets (replicate n 0) 0 (header_words c) ≡ blank_words c
 unfolding blank_words
-blank_words_lem c n e = blank_is c n (omega (arith, size_least c)) ∙ ap (λ k. header_words c ++ replicate (k - HEADER) 0) e
+blank_words_lem c n e = blank_is c n (omega (arith, size_least c))
+    ∙ ap (λ k. header_words c ++ replicate (k - HEADER) 0) e
 
 -- the next free row
 pub next_in : (n i : ℕ) → i < n → i + 1 ≡ next_free n i

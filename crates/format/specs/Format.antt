@@ -1,6 +1,7 @@
 -- What Format leaves: every word of a formatted slice, when Format is refused, and the two laws about it. Rests on
 -- Words of the crate `tables`.
-use Rattle.std.specs.Prelude.{ℕ, zero, suc, ◌-◌, ◌≡◌, Bool, true, false, cond, ◌&&◌, List, [], ◌++◌, length, set, replicate, ltb, eqb}
+use Rattle.std.specs.Prelude.{ℕ, zero, suc, ◌-◌, ◌≡◌, Bool, true, false, cond, ◌&&◌, List, [], ◌++◌, length, set}
+use Rattle.std.specs.Prelude.{replicate, ltb, eqb}
 use Rattle.chains.specs.declared.Table.{Table}
 use Rattle.chains.specs.Table.{link_cell}
 use Rattle.meaning.specs.Records.{good_counts}

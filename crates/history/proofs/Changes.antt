@@ -68,7 +68,8 @@ module _ (e e' : ℕ → Edit) (x x' : ℕ → Rec) where
 
   module _ (more : (r : ℕ) → Locked (x r) (x' r)) where
     -- no lock goes, no floor moves, no version comes or goes, and slots in use keep their handles
-    pub grows_more : ((k : ℕ) → Used (slots_of e x) k → Used (slots_of e' x') k × ((e' k).generation ≡ (e k).generation))
+    pub grows_more : ((k : ℕ) → Used (slots_of e x) k → Used (slots_of e' x') k
+        × ((e' k).generation ≡ (e k).generation))
         → Grows (slots_of e x) (slots_of e' x') Nothing
     grows_more same =
         record {

@@ -121,7 +121,8 @@ session_chart p a g cut =
           (store_words_charts session_counts (calls_of session_steps) (replies_of session_steps) w
           (i.from w i.size).0 _ _ w done).moment p;
       moment =
-          moment_at (heard_of session_counts session_steps) (ε ▸ (2, 7) ▸ (1, 6)) (ε ▸ (1, 6) ▸ (2, 7)) session_heard refl
+          moment_at (heard_of session_counts session_steps) (ε ▸ (2, 7) ▸ (1, 6))
+          (ε ▸ (1, 6) ▸ (2, 7)) session_heard refl
           p a g cut;
     }
 

@@ -180,7 +180,8 @@ module _ (Lent : Type 0) (decode : Lent → Store) (soundLent : Lent → Bool) w
       → ViewsFit l end ds ps
   unfolding act_by
   views_fit done h e = tt
-  views_fit {l = l} {end = end} (then {w = w} {c = c} {q = q} d r) h e = (fits, views_fit {l = l ▸ heard c q} r (call_leaves c d h) e)
+  views_fit {l = l} {end = end} (then {w = w} {c = c} {q = q} d r) h e =
+      (fits, views_fit {l = l ▸ heard c q} r (call_leaves c d h) e)
     where
       fits : ViewFits l end c q
       fits r p i v a b m g f none-since =

@@ -21,7 +21,8 @@ use Rattle.meaning.specs.Outcomes.{pass, replies, Verdict, needs, knows, is_open
 use Rattle.meaning.specs.Ending.{ended, settled_locks, settled, finished, insert, new_version, committed, aborted}
 use Rattle.meaning.specs.Ending.{good_pick, chosen, allowed, no_common, commit_verdict, commit_open, commit_open_by}
 use Rattle.meaning.specs.Ending.{commit_checks}
-use Rattle.meaning.specs.Ending.{committing, committing_by, abort_checks, aborting, aborting_by, settle_checks, settling}
+use Rattle.meaning.specs.Ending.{committing, committing_by, abort_checks, aborting, aborting_by, settle_checks}
+use Rattle.meaning.specs.Ending.{settling}
 use Rattle.meaning.specs.Ending.{settling_by}
 use Rattle.meaning.specs.Pointwise.{LockOn, HeldOn, InCommonSet}
 use Rattle.meaning.specs.SoundFacts.{SoundStore}

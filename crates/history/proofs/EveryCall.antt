@@ -8,7 +8,8 @@ use Rattle.types.specs.Numbers.{slot_of}
 use Rattle.types.specs.Replies.{ok, own, again, commit, nopoint, purged}
 use Rattle.meaning.specs.Outcomes.{Outcome, replies}
 use Rattle.meaning.specs.Edits.{begun, begin_checks, beginning, written, write_checks, writing}
-use Rattle.meaning.specs.Locking.{with_lock, lock_verdict, lock_checks, lock_wanted, lock_wanted_by, locking_by, read_verdict}
+use Rattle.meaning.specs.Locking.{with_lock, lock_verdict, lock_checks, lock_wanted, lock_wanted_by, locking_by}
+use Rattle.meaning.specs.Locking.{read_verdict}
 use Rattle.meaning.specs.Locking.{read_store, read_store_by}
 use Rattle.meaning.specs.Locking.{read_new, read_new_by, read_open, read_open_by, read_checks, reading_by}
 use Rattle.meaning.specs.Ending.{settled, finished, committed, aborted, chosen, no_common, commit_verdict, commit_open}
@@ -53,7 +54,8 @@ module _ {P : Store → Type 0} {May : ℕ → ℕ → Type 0} (kept : Kept P Ma
   aborted_keeps s k h = kept.edit s k _ h
 
   pub call_keeps : (c : Call) (s : Store) → MayPurge May c s → P s → P (act c s).store
-  unfolding act_by beginning begun writing written locking_by lock_wanted_by reading_by read_open_by read_new_by read_store_by
+  unfolding act_by beginning begun writing written locking_by lock_wanted_by reading_by read_open_by
+      read_new_by read_store_by
       committing_by
       commit_open_by aborting_by settling_by purging purge_to viewing
   call_keeps C.Begin s may h = unless_keeps P s (begin_checks s) (replies (begun s _) _) h (λ e. kept.edit s _ _ h)

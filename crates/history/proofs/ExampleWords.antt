@@ -37,7 +37,11 @@ module _ (c : Counts) (ss : List Step) where
   serial_in : {n : ℕ} → InWords c ss n → (o : Seq ℕ) → CommitOrder (heard_of c ss) o → SerialIn c ss o
   serial_in i o order =
       let h = (i.from (words_of c ss) i.size).0 in
-      record { order = order; serial = store_words_serializable c (calls_of ss) (replies_of ss) (words_of c ss) h o order }
+      record {
+        order = order;
+        serial = store_words_serializable c (calls_of ss) (replies_of ss)
+            (words_of c ss) h o order;
+      }
 
   -- the contract of View on the final words
   pub shows : good_counts c ≡ true → AllStepped (formatted_words c) ss → (r p : ℕ) (q : Reply)

@@ -157,7 +157,8 @@ begun_after n h e p q =
           ap (λ (s : Store). (beginning s).reply) (rounds_leave n 0 (omega arith))
           ∙ begin_handle ((0 + n) % GENERATIONS) h (omega (arith, p));
       name =
-          ap (λ (l : History Val). edit_of l h) (rounds_begun_lem n 0 ε (omega arith) ∙ ap (λ i. through n 0 ε ▸ begun i) r)
+          ap (λ (l : History Val). edit_of l h)
+          (rounds_begun_lem n 0 ε (omega arith) ∙ ap (λ i. through n 0 ε ▸ begun i) r)
           ∙ rw (eq-eqb h h refl) (ap suc (rounds_count n 0 ε) ∙ omega (arith, q));
     }
   where

@@ -17,7 +17,8 @@ use Rattle.meaning.specs.Store.{access_of, has_read, first, version_on}
 use Rattle.types.specs.Replies.{own, again}
 use Rattle.meaning.specs.Outcomes.{replies, Verdict, has_record}
 use Rattle.meaning.specs.Edits.{with_access}
-use Rattle.meaning.specs.Locking.{with_lock, with_lock_by, read_version, read_end, read_verdict, read_access, read_store}
+use Rattle.meaning.specs.Locking.{with_lock, with_lock_by, read_version, read_end, read_verdict, read_access}
+use Rattle.meaning.specs.Locking.{read_store}
 use Rattle.meaning.specs.Locking.{read_store_by, read_new, read_new_by, read_open, read_open_by}
 use Rattle.meaning.specs.Locking.{read_checks, reading, reading_by}
 use Rattle.meaning.specs.Pointwise.{NewestIs, none, one}
@@ -136,7 +137,8 @@ module _ (s : Store) (h r : ℕ) {rest : Verdict} (p : PassedOpen s h rest) (the
         ↔ (((access_of e j).written ≡ true) × ((access_of e j).value ≡ v))
     wrote j v = go (ℕ_discrete j r)
       where
-        go : Dec (j ≡ r) → (((access_of (edit_at after k) j).written ≡ true) × ((access_of (edit_at after k) j).value ≡ v))
+        go : Dec (j ≡ r) → (((access_of (edit_at after k) j).written ≡ true)
+            × ((access_of (edit_at after k) j).value ≡ v))
             ↔ (((access_of e j).written ≡ true) × ((access_of e j).value ≡ v))
         go (no n) = iff (λ (b : Access). (b.written ≡ true) × (b.value ≡ v)) (other j n)
         go (yes y) = (

@@ -14,9 +14,11 @@ use Rattle.meaning.specs.Store.{with_edit, with_records, with_locks, access_of}
 use Rattle.meaning.specs.Points.{add_lock}
 use Rattle.types.specs.Replies.{ok, edit, locked, at}
 use Rattle.meaning.specs.Outcomes.{pass, replies, has_record}
-use Rattle.meaning.specs.Edits.{with_access, free_slot, opened_edit, begun, begin_checks, beginning, written_access, written}
+use Rattle.meaning.specs.Edits.{with_access, free_slot, opened_edit, begun, begin_checks, beginning, written_access}
+use Rattle.meaning.specs.Edits.{written}
 use Rattle.meaning.specs.Edits.{write_checks, writing}
-use Rattle.meaning.specs.Locking.{with_lock, with_lock_by, lock_verdict, lock_checks, lock_wanted, lock_wanted_by, locking}
+use Rattle.meaning.specs.Locking.{with_lock, with_lock_by, lock_verdict, lock_checks, lock_wanted, lock_wanted_by}
+use Rattle.meaning.specs.Locking.{locking}
 use Rattle.meaning.specs.Locking.{locking_by}
 use Rattle.meaning.specs.Records.{view_checks, viewing}
 use Rattle.types.specs.declared.Lock.{Lock}

@@ -8,7 +8,8 @@ use mathlib.Core.List.Memᴰ
 use lib.Dec.{leb}
 use lib.ListN.{length, length-set}
 use Rattle.meaning.specs.Lists.{◌∈◌}
-use Rattle.meaning.specs.Store.{Rec, Store, fresh, fresh_rec, edit_at, rec_of, rec_at, with_edit, with_records, with_rec}
+use Rattle.meaning.specs.Store.{Rec, Store, fresh, fresh_rec, edit_at, rec_of, rec_at, with_edit, with_records}
+use Rattle.meaning.specs.Store.{with_rec}
 use Rattle.types.specs.Values.{Val}
 use Rattle.meaning.specs.Store.{with_locks, access_of}
 use Rattle.meaning.specs.Points.{add_lock}
@@ -44,7 +45,8 @@ module _ (s : Store) (h : Valued s) where
   unfolding with_lock_by
   lock_valued r mode k low high =
       rec_valued r
-      (with_locks (rec_at s r) (add_lock (record { low = low; high = high; mode = mode; owner = k }) (rec_at s r).locks))
+      (with_locks (rec_at s r) (add_lock (record { low = low; high = high; mode = mode; owner = k })
+      (rec_at s r).locks))
       (h r)
 
   purged_valued : (r v : ℕ) → Valued (with_rec s r (purged_rec (rec_at s r) v))

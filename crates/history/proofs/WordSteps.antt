@@ -88,7 +88,8 @@ unfolding format_fits
 formats_any c w g n =
     record { refused = λ e. absurd (not_both (and_in g (eq-eqb (length w) (size_of c) n)) e); done = λ e. (refl, refl) }
 
-pub steps_history : (c : Counts) (ss : List Step) (w : List ℕ) → good_counts c ≡ true → AllStepped (formatted_words c) ss
+pub steps_history : (c : Counts) (ss : List Step) (w : List ℕ) → good_counts c ≡ true
+    → AllStepped (formatted_words c) ss
     → length w ≡ size_of c
     → (h : HistoryOn c (calls_of ss) (replies_of ss) (end_of ss (formatted_words c))) × (h.before ≡ w)
 steps_history c ss w g a n = (

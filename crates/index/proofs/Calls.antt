@@ -19,7 +19,8 @@ use Rattle.meaning.specs.Points.{drop_owner}
 use Rattle.meaning.specs.Outcomes.{Outcome, replies}
 use Rattle.meaning.specs.Edits.{beginning, begin_checks, begun, free_slot, opened_edit, writing, write_checks, written}
 use Rattle.meaning.specs.Edits.{written_access}
-use Rattle.meaning.specs.Locking.{locking, locking_by, lock_checks, lock_wanted, lock_wanted_by, lock_verdict, with_lock}
+use Rattle.meaning.specs.Locking.{locking, locking_by, lock_checks, lock_wanted, lock_wanted_by, lock_verdict}
+use Rattle.meaning.specs.Locking.{with_lock}
 use Rattle.meaning.specs.Locking.{with_lock_by, reading, reading_by, read_checks, read_open, read_open_by}
 use Rattle.meaning.specs.Locking.{read_new, read_new_by, read_verdict, read_store, read_store_by, read_from, read_end}
 use Rattle.meaning.specs.Locking.{read_version, read_access, lock_from}
@@ -47,7 +48,8 @@ module _ (k r : ℕ) (h : 1 ≤ k) where
       less : (x : Rec) → Holds k (settled_locks j (edit_at s j) r x.locks) → Holds k x.locks
       less x p = go (eqb (edit_at s j).state COMMITTED) p
         where
-          go : (b : Bool) → Holds k (cond b (locks_left (edit_at s j) (access_of (edit_at s j) r) (drop_owner j x.locks))
+          go : (b : Bool) → Holds k (cond b
+              (locks_left (edit_at s j) (access_of (edit_at s j) r) (drop_owner j x.locks))
               (drop_owner j x.locks)) → Holds k x.locks
           go true p = holds_drop k j x.locks (holds_settled k h _ _ _ _ _ (holds_settled k h _ _ _ _ _ p))
           go false p = holds_drop k j x.locks p
@@ -56,7 +58,8 @@ module _ (k r : ℕ) (h : 1 ≤ k) where
   finished_after F.Settle s j p = settled_after s j p
   finished_after F.Keep s j p = p
 
-  pub ended_after : (s : Store) (j state point : ℕ) → touched (with_edit s j (ended (edit_at s j) state point)) k r ≡ true
+  pub ended_after : (s : Store) (j state point : ℕ)
+      → touched (with_edit s j (ended (edit_at s j) state point)) k r ≡ true
       → touched s k r ≡ true
   unfolding names
   ended_after s j state point =
@@ -120,7 +123,8 @@ module _ (k r : ℕ) (h : 1 ≤ k) where
         go : (b : Bool) → After (cond b (replies (finished f (aborted s j) j) nopoint) done).store
         go true q = aborted_after s j (finished_after f (aborted s j) j q)
         go false q =
-            unless_keeps After s (commit_verdict s j pick) (replies (finished f (committed s j t) j) (commit t)) (λ p. p)
+            unless_keeps After s (commit_verdict s j pick) (replies (finished f (committed s j t) j) (commit t))
+            (λ p. p)
             (λ e p. committed_after s j t (finished_after f (committed s j t) j p)) q
 
     pub purge_after : (g b : ℕ) → After (purging g b s).store
@@ -145,7 +149,8 @@ module _ (k r : ℕ) (h : 1 ≤ k) where
             (replies (Rattle.meaning.specs.Store.with_rec s g y) reply))).store
         go true q = q
         go false q =
-            unless_keeps After s (purge_verdict x v) (replies (Rattle.meaning.specs.Store.with_rec s g y) reply) (λ p. p)
+            unless_keeps After s (purge_verdict x v) (replies (Rattle.meaning.specs.Store.with_rec s g y) reply)
+            (λ p. p)
             (λ e. rec_change s k r g y (λ z p. by_locks s k r (λ q. q) (rw z (holds_trim k v x.locks p))) (λ q. q)) q
 
     pub view_after : (g p : ℕ) → After (viewing g p s).store

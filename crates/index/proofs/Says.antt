@@ -164,7 +164,8 @@ module _ (ix ix₁ ix' : List ℕ) (k r : ℕ) (size : length ix ≡ INDEX) (hk 
       go (yes l) =
           rw (
             A.room l,
-            get_or-set_other (set ix₁ (LISTS + k * LIST + 1 + count_of ix₁ k) r) (LISTS + k * LIST) i (count_of ix₁ k + 1) 0
+            get_or-set_other (set ix₁ (LISTS + k * LIST + 1 + count_of ix₁ k) r) (LISTS + k * LIST) i
+                (count_of ix₁ k + 1) 0
                 (λ z. n (omega (arith, z), omega (arith, z))),
             get_or-set_other ix₁ (LISTS + k * LIST + 1 + count_of ix₁ k) i r 0
                 (λ z. n (omega (arith, z), omega (arith, z, l))),
@@ -220,7 +221,8 @@ module _ (ix ix₁ ix' : List ℕ) (k r : ℕ) (size : length ix ≡ INDEX) (hk 
     known₀ : known ix k ≡ true
     known₀ = list_says ix size k ∙ le-leb (count_of ix k) LISTED (omega (arith, count₁, l))
 
-    put : (i : ℕ) → i < LISTED → listed_of ix' k i ≡ get_or (set ix₁ (LISTS + k * LIST + 1 + count_of ix₁ k) r) (LISTS + k
+    put : (i : ℕ) → i < LISTED → listed_of ix' k i ≡ get_or (set ix₁ (LISTS + k * LIST + 1 + count_of ix₁ k) r)
+        (LISTS + k
         * LIST + 1 + i) 0
     put i h =
         rw (

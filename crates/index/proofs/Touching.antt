@@ -10,7 +10,8 @@ use lib.ListN.{length, set, length-set}
 use borrow.Author.Tests.{eqb-true}
 use Rattle.types.specs.Limits.{SETTLED}
 use Rattle.meaning.specs.Lists.{◌∈◌, any, keep, map_from}
-use Rattle.meaning.specs.Store.{Lock, Access, Rec, Edit, Store, edit_at, edit_of, set_edit, rec_of, rec_at, names, is_of}
+use Rattle.meaning.specs.Store.{Lock, Access, Rec, Edit, Store, edit_at, edit_of, set_edit, rec_of, rec_at, names}
+use Rattle.meaning.specs.Store.{is_of}
 use Rattle.meaning.specs.Store.{with_edit, with_records, with_rec}
 use Rattle.meaning.specs.Points.{is_owned, add_lock, leave_settled, drop_owner, trim_to, trimmed, emptied, cut}
 use Rattle.meaning.specs.Edits.{with_access}

@@ -1,6 +1,7 @@
 -- The index beside the words: which records an edit has touched, for each edit slot. It may say too much and never too
 -- little, so that it speaks of the store alone, not of rows. Rests on Store, Points, Sound and Calls of `meaning`.
-use Rattle.std.specs.Prelude.{ℕ, ◌+◌, ◌*◌, ◌≤◌, ◌<◌, ◌≡◌, ◌⊎◌, Bool, true, false, cond, ◌&&◌, ◌||◌, List, length, get_or, eqb, leb}
+use Rattle.std.specs.Prelude.{ℕ, ◌+◌, ◌*◌, ◌≤◌, ◌<◌, ◌≡◌, ◌⊎◌, Bool, true, false, cond, ◌&&◌, ◌||◌, List, length}
+use Rattle.std.specs.Prelude.{get_or, eqb, leb}
 use Rattle.types.specs.Limits.{SLOTS, MAX_RECORDS}
 use Rattle.meaning.specs.Lists.{any}
 use Rattle.meaning.specs.Store.{Store, slot_of, edit_at, rec_at, names}
@@ -81,7 +82,8 @@ RightOfAll ix = (s : Store) → Indexed s ix
 
 -- after a call and its reply the index is right of the store after it, if it was right of the store before
 pub record Notes (call : Call) (r : Reply) (ix ix' : List ℕ) : Type 0 where
-  pub keeps : (s : Store) → sound_store s ≡ true → r ≡ (act call s).reply → Indexed s ix → Indexed (act call s).store ix'
+  pub keeps : (s : Store) → sound_store s ≡ true → r ≡ (act call s).reply → Indexed s ix
+      → Indexed (act call s).store ix'
 
 -- the index says no more than before, and not that slot k has not touched record r
 pub record Marked (ix ix' : List ℕ) (k r : ℕ) : Type 0 where

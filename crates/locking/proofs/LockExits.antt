@@ -118,7 +118,8 @@ module _ (s : Store) (k r low high : ℕ) (w : Extent) where
         ∙ ap (λ (x : ℕ). unless s (needs (lock_room s) 11 pass)
         (replies (with_lock s r WRITE k x lock_end_lem) (locked x lock_end_lem)))
         g.1
-        ∙ ap (λ (x : ℕ). unless s (needs (lock_room s) 11 pass) (replies (with_lock s r WRITE k from x) (locked from x)))
+        ∙ ap (λ (x : ℕ). unless s (needs (lock_room s) 11 pass)
+        (replies (with_lock s r WRITE k from x) (locked from x)))
         g.2
 
     pub lock_no_room : lock_room s ≡ false → lock_wanted s k r low high w ≡ replies s (refusing 11 [])

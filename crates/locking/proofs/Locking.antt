@@ -57,7 +57,8 @@ module _ (c : Counts) (w : List ℕ) (R : Ready c w) (k r low high : ℕ) (x : E
         (lock_no_room (decode_at c w) k r low high x from end (granted f) h)
 
     pub wanted_done : lock_room (decode_at c w) ≡ true → (w' : List ℕ) (p q : ℕ)
-        → Becomes c w' (on_locks (decode_at c w) r (add_lock (record { low = from; high = end; mode = WRITE; owner = k })))
+        → Becomes c w' (on_locks (decode_at c w) r
+        (add_lock (record { low = from; high = end; mode = WRITE; owner = k })))
         → p ≡ from → q ≡ end
         → Makes c (lock_wanted (decode_at c w) k r low high x) w w' (locked p q)
     unfolding with_lock_by
@@ -120,7 +121,8 @@ module _ (c : Counts) (w : List ℕ) (hs : sound_words (lent w) ≡ true) (e : c
               → Makes c (lock_wanted (decode_at c w) j r from to x) w w' q → Ends w' q
           lock_acts l w' q j i M =
               let n = floor_is in
-              let same : lock_wanted (decode_at c w) j r from to x ≡ lock_wanted (decode_at c w) (slot_of h) r low high x =
+              let same : lock_wanted (decode_at c w) j r from to x ≡ lock_wanted (decode_at c w)
+              (slot_of h) r low high x =
               rw (i, a, b) in
               acts (locking h r low high x) (lock_keeps h r low high x) c w w' q hs e
               (makes_as c w (lock_passes (decode_at c w) h r low high x k o there in_order

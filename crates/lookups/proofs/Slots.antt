@@ -103,7 +103,8 @@ module _ {c : Counts} {w : List ℕ} where
   passed_on k {s} i l e f =
       record { low = omega arith; high = omega arith; used = λ j h z. go j h z (test (eqb (suc j) k)) }
     where
-      go : (j : ℕ) → suc j < k + 1 → (slot_at c w (suc j)).state ≡ FREE → (eqb (suc j) k ≡ true) ⊎ (eqb (suc j) k ≡ false)
+      go : (j : ℕ) → suc j < k + 1 → (slot_at c w (suc j)).state ≡ FREE → (eqb (suc j) k ≡ true)
+          ⊎ (eqb (suc j) k ≡ false)
           → ⊥
       go j h z (inl q) = f (e ∙ ap (λ x. (slot_at c w x).state) (sym (eqb-true (suc j) k q)) ∙ z)
       go j h z (inr q) = i.used j (omega (arith, eqb-false (suc j) k q)) z

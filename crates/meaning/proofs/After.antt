@@ -21,7 +21,8 @@ use Rattle.meaning.specs.Store.{with_records, access_of, has_read}
 use Rattle.meaning.specs.Outcomes.{Outcome, replies, Verdict, pass, refuse, needs, unless, knows, is_open}
 use Rattle.meaning.specs.Outcomes.{has_record, access_room, lock_room, judge}
 use Rattle.meaning.specs.Edits.{with_access, writing, write_checks, written}
-use Rattle.meaning.specs.Locking.{locking, locking_by, lock_checks, lock_wanted, lock_wanted_by, lock_verdict, with_lock}
+use Rattle.meaning.specs.Locking.{locking, locking_by, lock_checks, lock_wanted, lock_wanted_by, lock_verdict}
+use Rattle.meaning.specs.Locking.{with_lock}
 use Rattle.meaning.specs.Locking.{with_lock_by, lock_from, lock_end}
 use Rattle.meaning.specs.Locking.{lock_granted, reading, reading_by, read_checks, read_open, read_open_by, read_new}
 use Rattle.meaning.specs.Locking.{read_new_by, read_verdict, read_store, read_store_by}
@@ -120,7 +121,8 @@ module _ (s : Store) (h r low high : ℕ) (w : Extent) (a b : ℕ) (e : (locking
   unfolding lock_verdict
   granted =
       (or_else_pass (lock_granted w (slot_of h) (rec_at s r) low high)
-      (judge s r WRITE (slot_of h) (first_blocked WRITE (slot_of h) (rec_at s r) low high)) (needs (lock_room s) 11 pass)
+      (judge s r WRITE (slot_of h) (first_blocked WRITE (slot_of h) (rec_at s r) low high))
+      (needs (lock_room s) 11 pass)
       (judge_refuses s r WRITE (slot_of h) (first_blocked WRITE (slot_of h) (rec_at s r) low high)) verdict).0
 
   replied : locked a b

@@ -185,7 +185,8 @@ add_alike {xs} {ys} l h a =
     each m (inr i) = a.proper m i
 
 -- an owner's rows go; not those of settled locks
-pub drop_alike : {xs ys : List Lock} (k : ℕ) → (SETTLED ≡ k → ⊥) → Locks xs ys → Locks (drop_owner k xs) (drop_owner k ys)
+pub drop_alike : {xs ys : List Lock} (k : ℕ) → (SETTLED ≡ k → ⊥) → Locks xs ys
+    → Locks (drop_owner k xs) (drop_owner k ys)
 unfolding drop_owner
 drop_alike {xs} {ys} k n a =
     record {

@@ -22,7 +22,8 @@ use Rattle.meaning.specs.Store.{access_of, has_read, written_of, versions_used, 
 use Rattle.meaning.specs.Points.{leave_settled, settled_lock, joined, plain, drop_owner}
 use Rattle.meaning.specs.Pointwise.{InCommonSet}
 use Rattle.meaning.specs.Outcomes.{replies, unless, version_room}
-use Rattle.meaning.specs.Ending.{ended, locks_left_by, settled_locks_by, settled_rec_by, settled_by, finished_by, insert}
+use Rattle.meaning.specs.Ending.{ended, locks_left_by, settled_locks_by, settled_rec_by, settled_by, finished_by}
+use Rattle.meaning.specs.Ending.{insert}
 use Rattle.meaning.specs.Ending.{new_version}
 use Rattle.meaning.specs.Ending.{committed_rec, committed, aborted, chosen, allowed, no_common, commit_verdict}
 use Rattle.meaning.specs.Ending.{commit_open_by}

@@ -16,7 +16,8 @@ use Rattle.types.specs.Replies.{Reply, own, again, purged, refusing}
 use Rattle.types.specs.declared.Extent.{Extent}
 use Rattle.types.specs.declared.Extent.TheVariants.{All, Part}
 use Rattle.meaning.specs.Store.{first, Rec, Edit, Store, edit_of, rec_of, with_edit, with_records, with_rec}
-use Rattle.meaning.specs.Store.{access_of, has_read, locks_used, accesses_used, newest_at, newest_below, version_on, Val}
+use Rattle.meaning.specs.Store.{access_of, has_read, locks_used, accesses_used, newest_at, newest_below, version_on}
+use Rattle.meaning.specs.Store.{Val}
 use Rattle.meaning.specs.Store.{slot_of, Version, Lock}
 use Rattle.meaning.specs.Points.{is_owned, add_lock, first_blocked, first_open, frozen, holder}
 use Rattle.meaning.specs.Points.{joined, plain}
@@ -315,7 +316,8 @@ module _ (vn ln an : ℕ) where
           (rw (version_eq r m) (read_verdict_lem k r m f w h))
           (λ e.
           let a = (needs_pass (ltb x.floor m) 7 _ e).1 in
-          let g = (or_else_pass (read_granted w k x f m) _ _ (judge_refuses s r READ k (first_blocked READ k x f m)) a).0 in
+          let g = (or_else_pass (read_granted w k x f m) _ _
+          (judge_refuses s r READ k (first_blocked READ k x f m)) a).0 in
           let taken = read_taken_lem w k x f m _ h ((read_takes_run w k x f m (R.each r).locks.proper h).0 g) in
           inr (record {
             es = _;
@@ -383,7 +385,8 @@ module _ (vn ln an : ℕ) where
             leb l.low v) ys ≡ true
         move xs ys f e =
             let w = any_out (λ l. not (is_owned SETTLED l) && leb l.low v) xs e in
-            any_in (λ l. not (is_owned SETTLED l) && leb l.low v) (keep_out is_plain ys (f w.0 (keep_in is_plain w.1 (plain_of w.0 w.2)))).0 w.2
+            any_in (λ l. not (is_owned SETTLED l) && leb l.low v)
+            (keep_out is_plain ys (f w.0 (keep_in is_plain w.1 (plain_of w.0 w.2)))).0 w.2
 
     purged_alike : (r v : ℕ) → AlikeRec (purged_rec (rec_of rs r) v) (purged_rec (rec_of us r) v)
     unfolding purged_rec

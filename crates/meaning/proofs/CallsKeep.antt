@@ -63,11 +63,13 @@ unfolding locking_by lock_checks lock_wanted_by lock_verdict
 lock_keeps h r low high w s f =
     unless_keeps IsSound s (lock_checks s h r low high) (lock_wanted s k r low high w) f (λ e.
     let order = leb low high && leb high LAST in
-    let p = for_open_pass s h (needs (has_record s r) 5 (needs order 6 (needs (ltb (rec_at s r).floor low) 7 pass))) e in
+    let p = for_open_pass s h (needs (has_record s r) 5 (needs order 6 (needs (ltb (rec_at s r).floor low) 7 pass)))
+    e in
     let a = needs_pass (has_record s r) 5 (needs order 6 (needs (ltb (rec_at s r).floor low) 7 pass)) p.rest in
     let b = needs_pass order 6 (needs (ltb (rec_at s r).floor low) 7 pass) a.1 in
     let c = needs_pass (ltb (rec_at s r).floor low) 7 pass b.1 in
-    unless_keeps IsSound s (lock_verdict s k r low high w) (replies (with_lock s r WRITE k from end) (locked from end)) f
+    unless_keeps IsSound s (lock_verdict s k r low high w)
+    (replies (with_lock s r WRITE k from end) (locked from end)) f
     (λ g.
     let d = or_else_pass (lock_granted w k (rec_at s r) low high)
     (judge s r WRITE k (first_blocked WRITE k (rec_at s r) low high)) (needs (lock_room s) 11 pass)

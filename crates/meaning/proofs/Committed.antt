@@ -12,7 +12,8 @@ use lib.ListN.{length}
 use Rattle.meaning.specs.Lists.{◌∈◌, map_from}
 use Rattle.types.specs.Limits.{LAST, WRITE, SETTLED, OPEN, COMMITTED}
 use Rattle.meaning.specs.Store.{Version, Rec, Edit, Store, fresh_rec, edit_of, set_edit, rec_of, edit_at, rec_at}
-use Rattle.meaning.specs.Store.{with_edit, with_records, access_of, written_of, versions_used, locks_used, accesses_used}
+use Rattle.meaning.specs.Store.{with_edit, with_records, access_of, written_of, versions_used, locks_used}
+use Rattle.meaning.specs.Store.{accesses_used}
 use Rattle.meaning.specs.Ending.{ended, insert, new_version, committed_rec, committed}
 use Rattle.meaning.specs.Sound.{versions_fall, names_once}
 use Rattle.meaning.specs.Pointwise.{LockOn, InCommonSet}
@@ -49,7 +50,8 @@ module _ (s : Store) (k t : ℕ) (good : SoundStore s) (st : (edit_at s k).state
   not_mine r p o (inl z) y = omega (arith, range.from)
   not_mine r p o (inr w) y = omega (arith, rw y at w.state, st)
 
-  pub none_there : (r : ℕ) → (access_of e r).written ≡ true → (v : Version) → v ∈ (rec_at s r).versions → v.point ≡ t → ⊥
+  pub none_there : (r : ℕ) → (access_of e r).written ≡ true → (v : Version) → v ∈ (rec_at s r).versions
+      → v.point ≡ t → ⊥
   none_there r q v m z = clash (own_lock r q)
     where
       clash : LockOn (rec_at s r).locks k WRITE t → ⊥

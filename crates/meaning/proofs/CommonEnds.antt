@@ -87,7 +87,8 @@ module _ (rs : List Rec) (k p start : ℕ) where
       record { end = start; member = Memᴰ.head refl; from = le_refl start; upto = h; each = λ q x y. refl }
   all_below h (a ∷ acc) e =
       join
-      (below (own_on rs k a) a p (parts_out (own_on rs k a) a p (and_left (allows rs k p a) (all (allows rs k p) acc) e)))
+      (below (own_on rs k a) a p (parts_out (own_on rs k a) a p
+      (and_left (allows rs k p a) (all (allows rs k p) acc) e)))
       (all_below h acc (and_right (allows rs k p a) (all (allows rs k p) acc) e))
     where
       mem : (b : Below (own_on rs k a) a p) (r : AllBelow acc)
@@ -177,7 +178,8 @@ module _ (rs : List Rec) (k p : ℕ) where
       record { end = LAST; member = Memᴰ.head refl; from = h; upto = le_refl LAST; each = λ q x y. refl }
   all_above h (a ∷ acc) e =
       join
-      (above (own_on rs k a) a p (parts_out (own_on rs k a) a p (and_left (allows rs k p a) (all (allows rs k p) acc) e)))
+      (above (own_on rs k a) a p (parts_out (own_on rs k a) a p
+      (and_left (allows rs k p a) (all (allows rs k p) acc) e)))
       (all_above h acc (and_right (allows rs k p a) (all (allows rs k p) acc) e))
     where
       mem : (b : Above (own_on rs k a) a p) (r : AllAbove acc)
@@ -186,7 +188,8 @@ module _ (rs : List Rec) (k p : ℕ) where
       mem b r (inl q) = Memᴰ.cast q (Memᴰ.append_left (high_ends rs k acc) b.member)
       mem b r (inr q) = Memᴰ.cast q (Memᴰ.append_right (highs (own_on rs k a) a) r.member)
 
-      join : Above (own_on rs k a) a p ⊎ ((q : ℕ) → p ≤ q → Parts (own_on rs k a) a q) → AllAbove acc → AllAbove (a ∷ acc)
+      join : Above (own_on rs k a) a p ⊎ ((q : ℕ) → p ≤ q → Parts (own_on rs k a) a q) → AllAbove acc
+          → AllAbove (a ∷ acc)
       join (inr b) r =
           record {
             end = r.end;

@@ -100,7 +100,8 @@ module _ (s : Store) (k r m : ℕ) (w : Extent) (proper : Proper (rec_at s r))
         newest = newest;
         denied = d;
         judged =
-            found READ k (rec_at s r) (read_from s r m) m proper h (read_blocked w k (rec_at s r) (read_from s r m) m h d);
+            found READ k (rec_at s r) (read_from s r m) m proper h
+            (read_blocked w k (rec_at s r) (read_from s r m) m h d);
       }
 
 -- two judged points are one

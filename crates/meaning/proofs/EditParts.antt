@@ -100,7 +100,8 @@ module _ (rs : List Rec) (k : ℕ) (e : Edit) where
   locked a = not (has_read a) || any (starts_read k a.from) (rec_of rs a.rec).locks
 
   pub edit_out : sound_edit rs k e ≡ true → SoundEdit rs k e
-  unfolding sound_edit state_listed generation_listed point_listed names_existing reads_present reads_locked point_common
+  unfolding sound_edit state_listed generation_listed point_listed names_existing reads_present
+      reads_locked point_common
       free_idle
   edit_out h =
       record {
@@ -144,7 +145,8 @@ module _ (rs : List Rec) (k : ℕ) (e : Edit) where
           (starts_out k a.from ls (implies_out (has_read a) (any (starts_read k a.from) ls) t (read_in a tr f)))
 
   pub edit_in : SoundEdit rs k e → sound_edit rs k e ≡ true
-  unfolding sound_edit state_listed generation_listed point_listed names_existing reads_present reads_locked point_common
+  unfolding sound_edit state_listed generation_listed point_listed names_existing reads_present
+      reads_locked point_common
       free_idle
   edit_in s =
       le-leb e.state ABORTED s.state

@@ -73,7 +73,12 @@ module _ (es : List Edit) (r : ℕ) (x : Rec) (h : SoundRec es r x) (k : ℕ) (u
       }
 
   pub lock_fits : (w : Extent) → lock_granted w k x low high ≡ true
-      → LockFits es x (record { low = lock_from w k x low high; high = lock_end w k x low high; mode = WRITE; owner = k })
+      → LockFits es x (record {
+        low = lock_from w k x low high;
+        high = lock_end w k x low high;
+        mode = WRITE;
+        owner = k;
+      })
   lock_fits w g =
       taken_fits WRITE (lock_from w k x low high) (lock_end w k x low high) (inr refl)
       (lock_taken w k x low high (lock_from w k x low high) (lock_end w k x low high) order
@@ -83,7 +88,8 @@ module _ (es : List Edit) (r : ℕ) (x : Rec) (h : SoundRec es r x) (k : ℕ) (u
       → LockFits es x (record { low = low; high = grant_end w READ k x low high; mode = READ; owner = k })
   read_fits w g =
       taken_fits READ low (grant_end w READ k x low high) (inl refl)
-      (read_taken_lem w k x low high (grant_end w READ k x low high) order ((read_takes_run w k x low high proper order).0 g))
+      (read_taken_lem w k x low high (grant_end w READ k x low high) order
+      ((read_takes_run w k x low high proper order).0 g))
 
 -- the version read: at or above the floor, below m, present or the never written state under floor 0
 pub record ReadAt (x : Rec) (m tr : ℕ) : Type 0 where

@@ -30,7 +30,8 @@ none_free k (e ∷ es) h j l z = go (test (eqb e.state FREE)) j l z (none_free (
   where
     go : (eqb e.state FREE ≡ true) ⊎ (eqb e.state FREE ≡ false) → (j : ℕ) → j < suc (length es)
         → (get_or (e ∷ es) j fresh_edit).state ≡ FREE
-        → (suc k + length es ≤ free_from (suc k) es → (i : ℕ) → i < length es → (get_or es i fresh_edit).state ≡ FREE → ⊥)
+        → (suc k + length es ≤ free_from (suc k) es → (i : ℕ) → i < length es
+        → (get_or es i fresh_edit).state ≡ FREE → ⊥)
         → ⊥
     go (inl b) j l z ih = omega (arith, rw b at h)
     go (inr b) zero l z ih = eqb-false e.state FREE b z

@@ -82,7 +82,8 @@ pub data Judging (c : Call) (s : Store) (o : Outcome) : List Item → Type 0 whe
 
 -- an item that does not stand, before the next; `never` is for one that cannot concern the call
 infixr 3 ◌next◌
-pub ◌next◌ : {c : Call} {s : Store} {o : Outcome} {i : Item} {is : List Item} → (sound_store s ≡ true → Stands i c s → ⊥)
+pub ◌next◌ : {c : Call} {s : Store} {o : Outcome} {i : Item} {is : List Item}
+    → (sound_store s ≡ true → Stands i c s → ⊥)
     → Judging c s o is → Judging c s o (i ∷ is)
 f next j = passes f j
 

@@ -101,7 +101,8 @@ module _ (b : Bool) (mode low high : ℕ) (ls : List Lock) where
   unfolding leave_settled
   leave_rises h = go b (eqb mode READ)
     where
-      go : (c d : Bool) → pairwise no_later (cond c (cond d (join_read low high ls) (put_lock (settled_lock mode low high)
+      go : (c d : Bool) → pairwise no_later
+          (cond c (cond d (join_read low high ls) (put_lock (settled_lock mode low high)
           ls)) ls) ≡ true
       go true true = join_rises low high ls h
       go true false = put_rises (settled_lock mode low high) ls h
@@ -198,7 +199,8 @@ module _ (k : ℕ) (e : Edit) (r : ℕ) (ls : List Lock) where
       go false = dropped
 
   pub settled_joined : ((l : Lock) → l ∈ ls → l.low ≤ l.high) → (e.state ≡ COMMITTED → a.from ≤ e.point)
-      → pairwise no_later ls ≡ true → pairwise apart_reads ls ≡ true → pairwise apart_reads (settled_locks k e r ls) ≡ true
+      → pairwise no_later ls ≡ true → pairwise apart_reads ls ≡ true
+      → pairwise apart_reads (settled_locks k e r ls) ≡ true
   unfolding settled_locks_by drop_owner leave_settled
   settled_joined proper span rises joined = go (eqb e.state COMMITTED) refl
     where
@@ -295,7 +297,8 @@ module _ (k : ℕ) (e : Edit) (r : ℕ) (ls : List Lock) where
   unfolding leave_settled
   leave_length true mode low high ms n h = go (eqb mode READ)
     where
-      go : (c : Bool) → length (cond c (join_read low high ms) (put_lock (settled_lock mode low high) ms)) ≤ n + length ms
+      go : (c : Bool) → length (cond c (join_read low high ms) (put_lock (settled_lock mode low high) ms))
+          ≤ n + length ms
       go true = omega (arith, h refl, length_join low high ms)
       go false = omega (arith, h refl, length_put (settled_lock mode low high) ms)
   leave_length false mode low high ms n h = omega arith

@@ -50,7 +50,8 @@ module _ (vn ln an : ℕ) where
     -- a committed edit has read below its point
     reads : (k r : ℕ) → (edit_of es k).state ≡ COMMITTED → (access_of (edit_of es k) r).from ≤ (edit_of es k).point
     reads k r z =
-        from_common us k (edit_of es k) (edit_of es k).point (((sound_out (mk vn ln an es us) sound).edits k).common z) r
+        from_common us k (edit_of es k) (edit_of es k).point
+        (((sound_out (mk vn ln an es us) sound).edits k).common z) r
 
     no_slot : {k : ℕ} → InRange es k → SETTLED ≡ k → ⊥
     no_slot w e = omega (arith, w.from, e)

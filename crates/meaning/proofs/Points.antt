@@ -135,7 +135,8 @@ module _ (k : ℕ) (x : Rec) (low high : ℕ) (proper : Proper x) (s : low ≤ h
         skipped = λ q f g. blocked_out WRITE k x q (first_free_run (blockers WRITE k x) low high q f g);
         taken =
             free_run WRITE k x (first_open WRITE k x low high) high proper h
-            (λ b. first_free_is (blockers WRITE k x) low high h (blocked_in WRITE k x (first_open WRITE k x low high) b));
+            (λ b. first_free_is (blockers WRITE k x) low high h
+            (blocked_in WRITE k x (first_open WRITE k x low high) b));
       }
 
   lock_taken : (w : Extent) → lock_granted w k x low high ≡ true

@@ -16,7 +16,8 @@ use Rattle.meaning.specs.Store.{Version, Lock, Rec, Edit, edit_of, in_use, acces
 use Rattle.meaning.specs.Points.{is_write, is_owned, covers, meets}
 use Rattle.meaning.specs.Pointwise.{VersionOn}
 use Rattle.meaning.specs.Sound.{locks_rise, reads_joined}
-use Rattle.meaning.specs.Sound.{modes_listed, versions_fall, versions_lie, ends_at, versions_end, none_at_zero, locks_lie}
+use Rattle.meaning.specs.Sound.{modes_listed, versions_fall, versions_lie, ends_at, versions_end, none_at_zero}
+use Rattle.meaning.specs.Sound.{locks_lie}
 use Rattle.meaning.specs.Sound.{owners_in_use, agree, writes_apart, wrote_at, backs, versions_backed, sound_rec}
 use Rattle.meaning.specs.SoundFacts.{WroteAt, Backed, Span, SoundRec}
 use Rattle.meaning.proofs.Lists.{and_in, and_left, and_right, or_out, or_left, or_right, test, not_both}
@@ -223,7 +224,8 @@ module _ (es : List Edit) (r : ℕ) (x : Rec) where
   backed v = leb v.point x.floor || any (backs es r v.point) x.locks
 
   pub rec_out : sound_rec es r x ≡ true → SoundRec es r x
-  unfolding sound_rec modes_listed versions_fall versions_lie versions_end none_at_zero locks_lie owners_in_use writes_apart
+  unfolding sound_rec modes_listed versions_fall versions_lie versions_end none_at_zero locks_lie
+      owners_in_use writes_apart
       versions_backed locks_rise reads_joined
   rec_out e =
       record {
@@ -283,7 +285,8 @@ module _ (es : List Edit) (r : ℕ) (x : Rec) where
       backing v h (inr q) = backed_out es r v.point x.locks q
 
   pub rec_in : SoundRec es r x → sound_rec es r x ≡ true
-  unfolding sound_rec modes_listed versions_fall versions_lie versions_end none_at_zero locks_lie owners_in_use writes_apart
+  unfolding sound_rec modes_listed versions_fall versions_lie versions_end none_at_zero locks_lie
+      owners_in_use writes_apart
       versions_backed locks_rise reads_joined
   rec_in s =
       all_in listed x.locks (λ l m. modes l (s.mode l m))

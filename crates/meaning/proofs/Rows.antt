@@ -100,7 +100,8 @@ module _ (low high : ℕ) (span : low ≤ high) (ls : List Lock) (proper : (l : 
     row_gap = go aside
       where
         upper : suc high < m.low
-            → ((low ≤ row.high) × (row.high ≤ high)) ⊎ ((t : Lock) × (t ∈ ls) × Touching low high t × (t.low ≤ row.high) × (row.high ≤ t.high))
+            → ((low ≤ row.high) × (row.high ≤ high))
+            ⊎ ((t : Lock) × (t ∈ ls) × Touching low high t × (t.low ≤ row.high) × (row.high ≤ t.high))
             → Gap row m
         upper h (inl s) = inl (omega (arith, s.1))
         upper h (inr t) = side (far t.0 t.1 t.2 (gap_of t.0 m t.1 i (touching_read t.0 t.2) b)).1
@@ -110,7 +111,8 @@ module _ (low high : ℕ) (span : low ≤ high) (ls : List Lock) (proper : (l : 
             side (inr g) = absurd (omega (arith, g, h, t.2.from, proper m i))
 
         lower : suc m.high < low
-            → ((low ≤ row.low) × (row.low ≤ high)) ⊎ ((t : Lock) × (t ∈ ls) × Touching low high t × (t.low ≤ row.low) × (row.low ≤ t.high))
+            → ((low ≤ row.low) × (row.low ≤ high))
+            ⊎ ((t : Lock) × (t ∈ ls) × Touching low high t × (t.low ≤ row.low) × (row.low ≤ t.high))
             → Gap row m
         lower h (inl s) = inr (omega (arith, s.0))
         lower h (inr t) = side (far t.0 t.1 t.2 (gap_of t.0 m t.1 i (touching_read t.0 t.2) b)).1

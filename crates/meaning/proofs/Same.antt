@@ -145,7 +145,8 @@ first_open_same {x} {y} to from mode k low high s =
 
 -- the common set
 module _ (rs us : List Rec) (k : ℕ) (e : Edit) where
-  pub common_same : ((r : ℕ) → Modes (rec_of rs r) (rec_of us r)) → (p : ℕ) → InCommonSet rs k e p → InCommonSet us k e p
+  pub common_same : ((r : ℕ) → Modes (rec_of rs r) (rec_of us r)) → (p : ℕ) → InCommonSet rs k e p
+      → InCommonSet us k e p
   common_same to p c =
       record {
         least = c.least;

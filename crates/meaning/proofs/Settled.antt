@@ -296,7 +296,8 @@ module _ (s : Store) (k : ℕ) (good : SoundStore s) (used : (edit_at s k).state
     aparts l m (inl v) (inl w) q d p a b a' b' = (good.recs r).apart l m v.0 w.0 q d p a b a' b'
     aparts l m (inl v) (inr g) q d p a b a' b' =
         let h = g.beneath p a' b' in
-        (good.recs r).apart l h.lock v.0 h.member q (λ z. differ l v.1 (λ y. d (y ∙ sym g.owner)) z h.owned) p a b h.from h.upto
+        (good.recs r).apart l h.lock v.0 h.member q (λ z. differ l v.1 (λ y. d (y ∙ sym g.owner)) z h.owned)
+        p a b h.from h.upto
     aparts l m (inr f) (inl w) q d p a b a' b' =
         let h = f.beneath p a b in
         (good.recs r).apart h.lock m h.member w.0 (h.strong q)

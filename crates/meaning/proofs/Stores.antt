@@ -81,7 +81,8 @@ unfolding rec_of
 rec_past rs r h = get_d_past rs r fresh_rec h
 
 -- every record changed by its index
-pub rec_map : (f : ℕ → Rec → Rec) (rs : List Rec) (r : ℕ) → r < length rs → rec_of (map_from 0 f rs) r ≡ f r (rec_of rs r)
+pub rec_map : (f : ℕ → Rec → Rec) (rs : List Rec) (r : ℕ) → r < length rs
+    → rec_of (map_from 0 f rs) r ≡ f r (rec_of rs r)
 unfolding rec_of
 rec_map f rs r h = let z : 0 + r ≡ r = omega arith in rw z at (get_d_map_from f 0 rs r fresh_rec fresh_rec h)
 

@@ -69,12 +69,19 @@ lines (l ∷ ls) s = (step l s).reply ∷ lines ls (step l s).store
 
 -- for proofs that compute: `unfolding opened` opens every definition that a run computes with
 unfoldable pub opened : Unit {0}
-unfolding lines step run_by after_by act_by edit_of set_edit rec_of with_edit with_records in_use access_of names versions_used
-    locks_used accesses_used newest_at newest_below version_on covered own writes first_covered first_free conflicts blocks
-    blockers frozen holder add_lock leave_settled drop_owner trim_to own_on allows in_common earliest latest knows is_open
-    has_record judge access_room lock_room version_room with_access begun begin_checks beginning written write_checks writing
-    with_lock_by lock_verdict lock_checks lock_wanted_by locking_by read_verdict read_store_by read_new_by read_open_by read_checks
-    reading_by settled_locks_by settled_by committed aborted no_common commit_verdict commit_open_by commit_checks committing_by
-    abort_checks aborting_by settle_checks settling_by purged_rec purge_verdict purge_to purge_checks purging view_checks viewing
+unfolding lines step run_by after_by act_by edit_of set_edit rec_of with_edit with_records in_use
+    access_of names versions_used
+    locks_used accesses_used newest_at newest_below version_on covered own writes first_covered
+    first_free conflicts blocks
+    blockers frozen holder add_lock leave_settled drop_owner trim_to own_on allows in_common
+    earliest latest knows is_open
+    has_record judge access_room lock_room version_room with_access begun begin_checks beginning
+    written write_checks writing
+    with_lock_by lock_verdict lock_checks lock_wanted_by locking_by read_verdict read_store_by read_new_by
+    read_open_by read_checks
+    reading_by settled_locks_by settled_by committed aborted no_common commit_verdict commit_open_by
+    commit_checks committing_by
+    abort_checks aborting_by settle_checks settling_by purged_rec purge_verdict purge_to purge_checks
+    purging view_checks viewing
     good_counts formatting
 opened = tt

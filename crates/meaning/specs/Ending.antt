@@ -68,7 +68,8 @@ committed_rec e t r x =
 -- Commit: the store after it, "all written values" of slot k saved at t and the edit ended
 unfoldable pub committed : Store → ℕ → ℕ → Store
 committed s k t =
-    with_edit (with_records s (map_from 0 (committed_rec (edit_at s k) t) s.records)) k (ended (edit_at s k) COMMITTED t)
+    with_edit (with_records s (map_from 0 (committed_rec (edit_at s k) t) s.records)) k
+    (ended (edit_at s k) COMMITTED t)
 
 -- Abort, and "An empty set ends the edit as aborted": the store after it
 unfoldable pub aborted : Store → ℕ → Store

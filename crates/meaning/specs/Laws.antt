@@ -34,7 +34,8 @@ FirstBlockedIsLeast = (mode k : ℕ) (x : Rec) (low high : ℕ) → Proper x →
 -- low..high with A, or is denied
 abbrev pub LockTakesRun : Type 0
 LockTakesRun = (w : Extent) (k : ℕ) (x : Rec) (low high : ℕ) → Proper x → low ≤ high
-    → (lock_granted w k x low high ≡ true → LockTakes w k x low high (lock_from w k x low high) (lock_end w k x low high))
+    → (lock_granted w k x low high ≡ true → LockTakes w k x low high (lock_from w k x low high)
+    (lock_end w k x low high))
     × (lock_granted w k x low high ≡ false → LockDenied w k x low high)
 
 -- (a) "P stops before the first point write-locked by another owner, but needs at least tr + 1"

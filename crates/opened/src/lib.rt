@@ -5,7 +5,8 @@
 #![tactic(auto)]
 
 ghost use Rattle.std.specs.Prelude.{◌≡◌, true};
-ghost use Rattle.types.specs.Replies.{of_begin, of_write, of_lock, of_read, of_commit, of_abort, of_settle, of_purge, of_view};
+ghost use Rattle.types.specs.Replies.{of_begin, of_write, of_lock, of_read, of_commit, of_abort, of_settle, of_purge};
+ghost use Rattle.types.specs.Replies.{of_view};
 ghost use Rattle.types.specs.Replies.{of_answer};
 ghost use Rattle.meaning.specs.Edits.{beginning, writing};
 ghost use Rattle.meaning.specs.Locking.{locking, reading};

@@ -74,7 +74,8 @@ module _ (c : Counts) (w : List ℕ) (r v : ℕ) (W : Well c w) (here : r < c.re
 
     pub at_floor : v ≤ f → Makes c (purge_to s r v) w w (purged 0 0)
     at_floor l =
-        makes_done c w (purge_to s r v) w s (purged 0 0) W refl (PurgeExits.purge_at_floor s r v (rw floor_is at l)) refl
+        makes_done c w (purge_to s r v) w s (purged 0 0) W refl
+        (PurgeExits.purge_at_floor s r v (rw floor_is at l)) refl
 
     module _ (l : f < v) (q : Bool) (eq : q ≡ locked_below v (record_at c w r).locks) where
       locked_is : (b : Bool) → q ≡ b → locked_below v x.locks ≡ b

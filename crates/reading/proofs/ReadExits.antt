@@ -126,7 +126,8 @@ module _ (s : Store) (k r m : ℕ) (w : Extent) where
         → read_new s k r m w ≡ read_taken s k r from end (read_version s r m)
     unfolding read_grant read_taken
     read_granted_is from end e =
-        let g = grant_taken read_granted_lem (read_from s r m) (read_end s k r m w) read_first_judged from end (sym e) in
+        let g = grant_taken read_granted_lem (read_from s r m) (read_end s k r m w) read_first_judged
+        from end (sym e) in
         let v = read_version s r m in
         read_above
         ∙ else_holds s read_made read_granted_lem (judge s r READ k read_blocked_at) read_rooms g.0

@@ -106,7 +106,8 @@ module _ (c : Counts) (w : List ℕ) (R : Ready c w) (k r m : ℕ) (x : Extent) 
     pub version_below : v.point + 1 ≤ m
     version_below =
         let i = floor_is in
-        let b = (read_at_lem (decode_at c w).edits r (rec_at (decode_at c w) r) ((facts c w R).recs r) m (omega arith)).below in
+        let b = (read_at_lem (decode_at c w).edits r (rec_at (decode_at c w) r) ((facts c w R).recs r) m
+        (omega arith)).below in
         omega (arith, ap (λ (y : Version). y.point) version_is)
 
     module _ (g : Grant) (d : g ≡ read_grant x (decode_at c w) k r (v.point + 1) m) where
@@ -161,7 +162,8 @@ module _ (c : Counts) (w : List ℕ) (R : Ready c w) (k r m : ℕ) (x : Extent) 
     opened_new w' q g M = makes_as c w (read_first (decode_at c w) k r m x a access_is f (omega arith)) M
 
 -- the call: its word n is the point m
-module _ (c : Counts) (w : List ℕ) (hs : sound_words (lent w) ≡ true) (e : c ≡ counts_of w) (h r m : ℕ) (x : Extent) where
+module _ (c : Counts) (w : List ℕ) (hs : sound_words (lent w) ≡ true) (e : c ≡ counts_of w)
+    (h r m : ℕ) (x : Extent) where
   abbrev Ends : List ℕ → Reply → Type 0
   Ends w' q = Acts (reading h r m x) (lent w) (lent w') q
 

@@ -1,7 +1,7 @@
 // Read on sound words: equal to its definition in the crate `meaning`, and leaving sound words. For callers who prove
-// the words sound (`requires sound_words`), as the calls of `calls`. It goes along the edit's accesses, unless the index
-// says that the record is new to it, and along one record's versions and locks. Rests on the crates `types`, `meaning`,
-// `chains`, `tables`, `changes`, `slots`, `lookups`, `blocking`, `index` and `calls`.
+// the words sound (`requires sound_words`), as the calls of `calls`. It goes along the edit's accesses, unless the
+// index says that the record is new to it, and along one record's versions and locks. Rests on the crates `types`,
+// `meaning`, `chains`, `tables`, `changes`, `slots`, `lookups`, `blocking`, `index` and `calls`.
 #![tactic(auto)]
 
 ghost use Rattle.std.specs.Prelude.{◌≡◌, true, ◌≤◌, ◌<◌};

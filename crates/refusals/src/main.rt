@@ -7,6 +7,7 @@
 use console::print_line;
 use fields::Parsed;
 use replies::Line;
+use std::io;
 use types::Call;
 
 // The store 2 3 4 8 8 in 122 words: where its parts begin.
@@ -56,105 +57,107 @@ fn performed(words: &mut [u64], call: Call) -> Line {
     rendering::line_of_answer(store::perform(words, call))
 }
 
-fn print_moved(a: &[u64; 122], b: &[u64; 122]) {
+fn print_moved(rt: &impl Print, a: &[u64; 122], b: &[u64; 122]) -> io::Result<()> {
     if console::moved(a, b) {
-        io::write_all(1, b", words moved");
+        rt.write_all(b", words moved")?;
     } else {
-        io::write_all(1, b", no word moved");
+        rt.write_all(b", no word moved")?;
     }
+    Ok(())
 }
 
 // Makes the call on a copy of the words, by its own function and by `perform`.
-fn make(state: [u64; 122], call: Call) {
+fn make(rt: &impl Print, state: [u64; 122], call: Call) -> io::Result<()> {
     let mut w = state;
     let reply = direct(&mut w, call);
-    print_line(reply);
-    print_moved(&state, &w);
+    print_line(rt, reply)?;
+    print_moved(rt, &state, &w)?;
     let mut v = state;
     let again = performed(&mut v, call);
-    io::write_all(1, b"; perform: ");
-    print_line(again);
-    print_moved(&state, &v);
+    rt.write_all(b"; perform: ")?;
+    print_line(rt, again)?;
+    print_moved(rt, &state, &v)
 }
 
 // The same on the empty slice.
-fn make_empty(call: Call) {
+fn make_empty(rt: &impl Print, call: Call) -> io::Result<()> {
     let mut w = [0u64; 0];
     let reply = direct(&mut w, call);
-    print_line(reply);
+    print_line(rt, reply)?;
     let mut v = [0u64; 0];
     let again = performed(&mut v, call);
-    io::write_all(1, b"; perform: ");
-    print_line(again);
+    rt.write_all(b"; perform: ")?;
+    print_line(rt, again)
 }
 
-fn make_on(state: [u64; 122], whole: bool, call: Call) {
+fn make_on(rt: &impl Print, state: [u64; 122], whole: bool, call: Call) -> io::Result<()> {
     if whole {
-        make(state, call);
+        make(rt, state, call)?;
     } else {
-        make_empty(call);
+        make_empty(rt, call)?;
     }
+    Ok(())
 }
 
-fn try_line(state: [u64; 122], whole: bool, line: &[u8]) {
-    io::write_all(1, line);
-    io::write_all(1, b": ");
+fn try_line(rt: &impl Print, state: [u64; 122], whole: bool, line: &[u8]) -> io::Result<()> {
+    rt.write_all(line)?;
+    rt.write_all(b": ")?;
     let parsed = lines::parse(line);
     match parsed {
-        Parsed::Call(call) => make_on(state, whole, call),
+        Parsed::Call(call) => make_on(rt, state, whole, call)?,
         Parsed::Format(_) => {}
         Parsed::Malformed => {}
     }
-    io::write_all(1, b"\n");
+    rt.write_all(b"\n")
 }
 
 // Every call, with both flags and every pick.
-fn try_lines(state: [u64; 122], whole: bool, text: &[u8]) {
-    io::write_all(1, text);
-    try_line(state, whole, b"B");
-    try_line(state, whole, b"W 129 1 5");
-    try_line(state, whole, b"L 129 1 4 9 A");
-    try_line(state, whole, b"L 129 1 4 9 P");
-    try_line(state, whole, b"R 129 1 6 A");
-    try_line(state, whole, b"R 129 1 6 P");
-    try_line(state, whole, b"C 129 E S");
-    try_line(state, whole, b"C 129 E K");
-    try_line(state, whole, b"C 129 L S");
-    try_line(state, whole, b"C 129 L K");
-    try_line(state, whole, b"C 129 8 S");
-    try_line(state, whole, b"C 129 8 K");
-    try_line(state, whole, b"A 129 S");
-    try_line(state, whole, b"A 129 K");
-    try_line(state, whole, b"S 66");
-    try_line(state, whole, b"P 0 7");
-    try_line(state, whole, b"V 0 8");
+fn try_lines(rt: &impl Print, state: [u64; 122], whole: bool, text: &[u8]) -> io::Result<()> {
+    rt.write_all(text)?;
+    try_line(rt, state, whole, b"B")?;
+    try_line(rt, state, whole, b"W 129 1 5")?;
+    try_line(rt, state, whole, b"L 129 1 4 9 A")?;
+    try_line(rt, state, whole, b"L 129 1 4 9 P")?;
+    try_line(rt, state, whole, b"R 129 1 6 A")?;
+    try_line(rt, state, whole, b"R 129 1 6 P")?;
+    try_line(rt, state, whole, b"C 129 E S")?;
+    try_line(rt, state, whole, b"C 129 E K")?;
+    try_line(rt, state, whole, b"C 129 L S")?;
+    try_line(rt, state, whole, b"C 129 L K")?;
+    try_line(rt, state, whole, b"C 129 8 S")?;
+    try_line(rt, state, whole, b"C 129 8 K")?;
+    try_line(rt, state, whole, b"A 129 S")?;
+    try_line(rt, state, whole, b"A 129 K")?;
+    try_line(rt, state, whole, b"S 66")?;
+    try_line(rt, state, whole, b"P 0 7")?;
+    try_line(rt, state, whole, b"V 0 8")
 }
 
 // The state: record 0 has a version at 7 with its settled lock, edit 129 in slot 1 has read it and holds 8..9, edit 66
 // in slot 2 has ended and is not settled, slot 3 is free.
 
-fn step(words: &mut [u64; 122], line: &[u8]) {
-    io::write_all(1, line);
-    io::write_all(1, b": ");
+fn step(rt: &impl Print, words: &mut [u64; 122], line: &[u8]) -> io::Result<()> {
+    rt.write_all(line)?;
+    rt.write_all(b": ")?;
     let parsed = lines::parse(line);
     match parsed {
-        Parsed::Call(call) => print_line(performed(words, call)),
-        Parsed::Format(c) => print_line(replies::line_of_format(format::format(words, c))),
+        Parsed::Call(call) => print_line(rt, performed(words, call))?,
+        Parsed::Format(c) => print_line(rt, replies::line_of_format(format::format(words, c)))?,
         Parsed::Malformed => {}
     }
-    io::write_all(1, b"\n");
+    rt.write_all(b"\n")
 }
 
-fn prepare(words: &mut [u64; 122]) {
-    step(words, b"F 2 3 4 8 8");
-    step(words, b"B");
-    step(words, b"L 65 0 7 7 A");
-    step(words, b"W 65 0 501");
-    step(words, b"C 65 E S");
-    step(words, b"B");
-    step(words, b"B");
-    step(words, b"R 129 0 9 A");
-    step(words, b"A 66 K");
+fn prepare(rt: &impl Print, words: &mut [u64; 122]) -> io::Result<()> {
+    step(rt, words, b"F 2 3 4 8 8")?;
+    step(rt, words, b"B")?;
+    step(rt, words, b"L 65 0 7 7 A")?;
+    step(rt, words, b"W 65 0 501")?;
+    step(rt, words, b"C 65 E S")?;
+    step(rt, words, b"B")?;
+    step(rt, words, b"B")?;
+    step(rt, words, b"R 129 0 9 A")?;
+    step(rt, words, b"A 66 K")
 }
 
 // The damages.
@@ -215,27 +218,27 @@ fn circle(state: [u64; 122], part: Part, head: usize) -> [u64; 122] {
     state
 }
 
-fn try_circles(state: [u64; 122]) {
+fn try_circles(rt: &impl Print, state: [u64; 122]) -> io::Result<()> {
     let w = circle(state, Part::Versions, RECORDS + tables::R_VERSION);
-    try_lines(w, true, b"-- the versions of record 0 in a circle\n");
+    try_lines(rt, w, true, b"-- the versions of record 0 in a circle\n")?;
     let w = circle(state, Part::Locks, RECORDS + tables::R_LOCK);
-    try_lines(w, true, b"-- the locks of record 0 in a circle\n");
+    try_lines(rt, w, true, b"-- the locks of record 0 in a circle\n")?;
     let w = circle(state, Part::Accesses, SLOTS + tables::S_ACCESS);
-    try_lines(w, true, b"-- the accesses of slot 1 in a circle\n");
+    try_lines(rt, w, true, b"-- the accesses of slot 1 in a circle\n")?;
     let w = circle(state, Part::Versions, tables::FREE_VERSION);
-    try_lines(w, true, b"-- the free version rows in a circle\n");
+    try_lines(rt, w, true, b"-- the free version rows in a circle\n")?;
     let w = circle(state, Part::Locks, tables::FREE_LOCK);
-    try_lines(w, true, b"-- the free lock rows in a circle\n");
+    try_lines(rt, w, true, b"-- the free lock rows in a circle\n")?;
     let w = circle(state, Part::Accesses, tables::FREE_ACCESS);
-    try_lines(w, true, b"-- the free access rows in a circle\n");
+    try_lines(rt, w, true, b"-- the free access rows in a circle\n")
 }
 
-fn main() {
+fn main(rt: HostRuntime) -> io::Result<()> {
     let mut state = [0u64; 122];
-    prepare(&mut state);
-    try_lines(state, true, b"-- the sound store\n");
+    prepare(&rt, &mut state)?;
+    try_lines(&rt, state, true, b"-- the sound store\n")?;
     let w = with_word(state, tables::H_RECORDS, 5000);
-    try_lines(w, true, b"-- record count 5000\n");
-    try_circles(state);
-    try_lines(state, false, b"-- the empty slice\n");
+    try_lines(&rt, w, true, b"-- record count 5000\n")?;
+    try_circles(&rt, state)?;
+    try_lines(&rt, state, false, b"-- the empty slice\n")
 }

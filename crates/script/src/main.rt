@@ -1,7 +1,8 @@
 // The script program: standard input has one call a line, and each line is answered by one line on standard output. It
-// runs the public calls of the store. It reads and writes in blocks, and its memory does not grow with the input. A read
-// or a write that fails ends it with that error. Rests on the crates `lines`, `gathering`, which makes lines of bytes, and
-// `answers`, which runs a line on the store. This file reads blocks; `output` collects what is to be written.
+// runs the public calls of the store. It reads and writes in blocks, and its memory does not grow with the input. A
+// read or a write that fails ends it with that error. Rests on the crates `lines`, `gathering`, which makes lines of
+// bytes, and `answers`, which runs a line on the store. This file reads blocks; `output` collects what is to be
+// written.
 #![tactic(auto)]
 
 ghost use Rattle.std.specs.Prelude.{length, IfOk};

@@ -58,12 +58,7 @@ fn append(
 }
 
 // Collects the line of a reply.
-pub fn put_line(
-    rt: &impl Print,
-    out: &mut [u8; BUFFER],
-    ready: usize,
-    l: Line,
-) -> io::Result<usize>
+pub fn put_line(rt: &impl Print, out: &mut [u8; BUFFER], ready: usize, l: Line) -> io::Result<usize>
     requires { ready ≤ BUFFER }
     ensures { IfOk result (λ end. end ≤ BUFFER) }
 {

@@ -66,7 +66,8 @@ module _ {c : Counts} {w : List ℕ} (W : Well c w) {k : ℕ} (l : IsRow c.edits
   }
 
   -- where there is room, a row was taken
-  module _ {w₁ : List ℕ} {i : ℕ} (t : Taken (access_heads c) w w₁ 0 i (Moved (access_table c) (access_heads c) w w₁ 0 k i))
+  module _ {w₁ : List ℕ} {i : ℕ} (t : Taken (access_heads c) w w₁ 0 i
+      (Moved (access_table c) (access_heads c) w w₁ 0 k i))
       (room : accesses_used (decode_at c w) < c.accesses) where
     access_moved : Moved (access_table c) (access_heads c) w w₁ 0 k i
     access_moved = let z : i ≡ 0 → ⊥ = λ e. free_access W room (sym t.head ∙ e) in t.done (omega arith)
@@ -125,13 +126,15 @@ module _ {c : Counts} {w : List ℕ} (W : Well c w) {k : ℕ} (l : IsRow c.edits
       add_access_law h e =
           rw (e, new_access (edit_at (decode_at c w) k) x h)
           (accesses_become W pushed.only k l pushed.parted pushed_marks
-          (pushed_others (access_at c (access_stored c w₁ i x)) (access_at c w) (λ y q n. (access_rest c pushed y q n).0))
+          (pushed_others (access_at c (access_stored c w₁ i x)) (access_at c w)
+          (λ y q n. (access_rest c pushed y q n).0))
           (pushed_here ∙ ap (λ y. x ∷ y) (sym (accesses_at c w k l))))
 
   -- all rows were sent to the free chain
   module _ {w' : List ℕ}
       (emptied : Changed (access_table c) (access_heads c) w w' k 0 []
-      (reverse_aux (rows_of (access_table c) (access_heads c) w k) (rows_of (access_table c) (access_heads c) w 0))) where
+      (reverse_aux (rows_of (access_table c) (access_heads c) w k)
+      (rows_of (access_table c) (access_heads c) w 0))) where
     emptied_rest : (x : ℕ) → IsRow c.accesses x → (access_at c w' x ≡ access_at c w x) × (marked c w' x ≡ marked c w x)
     unfolding access_at access_table
     emptied_rest x q =

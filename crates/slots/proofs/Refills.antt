@@ -53,7 +53,8 @@ module _ {c : Counts} {w : List ℕ} (W : Well c w) {k : ℕ} (l : IsRow c.edits
   unfolding access_rows access_table access_heads
   refill_row = on_chain (access_table c) (access_heads c) w W.accesses_parted_lem k l.high i on
 
-  module _ (x : Access) (same : (access_at c w i).rec ≡ x.rec) (once : names_once (edit_at (decode_at c w) k) ≡ true) where
+  module _ (x : Access) (same : (access_at c w i).rec ≡ x.rec)
+      (once : names_once (edit_at (decode_at c w) k) ≡ true) where
     refilled : Filled (access_table c) (access_heads c) w (access_stored c w i x) 0 k
         (rows_of (access_table c) (access_heads c) w 0) (rows_of (access_table c) (access_heads c) w k) i
     refilled =
@@ -135,5 +136,6 @@ module _ {c : Counts} {w : List ℕ} (W : Well c w) {k : ℕ} (l : IsRow c.edits
     change_access_law e =
         rw (e, old_access (edit_at (decode_at c w) k) x named)
         (accesses_become W refilled.only k l refilled.parted refilled_marks
-        (refilled_others (access_at c (access_stored c w i x)) (access_at c w) (λ y q n. (access_rest c refilled y q n).0))
+        (refilled_others (access_at c (access_stored c w i x)) (access_at c w)
+        (λ y q n. (access_rest c refilled y q n).0))
         (refilled_here ∙ ap (map (λ b. cond (is_of x.rec b) x b)) (sym (accesses_at c w k l))))

@@ -15,7 +15,8 @@ use Rattle.meaning.proofs.Lists.{and_in, and_left, and_right, every_at, not_both
 use Rattle.tables.specs.Layout as Layout
 use Rattle.tables.specs.Layout.{HEADER, header_ok, Fits}
 use Rattle.tables.specs.Decode.{records_of, edits_of, decode_at}
-use Rattle.tables.specs.Words.{versions_parted, locks_parted, accesses_parted, locks_named, marks_listed, Well, lent, decode}
+use Rattle.tables.specs.Words.{versions_parted, locks_parted, accesses_parted, locks_named, marks_listed, Well, lent}
+use Rattle.tables.specs.Words.{decode}
 use Rattle.tables.specs.Words.{formed_at, formed, sound_words}
 use Rattle.tables.proofs.Bridge.{well_at}
 use Rattle.tables.proofs.Header.{header_fits}
@@ -29,7 +30,8 @@ use Rattle.meaning.proofs.Lists.{both}
 -- the clauses on the words: those on the three tables' chains are tested together, then the others
 pub formed_together : (c : Counts) (w : List ℕ) {q : Bool}
     → q
-    ≡ ((versions_parted c w && (locks_parted c w && accesses_parted c w)) && (locks_named c w && (marks_listed c w && true)))
+    ≡ ((versions_parted c w && (locks_parted c w && accesses_parted c w))
+    && (locks_named c w && (marks_listed c w && true)))
     → q ≡ formed_at c w
 unfolding formed_at
 formed_together c w e =

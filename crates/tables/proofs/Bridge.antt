@@ -21,7 +21,8 @@ module _ (c : Counts) (w : List ℕ) where
   unfolding formed_at versions_parted locks_parted accesses_parted locks_named marks_listed
   well_at f e =
       let at =
-      every_at (versions_parted c w ∷ locks_parted c w ∷ accesses_parted c w ∷ locks_named c w ∷ marks_listed c w ∷ []) e in
+      every_at (versions_parted c w ∷ locks_parted c w ∷ accesses_parted c w ∷ locks_named c w ∷ marks_listed c w ∷ [])
+      e in
       record {
         fits = f;
         versions_parted_lem = at 0;
@@ -31,7 +32,8 @@ module _ (c : Counts) (w : List ℕ) where
         marks = λ k p q. marks_at (at 4) k p q;
       }
     where
-      marks_at : marks_listed c w ≡ true → (k : ℕ) → 1 ≤ k → k ≤ c.edits → all_of (marked c w) (access_rows c w k) ≡ true
+      marks_at : marks_listed c w ≡ true → (k : ℕ) → 1 ≤ k → k ≤ c.edits
+          → all_of (marked c w) (access_rows c w k) ≡ true
       marks_at h zero p q = absurd (omega arith)
       marks_at h (suc k) p q = all_at (λ k. all_of (marked c w) (access_rows c w (suc k))) c.edits k h (omega arith)
 

@@ -85,7 +85,8 @@ module _ (c : Counts) (i o : ℕ) where
 
 -- the bases rise
 pub bases : (c : Counts)
-    → (HEADER ≤ slot_base c) × (slot_base c ≤ version_base c) × (version_base c ≤ lock_base c) × (lock_base c ≤ access_base c)
+    → (HEADER ≤ slot_base c) × (slot_base c ≤ version_base c) × (version_base c ≤ lock_base c)
+    × (lock_base c ≤ access_base c)
     × (access_base c ≤ size_of c)
 unfolding slot_base version_base lock_base access_base size_of
 bases c = (omega arith, omega arith, omega arith, omega arith, omega arith)
@@ -105,7 +106,8 @@ module _ (c : Counts) (k : ℕ) where
   access_head = omega arith
 
 -- Words that have the counts of others
-pub counts_same : (w w' : List ℕ) → ((p : ℕ) → p ≤ H_ACCESSES → get_or w' p 0 ≡ get_or w p 0) → counts_of w' ≡ counts_of w
+pub counts_same : (w w' : List ℕ) → ((p : ℕ) → p ≤ H_ACCESSES → get_or w' p 0 ≡ get_or w p 0)
+    → counts_of w' ≡ counts_of w
 unfolding counts_of
 counts_same w w' e =
     rw (

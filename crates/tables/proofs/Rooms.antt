@@ -54,7 +54,8 @@ module _ (c : Counts) (w : List ℕ) where
 module _ {c : Counts} {w : List ℕ} (W : Well c w) where
   pub free_version : versions_used (decode_at c w) < c.versions → head_of (version_heads c) w 0 ≡ 0 → ⊥
   unfolding version_table
-  free_version l = free_row (version_table c) (version_heads c) w W.versions_parted_lem (omega (arith, versions_used_lem c w))
+  free_version l = free_row (version_table c) (version_heads c) w W.versions_parted_lem
+      (omega (arith, versions_used_lem c w))
 
   pub free_lock : locks_used (decode_at c w) < c.locks → head_of (lock_heads c) w 0 ≡ 0 → ⊥
   unfolding lock_table
@@ -62,7 +63,8 @@ module _ {c : Counts} {w : List ℕ} (W : Well c w) where
 
   pub free_access : accesses_used (decode_at c w) < c.accesses → head_of (access_heads c) w 0 ≡ 0 → ⊥
   unfolding access_table
-  free_access l = free_row (access_table c) (access_heads c) w W.accesses_parted_lem (omega (arith, accesses_used_lem c w))
+  free_access l = free_row (access_table c) (access_heads c) w W.accesses_parted_lem
+      (omega (arith, accesses_used_lem c w))
 
   -- the clauses of soundness that well-formed words meet by themselves
   pub rows_fit_lem : rows_fit (decode_at c w) ≡ true
@@ -73,7 +75,8 @@ module _ {c : Counts} {w : List ℕ} (W : Well c w) where
       (and_in (le-leb (locks_used (decode_at c w)) c.locks
       (omega (arith, locks_used_lem c w, free_used (lock_table c) (lock_heads c) w W.locks_parted_lem)))
       (and_in (le-leb (accesses_used (decode_at c w)) c.accesses
-      (omega (arith, accesses_used_lem c w, free_used (access_table c) (access_heads c) w W.accesses_parted_lem))) refl))
+      (omega (arith, accesses_used_lem c w, free_used (access_table c) (access_heads c) w W.accesses_parted_lem)))
+      refl))
 
   pub counts_good : good_counts (counts_of (decode_at c w)) ≡ true
   counts_good = ap good_counts (counts_decoded c w) ∙ ranged_good c W.fits.ranged

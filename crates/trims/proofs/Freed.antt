@@ -45,7 +45,11 @@ module _ {c : Counts} (w : List ℕ) {w' : List ℕ} (r : ℕ) {n : ℕ} (l : r 
       let after : (rec_at (decode_at c w') r).versions ≡ f x.versions =
       ap (λ (s : Store). (rec_at s r).versions) b.means
       ∙ ap (λ (y : Rec). y.versions) (rec_there c w r (with_versions x (f x.versions)) l) in
-      record { becomes = b; number = omega (arith, e, version_rows_lem c r l w, version_rows_lem c r l w', ap length after) }
+      record {
+        becomes = b;
+        number = omega
+            (arith, e, version_rows_lem c r l w, version_rows_lem c r l w', ap length after);
+      }
 
   pub frees_locks : {f : List Lock → List Lock} → Lost (lock_table c) (lock_heads c) w (suc r) w' n
       → Becomes c w' (on_locks (decode_at c w) r f) → FreesLocks c w w' r f n

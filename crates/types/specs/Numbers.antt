@@ -5,7 +5,8 @@ use Rattle.types.specs.Replies.{Reply, point, refusing}
 
 -- "Point makes a point of a reading and a seat; it needs no store." 6: "reading, seat ... too large"
 abbrev pub pointing : ℕ → ℕ → Reply
-pointing reading seat = cond (nat_lt reading READINGS && nat_lt seat SEATS) (point (reading * SEATS + seat)) (refusing 6 [])
+pointing reading seat = cond (nat_lt reading READINGS && nat_lt seat SEATS) (point (reading * SEATS + seat))
+    (refusing 6 [])
 
 -- "An edit's handle is generation × 64 + slot"
 abbrev pub handle : ℕ → ℕ → ℕ

@@ -9,7 +9,8 @@ ghost use Rattle.chains.specs.Walk.{IsRow};
 ghost use Rattle.chains.specs.Change.{Ready, Taken, InsertedSorted};
 ghost use Rattle.types.specs.Limits.{MAX_EDITS};
 ghost use Rattle.tables.specs.Layout.{SLOT, VERSION, LOCK, ACCESS, record_table, slot_table, version_table};
-ghost use Rattle.tables.specs.Layout.{lock_table, access_table, version_heads, lock_heads, Fits, V_POINT, MODES, R_FLOOR};
+ghost use Rattle.tables.specs.Layout.{lock_table, access_table, version_heads, lock_heads, Fits, V_POINT, MODES};
+ghost use Rattle.tables.specs.Layout.{R_FLOOR};
 ghost use Rattle.tables.specs.Layout.{S_STATE, S_GENERATION, S_POINT, L_LOW};
 ghost use Rattle.writes.specs.Rows.{lock_tag, written_mark, version_stored, lock_stored, access_stored};
 

@@ -9,7 +9,8 @@ use Rattle.blocking.proofs.first_free.Given as goal
 
 abbrev pub invariant-loop-c : goal.invariant-loop-c
 invariant-loop-c l =
-    Turns (stops l.high) (further l.mine l.mode l.k l.high) (reach l.mine l.mode l.k l.high) (lock_at l.c l.w) (link (lock_table l.c) l.w) l.n
+    Turns (stops l.high) (further l.mine l.mode l.k l.high) (reach l.mine l.mode l.k l.high) (lock_at l.c l.w)
+    (link (lock_table l.c) l.w) l.n
     (reach l.mine l.mode l.k l.high l.low (record_at l.c l.w l.r).locks) l.end l.cur l.left
 
 abbrev pub decreases-loop-c : goal.decreases-loop-c

@@ -22,12 +22,14 @@ is_open-requires c =
 
 pub returns-then-not-is_open : goal.returns-then-not-is_open
 returns-then-not-is_open c =
-    wrote_ended _ _ c.requires.0 c.counts_of-c.ensures _ _ _ (on c.known.ensures c.if-not-known.false) (off c.is_open.ensures c.if-not-is_open.true)
+    wrote_ended _ _ c.requires.0 c.counts_of-c.ensures _ _ _ (on c.known.ensures c.if-not-known.false)
+    (off c.is_open.ensures c.if-not-is_open.true)
 
 pub returns-then-not-has_record : goal.returns-then-not-has_record
 returns-then-not-has_record c =
     wrote_no_record _ _ c.requires.0 c.counts_of-c.ensures _ _ _ (on
-    c.known.ensures c.if-not-known.false) (on c.is_open.ensures c.if-not-is_open.false) (off c.has_record.ensures c.if-not-has_record.true)
+    c.known.ensures c.if-not-known.false) (on c.is_open.ensures c.if-not-is_open.false)
+    (off c.has_record.ensures c.if-not-has_record.true)
 
 pub write_open-requires : goal.write_open-requires
 write_open-requires c = (
@@ -40,5 +42,6 @@ write_open-requires c = (
 
 pub returns : goal.returns
 returns c =
-    wrote _ _ c.requires.0 c.counts_of-c.ensures _ _ _ (on c.known.ensures c.if-not-known.false) (on c.is_open.ensures c.if-not-is_open.false)
+    wrote _ _ c.requires.0 c.counts_of-c.ensures _ _ _ (on c.known.ensures c.if-not-known.false)
+    (on c.is_open.ensures c.if-not-is_open.false)
     (on c.has_record.ensures c.if-not-has_record.false) _ _ _ c.slot.ensures c.write_open.ensures

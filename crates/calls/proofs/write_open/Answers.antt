@@ -18,7 +18,8 @@ access_room-requires c = c.requires.0.well
 
 pub returns-then-not-access_room : goal.returns-then-not-access_room
 returns-then-not-access_room c =
-    open_no_room _ _ c.requires.0 _ _ _ (off (c.access_room.ensures c.args.k c.args.rec c.requires.1 c.access_row-i.ensures) c.if-not-access_room.true)
+    open_no_room _ _ c.requires.0 _ _ _
+    (off (c.access_room.ensures c.args.k c.args.rec c.requires.1 c.access_row-i.ensures) c.if-not-access_room.true)
 
 pub access_in-a-requires : goal.access_in-a-requires
 access_in-a-requires c = (
@@ -39,4 +40,5 @@ set_access-requires c = (
 pub returns : goal.returns
 returns c =
     open_wrote _ _ c.requires.0 _ _ _ c.requires.1 (on (c.access_room.ensures c.args.k
-    c.args.rec c.requires.1 c.access_row-i.ensures) c.if-not-access_room.false) _ (c.access_in-a.ensures c.args.k c.access_row-i.ensures) _ c.set_access.ensures
+    c.args.rec c.requires.1 c.access_row-i.ensures) c.if-not-access_room.false) _
+    (c.access_in-a.ensures c.args.k c.access_row-i.ensures) _ c.set_access.ensures

@@ -23,19 +23,23 @@ is_open-requires c =
 
 pub returns-then-not-is_open : goal.returns-then-not-is_open
 returns-then-not-is_open c =
-    commit_too_late _ _ c.requires.0 c.counts_of-c.ensures _ _ _ (on c.known.ensures c.if-not-known.false) (off c.is_open.ensures c.if-not-is_open.true)
+    commit_too_late _ _ c.requires.0 c.counts_of-c.ensures _ _ _ (on c.known.ensures c.if-not-known.false)
+    (off c.is_open.ensures c.if-not-is_open.true)
 
 pub returns-then-not-good_pick : goal.returns-then-not-good_pick
 returns-then-not-good_pick c =
     commit_bad_point _ _ c.requires.0 c.counts_of-c.ensures _ _ _ (on
-    c.known.ensures c.if-not-known.false) (on c.is_open.ensures c.if-not-is_open.false) (off c.good_pick.ensures c.if-not-good_pick.true)
+    c.known.ensures c.if-not-known.false) (on c.is_open.ensures c.if-not-is_open.false)
+    (off c.good_pick.ensures c.if-not-good_pick.true)
 
 pub commit_open-requires : goal.commit_open-requires
 commit_open-requires c =
-    with_index (open_needs _ _ c.requires.0 c.counts_of-c.ensures _ (on c.known.ensures c.if-not-known.false) (on c.is_open.ensures c.if-not-is_open.false) _ c.slot.ensures)
+    with_index (open_needs _ _ c.requires.0 c.counts_of-c.ensures _ (on c.known.ensures c.if-not-known.false)
+    (on c.is_open.ensures c.if-not-is_open.false) _ c.slot.ensures)
     (indexed_at _ _ c.counts_of-c.ensures c.requires.1)
 
 pub returns : goal.returns
 returns c =
-    commit_acts _ _ c.requires.0 c.counts_of-c.ensures _ _ _ (on c.known.ensures c.if-not-known.false) (on c.is_open.ensures c.if-not-is_open.false)
+    commit_acts _ _ c.requires.0 c.counts_of-c.ensures _ _ _ (on c.known.ensures c.if-not-known.false)
+    (on c.is_open.ensures c.if-not-is_open.false)
     (on c.good_pick.ensures c.if-not-good_pick.false) _ c.slot.ensures _ _ c.commit_open.ensures

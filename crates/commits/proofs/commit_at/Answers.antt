@@ -14,11 +14,13 @@ version_room-requires c = (
 
 pub returns-then-not-version_room : goal.returns-then-not-version_room
 returns-then-not-version_room c =
-    at_full c.args.c c.args.w.now c.args.k c.requires.0 c.requires.1 c.args.finish c.args.t (off c.version_room.ensures c.if-not-version_room.true)
+    at_full c.args.c c.args.w.now c.args.k c.requires.0 c.requires.1 c.args.finish c.args.t
+    (off c.version_room.ensures c.if-not-version_room.true)
 
 pub save_versions-requires : goal.save_versions-requires
 save_versions-requires c =
-    save_needs c.args.c c.args.w.now c.args.k c.requires.0 c.requires.1 c.args.t c.requires.2 (on c.version_room.ensures c.if-not-version_room.false)
+    save_needs c.args.c c.args.w.now c.args.k c.requires.0 c.requires.1 c.args.t c.requires.2
+    (on c.version_room.ensures c.if-not-version_room.false)
 
 pub set_state-requires : goal.set_state-requires
 set_state-requires c = (
@@ -28,13 +30,16 @@ set_state-requires c = (
 
 pub finish_slot-requires : goal.finish_slot-requires
 finish_slot-requires c =
-    with_index (committed_ready c.args.c c.args.w.now c.args.k c.requires.0 c.requires.1 c.args.t c.requires.2 (on c.version_room.ensures c.if-not-version_room.false) _
-    _ c.save_versions.ensures c.set_state.ensures) (ended_indexed _ _ _ COMMITTED c.args.t (saved_indexed _ _ _ c.args.t c.requires.3
+    with_index (committed_ready c.args.c c.args.w.now c.args.k c.requires.0 c.requires.1 c.args.t c.requires.2
+    (on c.version_room.ensures c.if-not-version_room.false) _
+    _ c.save_versions.ensures c.set_state.ensures)
+    (ended_indexed _ _ _ COMMITTED c.args.t (saved_indexed _ _ _ c.args.t c.requires.3
     c.save_versions.ensures) c.set_state.ensures)
 
 pub returns : goal.returns
 returns c =
     at_done c.args.c c.args.w.now c.args.k c.requires.0 c.requires.1 c.args.finish c.args.t
-    (on c.version_room.ensures c.if-not-version_room.false) _ _ c.point_of_word.ensures (committed_ends c.args.c c.args.w.now c.args.k
+    (on c.version_room.ensures c.if-not-version_room.false) _ _ c.point_of_word.ensures
+    (committed_ends c.args.c c.args.w.now c.args.k
     c.requires.0 c.requires.1 c.args.t c.requires.2 (on c.version_room.ensures c.if-not-version_room.false) _ _
     c.save_versions.ensures c.set_state.ensures c.args.finish _ c.finish_slot.ensures)

@@ -16,16 +16,19 @@ no_point-requires c = (
 
 pub returns-then-t-gt-LAST : goal.returns-then-t-gt-LAST
 returns-then-t-gt-LAST c =
-    earliest_none c.args.c c.args.w.now c.args.k c.requires.0 c.requires.1 c.args.finish c.earliest-t.result _ _ c.earliest-t.ensures c.if-t-gt-LAST.true c.no_point.ensures
+    earliest_none c.args.c c.args.w.now c.args.k c.requires.0 c.requires.1 c.args.finish c.earliest-t.result _ _
+    c.earliest-t.ensures c.if-t-gt-LAST.true c.no_point.ensures
 
 pub commit_at-requires : goal.commit_at-requires
 commit_at-requires c = (
   c.requires.0,
   c.requires.1,
-  earliest_common c.args.c c.args.w.now c.args.k c.requires.0 c.requires.1 c.args.finish c.earliest-t.result c.args.w.now nopoint c.earliest-t.ensures c.if-t-gt-LAST.false,
+  earliest_common c.args.c c.args.w.now c.args.k c.requires.0 c.requires.1 c.args.finish c.earliest-t.result
+      c.args.w.now nopoint c.earliest-t.ensures c.if-t-gt-LAST.false,
   c.requires.2,
 )
 
 pub returns : goal.returns
 returns c =
-    earliest_some c.args.c c.args.w.now c.args.k c.requires.0 c.requires.1 c.args.finish c.earliest-t.result _ _ c.earliest-t.ensures c.if-t-gt-LAST.false c.commit_at.ensures
+    earliest_some c.args.c c.args.w.now c.args.k c.requires.0 c.requires.1 c.args.finish c.earliest-t.result _ _
+    c.earliest-t.ensures c.if-t-gt-LAST.false c.commit_at.ensures

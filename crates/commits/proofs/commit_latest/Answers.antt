@@ -16,16 +16,19 @@ no_point-requires c = (
 
 pub returns-then-t-eq0 : goal.returns-then-t-eq0
 returns-then-t-eq0 c =
-    latest_none c.args.c c.args.w.now c.args.k c.requires.0 c.requires.1 c.args.finish c.latest-t.result _ _ c.latest-t.ensures c.if-t-eq0.true c.no_point.ensures
+    latest_none c.args.c c.args.w.now c.args.k c.requires.0 c.requires.1 c.args.finish c.latest-t.result _ _
+    c.latest-t.ensures c.if-t-eq0.true c.no_point.ensures
 
 pub commit_at-requires : goal.commit_at-requires
 commit_at-requires c = (
   c.requires.0,
   c.requires.1,
-  latest_common c.args.c c.args.w.now c.args.k c.requires.0 c.requires.1 c.args.finish c.latest-t.result c.args.w.now nopoint c.latest-t.ensures c.if-t-eq0.false,
+  latest_common c.args.c c.args.w.now c.args.k c.requires.0 c.requires.1 c.args.finish c.latest-t.result c.args.w.now
+      nopoint c.latest-t.ensures c.if-t-eq0.false,
   c.requires.2,
 )
 
 pub returns : goal.returns
 returns c =
-    latest_some c.args.c c.args.w.now c.args.k c.requires.0 c.requires.1 c.args.finish c.latest-t.result _ _ c.latest-t.ensures c.if-t-eq0.false c.commit_at.ensures
+    latest_some c.args.c c.args.w.now c.args.k c.requires.0 c.requires.1 c.args.finish c.latest-t.result _ _
+    c.latest-t.ensures c.if-t-eq0.false c.commit_at.ensures

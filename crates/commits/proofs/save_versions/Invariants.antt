@@ -7,7 +7,9 @@ use Rattle.commits.proofs.save_versions.Given as goal
 
 abbrev pub invariant-loop-c : goal.invariant-loop-c
 invariant-loop-c l =
-    Along (saved_rec l.t) SaveNeed l.c (along (saved_rec l.t) (edit_at (decode_at l.c l.initial.w) l.k).accesses (decode_at l.c l.initial.w)) l.w l.cur l.left
+    Along (saved_rec l.t) SaveNeed l.c
+    (along (saved_rec l.t) (edit_at (decode_at l.c l.initial.w) l.k).accesses (decode_at l.c l.initial.w))
+    l.w l.cur l.left
 
 abbrev pub decreases-loop-c : goal.decreases-loop-c
 decreases-loop-c l = l.left

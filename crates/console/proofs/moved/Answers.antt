@@ -16,7 +16,8 @@ alike : {a b : List ℕ} → b ≡ a → Moved a b false
 alike s = record { none = λ e. s; some = λ e n. let z : ◌≡◌ {A = ℕ} 0 1 = cc in omega arith }
 
 -- one word further
-next : (a b : List ℕ) (i j : ℕ) → ((k : ℕ) → k < i → get_or b k 0 ≡ get_or a k 0) → get_or b i 0 ≡ get_or a i 0 → j < i + 1
+next : (a b : List ℕ) (i j : ℕ) → ((k : ℕ) → k < i → get_or b k 0 ≡ get_or a k 0)
+    → get_or b i 0 ≡ get_or a i 0 → j < i + 1
     → get_or b j 0 ≡ get_or a j 0
 next a b i j f e l = go (dec_le (j + 1) i)
   where

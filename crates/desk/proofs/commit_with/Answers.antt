@@ -9,12 +9,15 @@ returns-then-has_ended c =
 
 pub returns-in-Commit : goal.returns-in-Commit
 returns-in-Commit c =
-    commit_ended c.args.s (sym c.has_ended.ensures ∙ c.if-has_ended.false) _ c.named_point.ensures _ c.commit-reply.ensures _ _ c.in-Commit.is refl c.closed.ensures
+    commit_ended c.args.s (sym c.has_ended.ensures ∙ c.if-has_ended.false) _ c.named_point.ensures _
+    c.commit-reply.ensures _ _ c.in-Commit.is refl c.closed.ensures
 
 pub returns-in-NoPoint : goal.returns-in-NoPoint
 returns-in-NoPoint c =
-    commit_ended c.args.s (sym c.has_ended.ensures ∙ c.if-has_ended.false) _ c.named_point.ensures _ c.commit-reply.ensures _ _ c.in-NoPoint.is refl c.closed-in-NoPoint.ensures
+    commit_ended c.args.s (sym c.has_ended.ensures ∙ c.if-has_ended.false) _ c.named_point.ensures _
+    c.commit-reply.ensures _ _ c.in-NoPoint.is refl c.closed-in-NoPoint.ensures
 
 pub returns-in-Refused : goal.returns-in-Refused
 returns-in-Refused c =
-    commit_refused c.args.s (sym c.has_ended.ensures ∙ c.if-has_ended.false) _ c.named_point.ensures _ c.commit-reply.ensures _ c.in-Refused.is refl
+    commit_refused c.args.s (sym c.has_ended.ensures ∙ c.if-has_ended.false) _ c.named_point.ensures _
+    c.commit-reply.ensures _ c.in-Refused.is refl

@@ -9,8 +9,11 @@ returns-then-e-t c =
 pub returns-then-b-a : goal.returns-then-b-a
 returns-then-b-a c =
     cut_crossed c.args.s
-    _ _ _ _ _ _ _ _ c.word_of_point-t.ensures c.word_of_point-e.ensures c.word_of_point.ensures c.word_of_point-2.ensures c.later-a.ensures c.earlier-b.ensures c.if-b-a.true
+    _ _ _ _ _ _ _ _ c.word_of_point-t.ensures c.word_of_point-e.ensures c.word_of_point.ensures
+    c.word_of_point-2.ensures c.later-a.ensures c.earlier-b.ensures c.if-b-a.true
 
 pub returns : goal.returns
 returns c =
-    cut_rest c.args.s _ _ _ _ _ _ _ _ c.word_of_point-t.ensures c.word_of_point-e.ensures c.word_of_point.ensures c.word_of_point-2.ensures c.later-a.ensures c.earlier-b.ensures c.if-b-a.false c.point_of_word.result c.point_of_word-2.result c.point_of_word.ensures c.point_of_word-2.ensures
+    cut_rest c.args.s _ _ _ _ _ _ _ _ c.word_of_point-t.ensures c.word_of_point-e.ensures c.word_of_point.ensures
+    c.word_of_point-2.ensures c.later-a.ensures c.earlier-b.ensures c.if-b-a.false c.point_of_word.result
+    c.point_of_word-2.result c.point_of_word.ensures c.point_of_word-2.ensures

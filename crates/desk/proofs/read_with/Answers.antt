@@ -9,11 +9,13 @@ returns-then-has_ended c =
 
 pub returns-in-Left : goal.returns-in-Left
 returns-in-Left c =
-    read_left c.args.s _ (sym c.has_ended.ensures ∙ c.if-has_ended.false) _ c.read-reply.ensures _ _ _ c.in-Read.is _ c.cut-left.ensures _ c.in-Left.is
+    read_left c.args.s _ (sym c.has_ended.ensures ∙ c.if-has_ended.false) _ c.read-reply.ensures _ _ _ c.in-Read.is _
+    c.cut-left.ensures _ c.in-Left.is
 
 pub returns-in-Empty : goal.returns-in-Empty
 returns-in-Empty c =
-    read_emptied c.args.s _ (sym c.has_ended.ensures ∙ c.if-has_ended.false) _ c.read-reply.ensures _ _ _ c.in-Read.is _ c.cut-left.ensures _ _ c.in-Empty.is c.abort.ensures c.closed.ensures
+    read_emptied c.args.s _ (sym c.has_ended.ensures ∙ c.if-has_ended.false) _ c.read-reply.ensures _ _ _ c.in-Read.is _
+    c.cut-left.ensures _ _ c.in-Empty.is c.abort.ensures c.closed.ensures
 
 pub returns-in-Own : goal.returns-in-Own
 returns-in-Own c =

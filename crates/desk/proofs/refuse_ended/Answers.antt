@@ -8,8 +8,10 @@ returns-in-At c =
 
 pub returns-then-refusal_number-eq1 : goal.returns-then-refusal_number-eq1
 returns-then-refusal_number-eq1 c =
-    ended_one _ c.point_of_word.ensures _ c.view-reply.ensures _ c.in-Refused.is _ c.refusal_number.ensures c.if-refusal_number-eq1.true
+    ended_one _ c.point_of_word.ensures _ c.view-reply.ensures _ c.in-Refused.is _ c.refusal_number.ensures
+    c.if-refusal_number-eq1.true
 
 pub returns-else-refusal_number-eq1 : goal.returns-else-refusal_number-eq1
 returns-else-refusal_number-eq1 c =
-    ended_other _ c.point_of_word.ensures _ c.view-reply.ensures _ c.in-Refused.is _ c.refusal_number.ensures c.if-refusal_number-eq1.false
+    ended_other _ c.point_of_word.ensures _ c.view-reply.ensures _ c.in-Refused.is _ c.refusal_number.ensures
+    c.if-refusal_number-eq1.false

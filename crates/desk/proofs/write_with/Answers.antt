@@ -9,7 +9,8 @@ returns-then-has_ended c =
 
 pub returns-in-Locked : goal.returns-in-Locked
 returns-in-Locked c =
-    write_locked c.args.s _ _ (sym c.has_ended.ensures ∙ c.if-has_ended.false) _ c.lock-reply.ensures _ _ _ c.in-Locked.is c.write-stored.ensures
+    write_locked c.args.s _ _ (sym c.has_ended.ensures ∙ c.if-has_ended.false) _ c.lock-reply.ensures _ _ _
+    c.in-Locked.is c.write-stored.ensures
 
 pub returns-in-Refused : goal.returns-in-Refused
 returns-in-Refused c =

@@ -22,14 +22,17 @@ is_open-requires c =
 
 pub returns-then-not-is_open : goal.returns-then-not-is_open
 returns-then-not-is_open c =
-    abort_too_late _ _ c.requires.0 c.counts_of-c.ensures _ (on c.known.ensures c.if-not-known.false) _ (off c.is_open.ensures c.if-not-is_open.true)
+    abort_too_late _ _ c.requires.0 c.counts_of-c.ensures _ (on c.known.ensures c.if-not-known.false) _
+    (off c.is_open.ensures c.if-not-is_open.true)
 
 pub end_aborted-requires : goal.end_aborted-requires
 end_aborted-requires c =
     with_index (open_needs _ _ c.requires.0 c.counts_of-c.ensures _
-    (on c.known.ensures c.if-not-known.false) (on c.is_open.ensures c.if-not-is_open.false) _ c.slot.ensures) (indexed_at _ _ c.counts_of-c.ensures
+    (on c.known.ensures c.if-not-known.false) (on c.is_open.ensures c.if-not-is_open.false) _ c.slot.ensures)
+    (indexed_at _ _ c.counts_of-c.ensures
     c.requires.1)
 
 pub returns : goal.returns
 returns c =
-    abort_acts _ _ c.requires.0 c.counts_of-c.ensures _ (on c.known.ensures c.if-not-known.false) _ (on c.is_open.ensures c.if-not-is_open.false) _ c.slot.ensures _ c.end_aborted.ensures
+    abort_acts _ _ c.requires.0 c.counts_of-c.ensures _ (on c.known.ensures c.if-not-known.false) _
+    (on c.is_open.ensures c.if-not-is_open.false) _ c.slot.ensures _ c.end_aborted.ensures

@@ -12,7 +12,8 @@ set_state-requires c = (
 
 pub finish_slot-requires : goal.finish_slot-requires
 finish_slot-requires c =
-    with_index (aborted_ready c.args.c c.args.w.now c.args.k c.requires.0 c.requires.1 _ c.set_state.ensures) (ended_indexed _ _ _ ABORTED 0
+    with_index (aborted_ready c.args.c c.args.w.now c.args.k c.requires.0 c.requires.1 _ c.set_state.ensures)
+    (ended_indexed _ _ _ ABORTED 0
     c.requires.2 c.set_state.ensures)
 
 pub returns : goal.returns

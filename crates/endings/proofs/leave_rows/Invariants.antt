@@ -7,7 +7,9 @@ use Rattle.endings.proofs.leave_rows.Given as goal
 
 abbrev pub invariant-loop-c : goal.invariant-loop-c
 invariant-loop-c l =
-    Along (left_rec l.t) LeaveNeed l.c (along (left_rec l.t) (edit_at (decode_at l.c l.initial.w) l.k).accesses (decode_at l.c l.initial.w)) l.w l.cur l.left
+    Along (left_rec l.t) LeaveNeed l.c
+    (along (left_rec l.t) (edit_at (decode_at l.c l.initial.w) l.k).accesses (decode_at l.c l.initial.w))
+    l.w l.cur l.left
 
 abbrev pub decreases-loop-c : goal.decreases-loop-c
 decreases-loop-c l = l.left

@@ -33,4 +33,5 @@ settle_slot-requires c =
 
 pub returns : goal.returns
 returns c =
-    settle_acts _ _ c.requires.0 c.counts_of-c.ensures _ (on c.known.ensures c.if-not-known.false) (sym c.is_open.ensures ∙ c.if-is_open.false) _ c.slot.ensures _ c.settle_slot.ensures
+    settle_acts _ _ c.requires.0 c.counts_of-c.ensures _ (on c.known.ensures c.if-not-known.false)
+    (sym c.is_open.ensures ∙ c.if-is_open.false) _ c.slot.ensures _ c.settle_slot.ensures

@@ -25,7 +25,8 @@ pub leave_ended-requires : goal.leave_ended-requires
 leave_ended-requires c = (
   c.free_locks.ensures.well,
   slot_in_use c.args.c c.args.w.now c.args.k c.requires.1,
-  leave_needs c.args.c c.args.w.now c.args.k c.requires.0 c.requires.1 c.state_of-state.result c.point_of-t.result c.state_of-state.ensures c.point_of-t.ensures _ c.free_locks.ensures,
+  leave_needs c.args.c c.args.w.now c.args.k c.requires.0 c.requires.1 c.state_of-state.result c.point_of-t.result
+      c.state_of-state.ensures c.point_of-t.ensures _ c.free_locks.ensures,
 )
 
 pub free_slot-requires : goal.free_slot-requires
@@ -36,4 +37,5 @@ free_slot-requires c = (
 
 pub returns : goal.returns
 returns c =
-    slot_settled c.args.c c.args.w.now c.args.k c.requires.0 c.requires.1 c.state_of-state.result c.point_of-t.result c.state_of-state.ensures c.point_of-t.ensures _ c.free_locks.ensures _ _ c.leave_ended.ensures c.free_slot.ensures
+    slot_settled c.args.c c.args.w.now c.args.k c.requires.0 c.requires.1 c.state_of-state.result c.point_of-t.result
+    c.state_of-state.ensures c.point_of-t.ensures _ c.free_locks.ensures _ _ c.leave_ended.ensures c.free_slot.ensures

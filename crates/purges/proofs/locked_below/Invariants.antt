@@ -14,7 +14,8 @@ use Rattle.purges.proofs.locked_below.Given as goal
 
 abbrev pub invariant-loop-c : goal.invariant-loop-c
 invariant-loop-c s =
-    Walk (link (lock_table s.c) s.w) s.n (λ rs. any (λ l. not (is_owned SETTLED l) && leb l.low s.v) (map (lock_at s.c s.w) rs))
+    Walk (link (lock_table s.c) s.w) s.n
+    (λ rs. any (λ l. not (is_owned SETTLED l) && leb l.low s.v) (map (lock_at s.c s.w) rs))
     (any (λ l. not (is_owned SETTLED l) && leb l.low s.v) (record_at s.c s.w s.r).locks) s.cur s.left
 
 abbrev pub decreases-loop-c : goal.decreases-loop-c

@@ -23,20 +23,26 @@ is_open-requires c =
 
 pub returns-then-not-is_open : goal.returns-then-not-is_open
 returns-then-not-is_open c =
-    reads_ended _ _ c.requires.0 c.counts_of-c.ensures _ _ _ _ (on c.known.ensures c.if-not-known.false) (off c.is_open.ensures c.if-not-is_open.true)
+    reads_ended _ _ c.requires.0 c.counts_of-c.ensures _ _ _ _ (on c.known.ensures c.if-not-known.false)
+    (off c.is_open.ensures c.if-not-is_open.true)
 
 pub returns-then-not-has_record : goal.returns-then-not-has_record
 returns-then-not-has_record c =
     reads_no_record _ _ c.requires.0 c.counts_of-c.ensures _ _ _ _
-    (on c.known.ensures c.if-not-known.false) (on c.is_open.ensures c.if-not-is_open.false) (off c.has_record.ensures c.if-not-has_record.true)
+    (on c.known.ensures c.if-not-known.false) (on c.is_open.ensures c.if-not-is_open.false)
+    (off c.has_record.ensures c.if-not-has_record.true)
 
 pub returns-then-n-lt1 : goal.returns-then-n-lt1
 returns-then-n-lt1 c =
-    reads_zero _ _ c.requires.0 c.counts_of-c.ensures _ _ _ _ (on c.known.ensures c.if-not-known.false) (on c.is_open.ensures c.if-not-is_open.false) (on c.has_record.ensures c.if-not-has_record.false) _ c.word_of_point-n.ensures c.if-n-lt1.true
+    reads_zero _ _ c.requires.0 c.counts_of-c.ensures _ _ _ _ (on c.known.ensures c.if-not-known.false)
+    (on c.is_open.ensures c.if-not-is_open.false) (on c.has_record.ensures c.if-not-has_record.false) _
+    c.word_of_point-n.ensures c.if-n-lt1.true
 
 pub returns-then-n-gt-LAST : goal.returns-then-n-gt-LAST
 returns-then-n-gt-LAST c =
-    reads_too_large _ _ c.requires.0 c.counts_of-c.ensures _ _ _ _ (on c.known.ensures c.if-not-known.false) (on c.is_open.ensures c.if-not-is_open.false) (on c.has_record.ensures c.if-not-has_record.false) _ c.word_of_point-n.ensures c.if-n-lt1.false c.if-n-gt-LAST.true
+    reads_too_large _ _ c.requires.0 c.counts_of-c.ensures _ _ _ _ (on c.known.ensures c.if-not-known.false)
+    (on c.is_open.ensures c.if-not-is_open.false) (on c.has_record.ensures c.if-not-has_record.false) _
+    c.word_of_point-n.ensures c.if-n-lt1.false c.if-n-gt-LAST.true
 
 pub read_open-requires : goal.read_open-requires
 read_open-requires c = (
@@ -50,4 +56,6 @@ read_open-requires c = (
 
 pub returns : goal.returns
 returns c =
-    read_acts _ _ c.requires.0 c.counts_of-c.ensures _ _ _ _ (on c.known.ensures c.if-not-known.false) (on c.is_open.ensures c.if-not-is_open.false) (on c.has_record.ensures c.if-not-has_record.false) _ c.word_of_point-n.ensures c.if-n-lt1.false c.if-n-gt-LAST.false _ _ _ c.slot.ensures c.read_open.ensures
+    read_acts _ _ c.requires.0 c.counts_of-c.ensures _ _ _ _ (on c.known.ensures c.if-not-known.false)
+    (on c.is_open.ensures c.if-not-is_open.false) (on c.has_record.ensures c.if-not-has_record.false) _
+    c.word_of_point-n.ensures c.if-n-lt1.false c.if-n-gt-LAST.false _ _ _ c.slot.ensures c.read_open.ensures

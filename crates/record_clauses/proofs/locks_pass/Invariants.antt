@@ -11,7 +11,8 @@ use Rattle.record_clauses.proofs.locks_pass.Given as goal
 
 abbrev pub invariant-loop-c : goal.invariant-loop-c
 invariant-loop-c l =
-    Walk (link (lock_table l.c) l.w) l.n (λ rs. passing (lock_now (edits_of l.c l.w) l.floor) l.s (map (lock_at l.c l.w) rs))
+    Walk (link (lock_table l.c) l.w) l.n
+    (λ rs. passing (lock_now (edits_of l.c l.w) l.floor) l.s (map (lock_at l.c l.w) rs))
     (locks_pass (edits_of l.c l.w) (record_at l.c l.w l.r)) l.cur l.left
 
 abbrev pub decreases-loop-c : goal.decreases-loop-c

@@ -11,7 +11,8 @@ use Rattle.record_clauses.proofs.versions_backed.Given as goal
 
 abbrev pub invariant-loop-c : goal.invariant-loop-c
 invariant-loop-c l =
-    Walk (link (version_table l.c) l.w) l.n (λ rs. all (is_backed (edits_of l.c l.w) l.r (record_at l.c l.w l.r)) (map (version_at l.c l.w) rs))
+    Walk (link (version_table l.c) l.w) l.n
+    (λ rs. all (is_backed (edits_of l.c l.w) l.r (record_at l.c l.w l.r)) (map (version_at l.c l.w) rs))
     (all (is_backed (edits_of l.c l.w) l.r (record_at l.c l.w l.r)) (record_at l.c l.w l.r).versions) l.cur l.left
 
 abbrev pub decreases-loop-c : goal.decreases-loop-c

@@ -10,7 +10,8 @@ use Rattle.slot_clauses.proofs.accesses_sound.Given as goal
 
 abbrev pub invariant-loop-c : goal.invariant-loop-c
 invariant-loop-c l =
-    Walk (link (access_table l.c) l.w) l.n (λ rs. accesses_sound (records_of l.c l.w) l.k l.stamps (map (access_at l.c l.w) rs))
+    Walk (link (access_table l.c) l.w) l.n
+    (λ rs. accesses_sound (records_of l.c l.w) l.k l.stamps (map (access_at l.c l.w) rs))
     (accesses_sound (records_of l.c l.w) l.k l.initial.stamps (slot_at l.c l.w l.k).accesses) l.cur l.left
     × Stamps l.k l.stamps
 

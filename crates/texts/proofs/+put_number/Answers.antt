@@ -22,4 +22,5 @@ put-requires-2 t c =
 
 pub returns : goal.returns
 returns t c =
-    appended_as (appended_then c.put_number-i.ensures c.put-2.ensures) (sym (decimal_more c.args.n c.if-n-lt10.false)) refl
+    appended_as (appended_then c.put_number-i.ensures c.put-2.ensures)
+    (sym (decimal_more c.args.n c.if-n-lt10.false)) refl

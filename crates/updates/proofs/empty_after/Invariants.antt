@@ -7,7 +7,8 @@ use Rattle.updates.proofs.empty_after.Given as goal
 
 abbrev pub invariant-loop-t : goal.invariant-loop-t
 invariant-loop-t l =
-    (ks ys : List ℕ) → Split l.t l.h l.initial.w l.a l.p ks ys → TurnInv l.t l.h every_row l.initial.w l.a l.b ks ys l.w l.p l.cur l.left
+    (ks ys : List ℕ) → Split l.t l.h l.initial.w l.a l.p ks ys → TurnInv l.t l.h every_row l.initial.w l.a l.b ks
+    ys l.w l.p l.cur l.left
 
 abbrev pub decreases-loop-t : goal.decreases-loop-t
 decreases-loop-t l = l.left

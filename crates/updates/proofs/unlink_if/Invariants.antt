@@ -6,7 +6,8 @@ use Rattle.updates.proofs.unlink_if.Given as goal
 
 abbrev pub invariant-loop-t : goal.invariant-loop-t
 invariant-loop-t l =
-    TurnInv l.t l.h (holds l.t l.initial.w l.o l.v) l.initial.w l.a l.b [] (rows_of l.t l.h l.initial.w l.a) l.w l.place l.cur l.left
+    TurnInv l.t l.h (holds l.t l.initial.w l.o l.v) l.initial.w l.a l.b [] (rows_of l.t l.h l.initial.w l.a)
+    l.w l.place l.cur l.left
 
 abbrev pub decreases-loop-t : goal.decreases-loop-t
 decreases-loop-t l = l.left

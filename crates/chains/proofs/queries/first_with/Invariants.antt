@@ -6,7 +6,8 @@ use Rattle.chains.proofs.queries.first_with.Given as goal
 
 abbrev pub invariant-loop-t : goal.invariant-loop-t
 invariant-loop-t l =
-    FindInv (link l.t l.w) l.n (holds l.t l.w l.o l.v) (first_of (holds l.t l.w l.o l.v) (chain l.t l.w l.head)) l.cur l.left
+    FindInv (link l.t l.w) l.n (holds l.t l.w l.o l.v) (first_of (holds l.t l.w l.o l.v) (chain l.t l.w l.head))
+    l.cur l.left
 
 abbrev pub decreases-loop-t : goal.decreases-loop-t
 decreases-loop-t l = l.left

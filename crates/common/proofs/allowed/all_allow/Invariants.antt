@@ -11,7 +11,8 @@ use Rattle.common.proofs.allowed.all_allow.Given as goal
 
 abbrev pub invariant-loop-c : goal.invariant-loop-c
 invariant-loop-c l =
-    Walk (link (access_table l.c) l.w) l.n (λ rs. all (allows (records_of l.c l.w) l.k l.p) (map (access_at l.c l.w) rs))
+    Walk (link (access_table l.c) l.w) l.n
+    (λ rs. all (allows (records_of l.c l.w) l.k l.p) (map (access_at l.c l.w) rs))
     (all (allows (records_of l.c l.w) l.k l.p) (slot_at l.c l.w l.k).accesses) l.cur l.left
     × Named l.c l.w l.cur l.left
 

@@ -16,7 +16,8 @@ use Rattle.common.proofs.lifting.first_write.Given as goal
 abbrev pub invariant-loop-c : goal.invariant-loop-c
 invariant-loop-c s =
     Walk (link (lock_table s.c) s.w) s.n
-    (λ rs. least s.best (valued (starts_after s.low) (owns_write s.k) (λ (l : Lock). max s.low l.low) (map (lock_at s.c s.w) rs)))
+    (λ rs. least s.best (valued (starts_after s.low) (owns_write s.k) (λ (l : Lock). max s.low l.low)
+    (map (lock_at s.c s.w) rs)))
     (first_under (writes (own s.k (record_at s.c s.w s.r).locks)) s.low) s.cur s.left
 
 abbrev pub decreases-loop-c : goal.decreases-loop-c

@@ -1,8 +1,9 @@
--- `lines::parsing::commit` meets its contract: the fields are found one after another, and none is left; each missing one
--- ends in `Malformed`. Assumes nothing.
+-- `lines::parsing::commit` meets its contract: the fields are found one after another, and none is left; each missing
+-- one ends in `Malformed`. Assumes nothing.
 use Rattle.std.proofs.Common.{sym, ◌∙◌}
 use Rattle.lines.specs.Calls.{committing}
-use Rattle.fields.proofs.Found.{finish_at, finish_off, number_at, number_off, pick_at, pick_off, done_past, done_within, handle_is}
+use Rattle.fields.proofs.Found.{finish_at, finish_off, number_at, number_off, pick_at, pick_off, done_past, done_within}
+use Rattle.fields.proofs.Found.{handle_is}
 use Rattle.lines.proofs.parsing.commit.Goals as goal
 
 pub returns-in_default : goal.returns-in_default

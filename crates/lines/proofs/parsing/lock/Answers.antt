@@ -2,7 +2,8 @@
 -- ends in `Malformed`. Assumes nothing.
 use Rattle.std.proofs.Common.{sym, ◌∙◌}
 use Rattle.lines.specs.Calls.{locking}
-use Rattle.fields.proofs.Found.{extent_at, extent_off, number_at, number_off, done_past, done_within, handle_is, point_is}
+use Rattle.fields.proofs.Found.{extent_at, extent_off, number_at, number_off, done_past, done_within, handle_is}
+use Rattle.fields.proofs.Found.{point_is}
 use Rattle.lines.proofs.parsing.lock.Goals as goal
 
 pub returns-in_default : goal.returns-in_default
@@ -53,7 +54,12 @@ returns-then-end-line c =
 pub returns : goal.returns
 unfolding locking
 returns c =
-    rw (handle_is _ _ c.handle_of_word.ensures, point_is _ _ c.point_of_word.ensures, point_is _ _ c.point_of_word-2.ensures)
+    rw (
+      handle_is _ _ c.handle_of_word.ensures,
+      point_is _ _ c.point_of_word.ensures,
+      point_is _ _
+          c.point_of_word-2.ensures,
+    )
     (sym (number_at _ _ _ _ _ c.number.ensures c.in-At.is _
     ∙ number_at _ _ _ _ _ c.number-2.ensures c.in-At-number.is _
     ∙ number_at _ _ _ _ _ c.number-3.ensures c.in-At-number-2.is _

@@ -2,7 +2,8 @@
 -- ends in `Malformed`. Assumes nothing.
 use Rattle.std.proofs.Common.{sym, ◌∙◌}
 use Rattle.lines.specs.Calls.{reading}
-use Rattle.fields.proofs.Found.{extent_at, extent_off, number_at, number_off, done_past, done_within, handle_is, point_is}
+use Rattle.fields.proofs.Found.{extent_at, extent_off, number_at, number_off, done_past, done_within, handle_is}
+use Rattle.fields.proofs.Found.{point_is}
 use Rattle.lines.proofs.parsing.read.Goals as goal
 
 pub returns-in_default : goal.returns-in_default

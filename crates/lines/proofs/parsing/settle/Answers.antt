@@ -1,5 +1,5 @@
--- `lines::parsing::settle` meets its contract: the fields are found one after another, and none is left; each missing one
--- ends in `Malformed`. Assumes nothing.
+-- `lines::parsing::settle` meets its contract: the fields are found one after another, and none is left; each missing
+-- one ends in `Malformed`. Assumes nothing.
 use Rattle.std.proofs.Common.{sym, ◌∙◌}
 use Rattle.lines.specs.Calls.{settling}
 use Rattle.fields.proofs.Found.{number_at, number_off, done_past, done_within, handle_is}

@@ -13,7 +13,8 @@ use Rattle.lookups.proofs.free_rows.written_count.Given as goal
 
 abbrev pub invariant-loop-c : goal.invariant-loop-c
 invariant-loop-c l =
-    Walk (link (access_table l.c) l.w) l.n (λ rs. l.m + length (keep (λ (a : Access). a.written) (map (access_at l.c l.w) rs)))
+    Walk (link (access_table l.c) l.w) l.n
+    (λ rs. l.m + length (keep (λ (a : Access). a.written) (map (access_at l.c l.w) rs)))
     (length (written_of (slot_at l.c l.w l.k))) l.cur l.left
     × (l.m + l.left ≤ l.n)
 

@@ -11,7 +11,8 @@ use Rattle.record_clauses.proofs.lock_marks.mark_own.Given as goal
 
 abbrev pub invariant-loop-c : goal.invariant-loop-c
 invariant-loop-c l =
-    Walk (link (lock_table l.c) l.w) l.n (λ rs. mark_own l.c l.w l.k l.marks rs) (mark_own l.c l.w l.k l.initial.marks (lock_rows l.c l.w l.r)) l.cur l.left
+    Walk (link (lock_table l.c) l.w) l.n (λ rs. mark_own l.c l.w l.k l.marks rs)
+    (mark_own l.c l.w l.k l.initial.marks (lock_rows l.c l.w l.r)) l.cur l.left
     × (length l.marks ≡ MARKS)
 
 abbrev pub decreases-loop-c : goal.decreases-loop-c

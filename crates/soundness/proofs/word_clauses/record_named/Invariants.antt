@@ -10,7 +10,8 @@ use Rattle.soundness.proofs.word_clauses.record_named.Given as goal
 
 abbrev pub invariant-loop-c : goal.invariant-loop-c
 invariant-loop-c l =
-    AllInv (link (lock_table l.c) l.w) l.n (names_record l.c l.w l.r) (all_of (names_record l.c l.w l.r) (lock_rows l.c l.w l.r)) l.cur l.left
+    AllInv (link (lock_table l.c) l.w) l.n (names_record l.c l.w l.r)
+    (all_of (names_record l.c l.w l.r) (lock_rows l.c l.w l.r)) l.cur l.left
 
 abbrev pub decreases-loop-c : goal.decreases-loop-c
 decreases-loop-c l = l.left

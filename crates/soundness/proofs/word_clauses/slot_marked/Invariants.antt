@@ -10,7 +10,8 @@ use Rattle.soundness.proofs.word_clauses.slot_marked.Given as goal
 
 abbrev pub invariant-loop-c : goal.invariant-loop-c
 invariant-loop-c l =
-    AllInv (link (access_table l.c) l.w) l.n (marked l.c l.w) (all_of (marked l.c l.w) (access_rows l.c l.w l.k)) l.cur l.left
+    AllInv (link (access_table l.c) l.w) l.n (marked l.c l.w)
+    (all_of (marked l.c l.w) (access_rows l.c l.w l.k)) l.cur l.left
 
 abbrev pub decreases-loop-c : goal.decreases-loop-c
 decreases-loop-c l = l.left

@@ -1,0 +1,26 @@
+-- `run` meets its contract: after i turns the first i calls are done and told. The measure is what is left. Assumes
+-- nothing.
+use mathlib.Core.Path.{refl}
+use native.Mathlib.Omega.{arith}
+use Rattle.index.proofs.Unknown.{no_index, unknown_new}
+use Rattle.batch.proofs.run.Goals as goal
+
+pub steps-requires : goal.steps-requires
+steps-requires c = (
+  c.check-good.ensures,
+  c.least-n.ensures,
+  no_index _ (λ e. omega (arith, e)),
+)
+
+pub returns-then-n-lt-FEW : goal.returns-then-n-lt-FEW
+returns-then-n-lt-FEW c = c.steps.ensures
+
+pub steps-requires-2 : goal.steps-requires-2
+steps-requires-2 c = (
+  c.check-good.ensures,
+  c.least-n.ensures,
+  unknown_new _ refl,
+)
+
+pub returns : goal.returns
+returns c = c.steps-2.ensures

@@ -1,0 +1,51 @@
+use Prim.Native.Nat.{◌-◌}
+use mathlib.Core.Path.{refl}
+use native.Mathlib.Omega.{arith}
+use Rattle.batch.proofs.Running.{call_fits, reply_fits, run_start, run_again, run_done}
+use borrow.Author.Rules.{rules}
+use Rattle.batch.proofs.steps.Goals as goal
+
+pub loop-i-init : goal.loop-i-init
+loop-i-init c = (
+  run_start c.requires.0 c.requires.1,
+  c.requires.2,
+  refl,
+)
+
+pub step-requires : goal.step-requires
+step-requires c =
+    let r = c.loop-i.invariant.0 in (
+      r.sound,
+      call_fits r (omega arith),
+      reply_fits r
+          (omega arith),
+      c.loop-i.invariant.1,
+    )
+
+pub overflow_add-i : goal.overflow_add-i
+overflow_add-i c = omega arith
+
+pub loop-i-smaller : goal.loop-i-smaller
+loop-i-smaller c = omega arith
+
+pub loop-i-preserved : goal.loop-i-preserved
+loop-i-preserved c = (
+  run_again c.loop-i.invariant.0 (omega arith) (search rules) c.step.ensures.0,
+  c.step.ensures.1,
+  omega (
+    arith,
+    c.loop-i.invariant.2,
+  ),
+)
+
+pub shape_of-words : goal.shape_of-words
+shape_of-words c = c.loop-i.invariant.0.size
+
+pub shape_of-replies : goal.shape_of-replies
+shape_of-replies c = c.loop-i.invariant.0.told.size
+
+pub shape_of-ix : goal.shape_of-ix
+shape_of-ix c = c.loop-i.invariant.2
+
+pub returns : goal.returns
+returns c = run_done c.loop-i.invariant.0 (omega arith)
