@@ -1,0 +1,13 @@
+-- `zohetiwa_in_abort` meets its contract: the reply is that of the call, and it is told. Assumes nothing.
+use Rattle.codes.proofs.Telling.{answered}
+use Rattle.exports.proofs.in_session.zohetiwa_in_abort.Goals as goal
+
+pub abort-reply-requires : goal.abort-reply-requires
+abort-reply-requires c = c.requires
+
+pub returns : goal.returns
+returns c =
+    answered c.abort.ensures (rw (
+      c.handle_of_word.ensures,
+      c.finish.ensures,
+    ) at c.abort-reply.ensures)

@@ -1,0 +1,10 @@
+-- `zohetiwa_in_purge` meets its contract: the reply is that of the call, and it is told. Assumes nothing.
+use Rattle.codes.proofs.Telling.{answered}
+use Rattle.exports.proofs.in_session.zohetiwa_in_purge.Goals as goal
+
+pub purge-reply-requires : goal.purge-reply-requires
+purge-reply-requires c = c.requires
+
+pub returns : goal.returns
+returns c =
+    answered c.purge.ensures (rw c.point_of_word.ensures at c.purge-reply.ensures)

@@ -1,0 +1,14 @@
+-- `zohetiwa_in_read` meets its contract: the reply is that of the call, and it is told. Assumes nothing.
+use Rattle.codes.proofs.Telling.{answered}
+use Rattle.exports.proofs.in_session.zohetiwa_in_read.Goals as goal
+
+pub read-reply-requires : goal.read-reply-requires
+read-reply-requires c = c.requires
+
+pub returns : goal.returns
+returns c =
+    answered c.read.ensures (rw (
+      c.handle_of_word-h.ensures,
+      c.point_of_word-upto.ensures,
+      c.extent.ensures,
+    ) at c.read-reply.ensures)

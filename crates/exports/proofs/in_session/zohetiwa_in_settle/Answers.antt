@@ -1,0 +1,11 @@
+-- `zohetiwa_in_settle` meets its contract: the reply is that of the call, and it is told. Assumes nothing.
+use Rattle.codes.proofs.Telling.{answered}
+use Rattle.exports.proofs.in_session.zohetiwa_in_settle.Goals as goal
+
+pub settle-reply-requires : goal.settle-reply-requires
+settle-reply-requires c = c.requires
+
+pub returns : goal.returns
+returns c =
+    answered c.settle.ensures (rw c.handle_of_word.ensures at
+    c.settle-reply.ensures)

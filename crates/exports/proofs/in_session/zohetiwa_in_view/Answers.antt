@@ -1,0 +1,10 @@
+-- `zohetiwa_in_view` meets its contract: the reply is that of the call, and it is told. Assumes nothing.
+use Rattle.codes.proofs.Telling.{answered}
+use Rattle.exports.proofs.in_session.zohetiwa_in_view.Goals as goal
+
+pub view-reply-requires : goal.view-reply-requires
+view-reply-requires c = c.requires
+
+pub returns : goal.returns
+returns c =
+    answered c.view.ensures (rw c.point_of_word.ensures at c.view-reply.ensures)

@@ -1,0 +1,11 @@
+-- `zohetiwa_in_write` meets its contract: the reply is that of the call, and it is told. Assumes nothing.
+use Rattle.codes.proofs.Telling.{answered}
+use Rattle.exports.proofs.in_session.zohetiwa_in_write.Goals as goal
+
+pub write-reply-requires : goal.write-reply-requires
+write-reply-requires c = c.requires
+
+pub returns : goal.returns
+returns c =
+    answered c.write.ensures (rw c.handle_of_word.ensures at
+    c.write-reply.ensures)

@@ -1,0 +1,12 @@
+-- `zohetiwa_commit_earliest` meets its contract: the reply is that of the call, and it is told. Assumes nothing.
+use Rattle.codes.proofs.Telling.{answered}
+use Rattle.exports.proofs.zohetiwa_commit_earliest.Goals as goal
+
+pub returns : goal.returns
+returns c =
+    answered c.commit.ensures
+    (rw (
+      c.handle_of_word.ensures,
+      c.finish.ensures,
+    )
+    at c.commit-reply.ensures)

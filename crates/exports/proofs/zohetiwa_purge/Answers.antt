@@ -1,0 +1,10 @@
+-- `zohetiwa_purge` meets its contract: the reply is that of the call, and it is told. Assumes nothing.
+use Rattle.codes.proofs.Telling.{answered}
+use Rattle.exports.proofs.zohetiwa_purge.Goals as goal
+
+pub returns : goal.returns
+returns c =
+    answered c.purge.ensures
+    (rw
+    c.point_of_word.ensures
+    at c.purge-reply.ensures)

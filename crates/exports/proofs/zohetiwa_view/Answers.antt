@@ -1,0 +1,10 @@
+-- `zohetiwa_view` meets its contract: the reply is that of the call, and it is told. Assumes nothing.
+use Rattle.codes.proofs.Telling.{answered}
+use Rattle.exports.proofs.zohetiwa_view.Goals as goal
+
+pub returns : goal.returns
+returns c =
+    answered c.view.ensures
+    (rw
+    c.point_of_word.ensures
+    at c.view-reply.ensures)

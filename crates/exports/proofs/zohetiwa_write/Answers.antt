@@ -1,0 +1,8 @@
+-- `zohetiwa_write` meets its contract: the reply is that of the call, and it is told. Assumes nothing.
+use Rattle.codes.proofs.Telling.{answered}
+use Rattle.exports.proofs.zohetiwa_write.Goals as goal
+
+pub returns : goal.returns
+returns c =
+    answered c.write.ensures
+    (rw c.handle_of_word.ensures at c.write-reply.ensures)
