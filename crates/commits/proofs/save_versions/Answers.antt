@@ -60,5 +60,7 @@ shape_of-w c =
       c.requires.0.fits.size,
     )
 
+-- Where the walk has ended no row is left,
+-- and what it was to do along the rows is done.
 pub returns : goal.returns
 returns c = along_end _ _ _ c.loop-c.invariant c.more.ensures c.loop-c-test.false
