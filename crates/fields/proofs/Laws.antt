@@ -6,7 +6,7 @@ use mathlib.Core.List.{List, [], ◌∷◌, ◌++◌}
 use native.Mathlib.Omega.{arith}
 use borrow.Author.Tests.{le-leb, eqb-true, ltb-true, ltb-false}
 use lib.ListN.{get_or}
-use lib.Dec.{leb, eqb, ltb}
+use lib.Dec.{eqb, ltb}
 use Rattle.texts.specs.Text.{SPACE, LARGEST}
 use Rattle.fields.specs.Fields.{first, others, is_digit, digits, value, nonempty}
 use Rattle.texts.specs.Parts.{decimal}

@@ -1,6 +1,7 @@
+-- `fields::number` meets its contract: the loop keeps `Scan`, and each way out of it ends the field. Assumes nothing.
 use native.Mathlib.Omega.{arith}
 use mathlib.Core.Path.{sym, ◌∙◌}
-use Prim.Native.Nat.{◌+◌, ◌*◌, ◌-◌}
+use Prim.Native.Nat.{◌+◌, ◌*◌}
 use borrow.Author.Tests.{leb-true}
 use Rattle.fields.proofs.Scans.{number_missing}
 use Rattle.fields.proofs.Numbers.{scan_starts, scan_within, scan_over, scan_again, scan_end, scan_bad}

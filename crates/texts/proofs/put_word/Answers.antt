@@ -1,5 +1,5 @@
+-- `texts::put_word` meets its contract: each turn copies one byte more (`Copied`). Assumes nothing.
 use native.Mathlib.Omega.{arith}
-use Prim.Native.Nat.{◌-◌}
 use Rattle.texts.proofs.Writes.{copied_starts, copied_again, copied_ends}
 use Rattle.texts.proofs.put_word.Goals as goal
 
