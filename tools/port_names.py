@@ -1,7 +1,7 @@
 #!/usr/bin/env python3
 """Brings the repository's own definitions and lemmas to snake case: `headCell` and `covers-high` become `head_cell` and
-`covers_high`. Run once, at the top of a tree that port.py has turned. Rewrites .antt files, the ghost lines, clauses and
-back-quoted words of comments in .rt files, and back-quoted words in README.md and docs/. Names of Rust and of the
+`covers_high`. Run once, at the top of a tree that port.py has turned. Rewrites .antt files, the ghost lines, clauses
+and back-quoted words of comments in .rt files, and back-quoted words in README.md and docs/. Names of Rust and of the
 library stay: a name is renamed only if a file of specs/ or proofs/ declares it, and not in a file that imports it from
 elsewhere. Prints names that fall together; writes nothing if there are any that are not allowed below.
 """
@@ -47,7 +47,11 @@ def generated(p):
 def declared():
     """Names that specs/ and proofs/ declare: signatures at any depth, record fields and constructors."""
     found = set()
-    sig = re.compile(r"^\s*(?:(?:pub|abbrev|unfoldable|mutual)\s+)*([^\s(){}\[\];,.\"`:]+(?: [^\s(){}\[\];,.\"`:→=λ]+)*) :(?: |$)", re.M)
+    sig = re.compile(
+        r"^\s*(?:(?:pub|abbrev|unfoldable|mutual)\s+)*"
+        r"([^\s(){}\[\];,.\"`:]+(?: [^\s(){}\[\];,.\"`:→=λ]+)*) :(?: |$)",
+        re.M,
+    )
     typ = re.compile(r"^\s*(?:pub )?(?:data|record|module|ruleset)(?: pub)? ([^\s(){}:;]+)", re.M)
     for p in files(".antt"):
         t = re.sub(r"--[^\n]*", "", read(p))
@@ -103,7 +107,10 @@ def main():
         for m in TOKEN.finditer(text):
             w = m.group(0)
             to = names[w] if w in names and w not in skip else w
-            if text[: m.start()].rsplit("\n", 1)[-1].lstrip().startswith("use ") and "{" not in text[: m.start()].rsplit("\n", 1)[-1]:
+            if (
+                text[: m.start()].rsplit("\n", 1)[-1].lstrip().startswith("use ")
+                and "{" not in text[: m.start()].rsplit("\n", 1)[-1]
+            ):
                 continue
             if seen.setdefault(to, w) != w:
                 other = seen[to]
@@ -139,7 +146,9 @@ def main():
                 at = line.find("--", at + 2)
             if at >= 0 and (at + 2 == len(line) or line[at + 2].isspace()):
                 code, com = line[:at], line[at:]
-                com = re.sub(r"`[^`]*`", lambda m: TOKEN.sub(lambda k: names.get(k.group(0), k.group(0)), m.group(0)), com)
+                com = re.sub(
+                    r"`[^`]*`", lambda m: TOKEN.sub(lambda k: names.get(k.group(0), k.group(0)), m.group(0)), com
+                )
             else:
                 code, com = line, ""
             lines.append((code, com))
@@ -153,7 +162,11 @@ def main():
         for line in t.split("\n"):
             s = line.lstrip()
             if inside == 0 and s.startswith("//"):
-                out.append(re.sub(r"`[^`]*`", lambda m: TOKEN.sub(lambda k: names.get(k.group(0), k.group(0)), m.group(0)), line))
+                out.append(
+                    re.sub(
+                        r"`[^`]*`", lambda m: TOKEN.sub(lambda k: names.get(k.group(0), k.group(0)), m.group(0)), line
+                    )
+                )
                 continue
             starts = re.match(r"(ghost |pub ghost |requires|ensures)", s)
             if inside or starts:
@@ -165,10 +178,16 @@ def main():
             else:
                 out.append(line)
         writes[p] = "\n".join(out)
-    docs = ["README.md"] + [os.path.join("docs", f) for f in sorted(os.listdir("docs")) if f.endswith(".md") and f not in ("PORT.md", "PORT-OTHER.md")]
+    docs = ["README.md"] + [
+        os.path.join("docs", f)
+        for f in sorted(os.listdir("docs"))
+        if f.endswith(".md") and f not in ("PORT.md", "PORT-OTHER.md")
+    ]
     for p in docs:
         t = read(p)
-        writes[p] = re.sub(r"`[^`\n]*`", lambda m: TOKEN.sub(lambda k: names.get(k.group(0), k.group(0)), m.group(0)), t)
+        writes[p] = re.sub(
+            r"`[^`\n]*`", lambda m: TOKEN.sub(lambda k: names.get(k.group(0), k.group(0)), m.group(0)), t
+        )
     if "--list" in sys.argv:
         for n in sorted(names):
             print(n, names[n])

@@ -25,7 +25,12 @@ def norm(s):
 
 def names_of(crate):
     d = tempfile.mkdtemp()
-    subprocess.run(["rt", "check", "--generated", d, "--old-names"], cwd=f"crates/{crate}", stdout=subprocess.DEVNULL, stderr=subprocess.DEVNULL)
+    subprocess.run(
+        ["rt", "check", "--generated", d, "--old-names"],
+        cwd=f"crates/{crate}",
+        stdout=subprocess.DEVNULL,
+        stderr=subprocess.DEVNULL,
+    )
     p = os.path.join(d, "names.json")
     if not os.path.exists(p):
         sys.exit(f"{crate}: no names; does a crate below it fail?")
@@ -44,7 +49,12 @@ def decls(text):
     head, out = [], []
     lines = text.split("\n")
     i = 0
-    while i < len(lines) and (lines[i].startswith("--") or lines[i].startswith("use ") or lines[i].startswith("open ") or not lines[i].strip()):
+    while i < len(lines) and (
+        lines[i].startswith("--")
+        or lines[i].startswith("use ")
+        or lines[i].startswith("open ")
+        or not lines[i].strip()
+    ):
         head.append(lines[i])
         i += 1
     cur = None
@@ -180,7 +190,9 @@ def convert(crate, path, table):
                 continue
             new, vars_, changed = loops[key]
             joined = "\n".join(code)
-            eq = re.search(rf"(?m)^{re.escape(name)}\b([^=]*?) =(?=\s)", joined[joined.index("\n") + 1:] if "\n" in joined else "")
+            eq = re.search(
+                rf"(?m)^{re.escape(name)}\b([^=]*?) =(?=\s)", joined[joined.index("\n") + 1:] if "\n" in joined else ""
+            )
             rest = joined[joined.index("\n") + 1:]
             unf = [l for l in rest.split("\n") if l.startswith("unfolding")]
             params = eq.group(1).split()
@@ -200,8 +212,21 @@ def convert(crate, path, table):
                     sub[p] = f"{rec}.initial.{v}"
                 else:
                     sub[p] = f"{rec}.{v}"
-            body = re.sub(r"(?<![^\s(){}\[\],;])([^\s(){}\[\],;.=]+)(?=[\s(){}\[\],;.]|$)", lambda k: sub.get(k.group(1), k.group(1)) if not re.match(r"\s*=\s", body[k.end():k.end() + 4]) else k.group(1), body)
-            inv.append("\n".join(lead + [f"abbrev pub {kind}-{new} : goal.{kind}-{new}"] + unf + [f"{kind}-{new} {rec} ={body}"]))
+            body = re.sub(
+                r"(?<![^\s(){}\[\],;])([^\s(){}\[\],;.=]+)(?=[\s(){}\[\],;.]|$)",
+                lambda k: sub.get(k.group(1), k.group(1))
+                if not re.match(r"\s*=\s", body[k.end():k.end() + 4])
+                else k.group(1),
+                body,
+            )
+            inv.append(
+                "\n".join(
+                    lead
+                    + [f"abbrev pub {kind}-{new} : goal.{kind}-{new}"]
+                    + unf
+                    + [f"{kind}-{new} {rec} ={body}"]
+                )
+            )
             continue
         m = re.match(r"^(?:pub )?(\S+) : tie\.Need-(\S+)", code[0])
         if m:
@@ -230,7 +255,17 @@ def convert(crate, path, table):
             for k in ks:
                 if re.search(rf"(?<![\w'.-]){re.escape(k)}(?![\w'-])", b):
                     notes.append(f"{new} uses {k}")
-            ans.append((order.get(new, 999), "\n".join(lead + [f"pub {new} : goal.{new}"] + unf + [f"{new} {params[0] if params else ''}{more} ={b}"])))
+            ans.append(
+                (
+                    order.get(new, 999),
+                    "\n".join(
+                        lead
+                        + [f"pub {new} : goal.{new}"]
+                        + unf
+                        + [f"{new} {params[0] if params else ''}{more} ={b}"]
+                    ),
+                )
+            )
             continue
         if re.search(r"\bstatement M\b", sig) or "tie.close" in sig:
             continue
@@ -248,7 +283,13 @@ def convert(crate, path, table):
     if ans:
         body = "\n\n".join(a for _, a in sorted(ans, key=lambda a: a[0]))
         with open(os.path.join(folder, "Answers.antt"), "w", encoding="utf-8") as f:
-            f.write((title + "\n" if not inv else "") + "\n".join(uses) + f"\nuse {prefix}.Goals as goal\n\n" + body + "\n")
+            f.write(
+                (title + "\n" if not inv else "")
+                + "\n".join(uses)
+                + f"\nuse {prefix}.Goals as goal\n\n"
+                + body
+                + "\n"
+            )
     os.remove(path)
     # only what is named is imported
     for n in ("Invariants.antt", "Answers.antt"):

@@ -38,6 +38,14 @@ front : (p w : List ℕ) (n : ℕ) → n ≤ length w → length (p ++ drop n w)
 front p w n h e =
     let a = length-append p (drop n w) in let d = length-drop n w in take_at p (drop n w) n (omega (arith, a, d, e, h))
 
+-- what is lent and comes back as long leaves as many words
+pub same_room : (p w : List ℕ) (n : ℕ) → n ≤ length w → length p ≡ length (take n w) → length (p ++ drop n w) ≡ length w
+same_room p w n h e =
+    let a = length-append p (drop n w) in
+    let d = length-drop n w in
+    let t = length-take-le n w h in
+    omega (arith, a, d, t, e, h)
+
 -- a call, by what it promises
 call_says : (c : Call) {w w' : List ℕ} {r : Reply} {l : Line} → Does (act c) w w' r → l ≡ line_of r
     → Says (called c) w l w'
