@@ -1,2 +1,1 @@
--- The functions that lend a session meet their contracts, by one walk. Rests on Numbers and Thin of `desk`.
-pub mod Lent
+-- The program has no laws of its own. Rests on nothing.
