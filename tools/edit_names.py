@@ -46,7 +46,7 @@ def line_at(text, at):
 
 
 def in_turn(names):
-    """The renamings in an order in which none makes a name that is still to be renamed: those of a ring go by a third name."""
+    """The renamings in an order in which none makes a name that is still to be renamed: a ring goes by a third name."""
     names = dict(names)
     while names:
         ready = [a for a in names if names[a] not in names]
@@ -60,7 +60,7 @@ def in_turn(names):
 
 
 def pairs(text, names):
-    """Pairs that rename each of these names in the text, each old text standing once in what the pairs before it made."""
+    """Pairs that rename each of these names in the text; each old text stands once in what the pairs before it made."""
     out = []
     for part in in_turn(names):
         found, text = renamings(text, part)

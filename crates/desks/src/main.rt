@@ -1,16 +1,16 @@
 // Shows every reply of the planning desk: each call is printed with what it told, the interval left after it and
 // whether any word of the store moved. Calls of the store itself stand between them as script lines. This file has the
-// scenes; `calls` makes a call and prints it, `lending` lends it the session. Rests on `desk`.
+// scenes; `desk_calls` makes a call and prints it, `lending` lends it the session. Rests on `desk`.
 #![tactic(auto)]
 
-mod calls;
+mod desk_calls;
 mod lending;
 
-use calls::{
+use desk::Session;
+use desk_calls::{
     HIGHEST, WORDS, commit, made, open, print_call, print_open, print_read, print_write, read,
     step, title, told_commit, told_open, told_read, told_write, try_three, write,
 };
-use desk::Session;
 use std::io;
 use types::LAST;
 

@@ -24,8 +24,7 @@ pub struct Pair {
     pub second: ViewReply,
 }
 
-// The check of soundness, as a function of this crate: the walks by hand of `open` and `at` cite functions of their own
-// crate alone.
+// The check of soundness.
 fn check(words: &[u64]) -> bool
     ensures { result ≡ sound_words (lent words.now) }
 {
