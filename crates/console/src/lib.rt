@@ -7,11 +7,21 @@ ghost use Rattle.console.specs.Words.{Moved};
 use replies::Line;
 use std::io;
 
+// The first n bytes.
+fn print_bytes(rt: &impl Print, out: &[u8], n: usize) -> io::Result<()> {
+    let k = n.min(out.len());
+    rt.write_all(&out[..k])
+}
+
+fn print_out(rt: &impl Print, out: &[u8; printing::WIDTH], n: usize) -> io::Result<()> {
+    print_bytes(rt, out, n)
+}
+
 // The line's text, with no end of line.
 pub fn print_line(rt: &impl Print, l: Line) -> io::Result<()> {
     let mut out = [0u8; printing::WIDTH];
     let n = printing::print(l, &mut out);
-    rt.write_all(&out[..n])
+    print_out(rt, &out, n)
 }
 
 // Whether the words after are others than those before.
