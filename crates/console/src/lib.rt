@@ -9,8 +9,11 @@ use std::io;
 
 // The first n bytes.
 fn print_bytes(rt: &impl Print, out: &[u8], n: usize) -> io::Result<()> {
-    let k = n.min(out.len());
-    rt.write_all(&out[..k])
+    if n <= printing::WIDTH {
+        let k = n.min(out.len());
+        rt.write_all(&out[..k])?;
+    }
+    Ok(())
 }
 
 fn print_out(rt: &impl Print, out: &[u8; printing::WIDTH], n: usize) -> io::Result<()> {
