@@ -49,9 +49,11 @@ def declared():
     found = set()
     sig = re.compile(
         r"^\s*(?:(?:pub|abbrev|unfoldable|mutual)\s+)*"
-        r"([^\s(){}\[\];,.\"`:]+(?: [^\s(){}\[\];,.\"`:→=λ]+)*) :(?: |$)",
+        r"([^\s(){}\[\];,.\"`:]+(?:\s+[^\s(){}\[\];,.\"`:→=λ]+)*)(?: \{ℓ\})? :(?: |$)",
         re.M,
     )
+    # a parameter of a module; a local name in camel case alone, so that words of binders stay
+    parameter = re.compile(r"\(([a-z][a-z]*[A-Z]\w*) :")
     typ = re.compile(r"^\s*(?:pub )?(?:data|record|module|ruleset)(?: pub)? ([^\s(){}:;]+)", re.M)
     for p in files(".antt"):
         t = re.sub(r"--[^\n]*", "", read(p))
@@ -60,6 +62,7 @@ def declared():
                 found.add(n)
         for m in typ.finditer(t):
             found.add(m.group(1))
+        found.update(parameter.findall(t))
     return {n for n in found if re.match(r"^[A-Za-z]", n) and "◌" not in n}
 
 
@@ -80,6 +83,12 @@ def imports(t):
 # fields of records whose snake case is the name of a definition: elsewhere behind a dot stands a name of a function
 FIELDS_LEM = {"accesses-parted", "free-first", "in_use", "locks-parted", "versions-parted"}
 CRATES = set(os.listdir("crates")) if os.path.isdir("crates") else set()
+
+
+def prose(names, comment):
+    """A comment: back-quoted names, and words in camel case, which are no prose."""
+    comment = re.sub(r"`[^`]*`", lambda m: TOKEN.sub(lambda k: names.get(k.group(0), k.group(0)), m.group(0)), comment)
+    return re.sub(r"(?<![\w'`\-])[a-z]+[A-Z]\w*(?![\w'\-])", lambda m: names.get(m.group(0), m.group(0)), comment)
 
 
 def main():
@@ -146,9 +155,7 @@ def main():
                 at = line.find("--", at + 2)
             if at >= 0 and (at + 2 == len(line) or line[at + 2].isspace()):
                 code, com = line[:at], line[at:]
-                com = re.sub(
-                    r"`[^`]*`", lambda m: TOKEN.sub(lambda k: names.get(k.group(0), k.group(0)), m.group(0)), com
-                )
+                com = prose(names, com)
             else:
                 code, com = line, ""
             lines.append((code, com))
@@ -162,11 +169,7 @@ def main():
         for line in t.split("\n"):
             s = line.lstrip()
             if inside == 0 and s.startswith("//"):
-                out.append(
-                    re.sub(
-                        r"`[^`]*`", lambda m: TOKEN.sub(lambda k: names.get(k.group(0), k.group(0)), m.group(0)), line
-                    )
-                )
+                out.append(prose(names, line))
                 continue
             starts = re.match(r"(ghost |pub ghost |requires|ensures)", s)
             if inside or starts:

@@ -16,7 +16,7 @@ use Rattle.meaning.specs.Outcomes.{access_room}
 use Rattle.meaning.specs.Edits.{free_slot, begun, begin_checks, beginning, written, write_checks, writing}
 use Rattle.meaning.specs.Records.{view_checks, viewing}
 use Rattle.calls.specs.Parts.{write_open}
-use Rattle.calls.proofs.Verdicts.{needs_fails, needs_holds, no_edit, edit_ended, edit_open}
+use Rattle.calls.proofs.Verdicts.{needs_fails, needs_holds, no_edit_lem, edit_ended, edit_open}
 
 -- Begin
 
@@ -50,7 +50,7 @@ module _ (s : Store) (h r : ℕ) (v : Val) where
 
   pub write_no_edit : knows s h ≡ false → writing h r v s ≡ replies s (refusing 2 [])
   unfolding writing write_checks
-  write_no_edit e = no_edit s write_end h (needs (has_record s r) 5 write_rest) e
+  write_no_edit e = no_edit_lem s write_end h (needs (has_record s r) 5 write_rest) e
 
   pub write_ended : knows s h ≡ true → is_open s h ≡ false → writing h r v s ≡ replies s (refusing 3 [])
   unfolding writing write_checks

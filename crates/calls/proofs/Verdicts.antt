@@ -26,8 +26,8 @@ module _ (s : Store) (o : Outcome) where
 
   -- 2, 3, and what is left for an open edit
   module _ (h : ℕ) (v : Verdict) where
-    pub no_edit : knows s h ≡ false → unless s (for_open s h v) o ≡ replies s (refusing 2 [])
-    no_edit e = needs_fails (knows s h) 2 (needs (is_open s h) 3 v) e
+    pub no_edit_lem : knows s h ≡ false → unless s (for_open s h v) o ≡ replies s (refusing 2 [])
+    no_edit_lem e = needs_fails (knows s h) 2 (needs (is_open s h) 3 v) e
 
     pub edit_ended : knows s h ≡ true → is_open s h ≡ false → unless s (for_open s h v) o ≡ replies s (refusing 3 [])
     edit_ended e f = needs_holds (knows s h) 2 (needs (is_open s h) 3 v) e ∙ needs_fails (is_open s h) 3 v f

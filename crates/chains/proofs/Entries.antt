@@ -8,7 +8,7 @@ use native.Mathlib.Omega.{arith}
 use lib.ListN.{set}
 use Rattle.chains.specs.declared.Table.{Table}
 use Rattle.chains.specs.declared.Heads.{Heads}
-use Rattle.chains.specs.Lists.{occ, all_of, takeWhile, dropWhile, insertAfter, dropIf}
+use Rattle.chains.specs.Lists.{occ, all_of, take_while, drop_while, insert_after, drop_if}
 use Rattle.chains.specs.Walk.{IsRow}
 use Rattle.chains.specs.Table.{place, field, rows_of}
 use Rattle.chains.specs.Partition.{partition}
@@ -16,15 +16,15 @@ use Rattle.chains.specs.Change.{Ready, Changed, Same, UnlinkedBy}
 use Rattle.chains.proofs.Occurs.{occ_same, occ_here, occ_there, occ_append}
 use Rattle.chains.proofs.Cells.{laid_same, lies, field_same, field_other}
 use Rattle.chains.proofs.Words.{on_chain, on_once, on_one}
-use Rattle.chains.proofs.Places.{take-drop}
+use Rattle.chains.proofs.Places.{take_drop}
 use Rattle.chains.proofs.Frames.{OnlyTable, only_elsewhere, only_put, only_trans, put_same, field_kept}
 
 -- rows that hold the same give the same entries
-pub entries-kept {ℓ} : {A : Type ℓ} (f g : ℕ → A) (rs : List ℕ) → ((i : ℕ) → 1 ≤ occ i rs → f i ≡ g i)
+pub entries_kept {ℓ} : {A : Type ℓ} (f g : ℕ → A) (rs : List ℕ) → ((i : ℕ) → 1 ≤ occ i rs → f i ≡ g i)
     → map f rs ≡ map g rs
-entries-kept f g [] h = refl
-entries-kept f g (r ∷ rs) h =
-    rw (h r (occ_here r rs), entries-kept f g rs (λ i o. h i (omega (arith, occ_there i r rs))))
+entries_kept f g [] h = refl
+entries_kept f g (r ∷ rs) h =
+    rw (h r (occ_here r rs), entries_kept f g rs (λ i o. h i (omega (arith, occ_there i r rs))))
 
 pub map_append {ℓ} : {A : Type ℓ} (f : ℕ → A) (xs ys : List ℕ) → map f (xs ++ ys) ≡ map f xs ++ map f ys
 map_append f [] ys = refl
@@ -32,35 +32,35 @@ map_append f (x ∷ xs) ys = ap (λ l. f x ∷ l) (map_append f xs ys)
 
 -- a test of rows that is a test of their entries
 module _ {ℓ} {A : Type ℓ} (f : ℕ → A) (p : A → Bool) where
-  pub entries_drop : (rs : List ℕ) → map f (dropIf (λ i. p (f i)) rs) ≡ dropIf p (map f rs)
-  unfolding dropIf
+  pub entries_drop : (rs : List ℕ) → map f (drop_if (λ i. p (f i)) rs) ≡ drop_if p (map f rs)
+  unfolding drop_if
   entries_drop [] = refl
   entries_drop (r ∷ rs) = go (p (f r)) refl (entries_drop rs)
     where
-      go : (b : Bool) → p (f r) ≡ b → map f (dropIf (λ i. p (f i)) rs) ≡ dropIf p (map f rs)
-          → map f (dropIf (λ i. p (f i)) (r ∷ rs)) ≡ dropIf p (map f (r ∷ rs))
-      go true e ih = rw (e, dropIf) ih
-      go false e ih = rw (e, dropIf) (ap (λ l. f r ∷ l) ih)
+      go : (b : Bool) → p (f r) ≡ b → map f (drop_if (λ i. p (f i)) rs) ≡ drop_if p (map f rs)
+          → map f (drop_if (λ i. p (f i)) (r ∷ rs)) ≡ drop_if p (map f (r ∷ rs))
+      go true e ih = rw (e, drop_if) ih
+      go false e ih = rw (e, drop_if) (ap (λ l. f r ∷ l) ih)
 
-  pub entries_take : (rs : List ℕ) → map f (takeWhile (λ i. p (f i)) rs) ≡ takeWhile p (map f rs)
-  unfolding takeWhile
+  pub entries_take : (rs : List ℕ) → map f (take_while (λ i. p (f i)) rs) ≡ take_while p (map f rs)
+  unfolding take_while
   entries_take [] = refl
   entries_take (r ∷ rs) = go (p (f r)) refl (entries_take rs)
     where
-      go : (b : Bool) → p (f r) ≡ b → map f (takeWhile (λ i. p (f i)) rs) ≡ takeWhile p (map f rs)
-          → map f (takeWhile (λ i. p (f i)) (r ∷ rs)) ≡ takeWhile p (map f (r ∷ rs))
-      go true e ih = rw (e, takeWhile) (ap (λ l. f r ∷ l) ih)
-      go false e ih = rw (e, takeWhile) refl
+      go : (b : Bool) → p (f r) ≡ b → map f (take_while (λ i. p (f i)) rs) ≡ take_while p (map f rs)
+          → map f (take_while (λ i. p (f i)) (r ∷ rs)) ≡ take_while p (map f (r ∷ rs))
+      go true e ih = rw (e, take_while) (ap (λ l. f r ∷ l) ih)
+      go false e ih = rw (e, take_while) refl
 
-  pub entries_beyond : (rs : List ℕ) → map f (dropWhile (λ i. p (f i)) rs) ≡ dropWhile p (map f rs)
-  unfolding dropWhile
+  pub entries_beyond : (rs : List ℕ) → map f (drop_while (λ i. p (f i)) rs) ≡ drop_while p (map f rs)
+  unfolding drop_while
   entries_beyond [] = refl
   entries_beyond (r ∷ rs) = go (p (f r)) refl (entries_beyond rs)
     where
-      go : (b : Bool) → p (f r) ≡ b → map f (dropWhile (λ i. p (f i)) rs) ≡ dropWhile p (map f rs)
-          → map f (dropWhile (λ i. p (f i)) (r ∷ rs)) ≡ dropWhile p (map f (r ∷ rs))
-      go true e ih = rw (e, dropWhile) ih
-      go false e ih = rw (e, dropWhile) refl
+      go : (b : Bool) → p (f r) ≡ b → map f (drop_while (λ i. p (f i)) rs) ≡ drop_while p (map f rs)
+          → map f (drop_while (λ i. p (f i)) (r ∷ rs)) ≡ drop_while p (map f (r ∷ rs))
+      go true e ih = rw (e, drop_while) ih
+      go false e ih = rw (e, drop_while) refl
 
   pub entries_all : (rs : List ℕ) → all_of (λ i. p (f i)) rs ≡ all_of p (map f rs)
   unfolding all_of
@@ -78,7 +78,7 @@ pub same_entries {ℓ} : {A : Type ℓ} {t : Table} {h : Heads} {w w' : List ℕ
     → ((i : ℕ) → IsRow t.count i → f i ≡ g i) → (k : ℕ) → k ≤ h.owners
     → map f (rows_of t h w' k) ≡ map g (rows_of t h w k)
 same_entries {t = t} {h} {w} {w'} f g s sm e k q =
-    ap (map f) (sm.rows_kept k q) ∙ entries-kept f g (rows_of t h w k) (λ i o. e i (on_chain t h w s k q i o))
+    ap (map f) (sm.rows_kept k q) ∙ entries_kept f g (rows_of t h w k) (λ i o. e i (on_chain t h w s k q i o))
 
 -- a chain's entries where the chains are as before, and only row r, on chain c between ks and ys, holds something else
 module _ {ℓ} {X : Type ℓ} {t : Table} {h : Heads} {w w' : List ℕ} (f g : ℕ → X) (s : partition t h w ≡ true)
@@ -97,22 +97,22 @@ module _ {ℓ} {X : Type ℓ} {t : Table} {h : Heads} {w w' : List ℕ} (f g : �
       λ x o. on_chain t h w s c hc x (omega (arith, row_count x, occ_there x r ys)) in
       ap (map f) (sm.rows_kept c hc ∙ sp) ∙ map_append f ks (r ∷ ys)
       ∙ rw (
-        entries-kept f g ks (λ x o. e x (at x (omega arith)) (not_in ks (omega arith) x o)),
-        entries-kept f g ys (λ x o. e x (at x (omega arith)) (not_in ys (omega arith) x o)),
+        entries_kept f g ks (λ x o. e x (at x (omega arith)) (not_in ks (omega arith) x o)),
+        entries_kept f g ys (λ x o. e x (at x (omega arith)) (not_in ys (omega arith) x o)),
       )
 
   pub row_others : (j : ℕ) → j ≤ h.owners → (j ≡ c → ⊥) → map f (rows_of t h w' j) ≡ map g (rows_of t h w j)
   row_others j q n =
       let z = on_one t h w s c j hc q (λ k. n (sym k)) r (omega (arith, row_count r, occ_here r ys)) in
       ap (map f) (sm.rows_kept j q)
-      ∙ entries-kept f g (rows_of t h w j) (λ x o. e x (on_chain t h w s j q x o) (not_in (rows_of t h w j) z x o))
+      ∙ entries_kept f g (rows_of t h w j) (λ x o. e x (on_chain t h w s j q x o) (not_in (rows_of t h w j) z x o))
 
 -- a chain's entries after a change that stores no other words: f reads w' as g reads w
 module _ {ℓ} {X : Type ℓ} {t : Table} {h : Heads} {w w' : List ℕ} {a b : ℕ} {A B : List ℕ}
     (c : Changed t h w w' a b A B) (rd : Ready t h w a b) (f g : ℕ → X)
     (e : (i : ℕ) → IsRow t.count i → f i ≡ g i) where
   on_new : (k : ℕ) → k ≤ h.owners → map f (rows_of t h w' k) ≡ map g (rows_of t h w' k)
-  on_new k q = entries-kept f g (rows_of t h w' k) (λ i o. e i (on_chain t h w' c.parted k q i o))
+  on_new k q = entries_kept f g (rows_of t h w' k) (λ i o. e i (on_chain t h w' c.parted k q i o))
 
   pub entries_a : map f (rows_of t h w' a) ≡ map g A
   entries_a = on_new a rd.a_in ∙ ap (map g) c.at_a
@@ -125,10 +125,10 @@ module _ {ℓ} {X : Type ℓ} {t : Table} {h : Heads} {w w' : List ℕ} {a b : �
   entries_others j q na nb = on_new j q ∙ ap (map g) (c.others j q na nb)
 
 -- unlinking by a test of the entries filters them
-pub unlinked-entries {ℓ} : {X : Type ℓ} {t : Table} {h : Heads} {w w' : List ℕ} {a b : ℕ} (f g : ℕ → X) (p : X → Bool)
+pub unlinked_entries {ℓ} : {X : Type ℓ} {t : Table} {h : Heads} {w w' : List ℕ} {a b : ℕ} (f g : ℕ → X) (p : X → Bool)
     → Ready t h w a b → UnlinkedBy (λ i. p (g i)) t h w w' a b → ((i : ℕ) → IsRow t.count i → f i ≡ g i)
-    → map f (rows_of t h w' a) ≡ dropIf p (map g (rows_of t h w a))
-unlinked-entries {t = t} {h} {w} {w'} {a} {b} f g p rd u e = entries_a u rd f g e ∙ entries_drop g p (rows_of t h w a)
+    → map f (rows_of t h w' a) ≡ drop_if p (map g (rows_of t h w a))
+unlinked_entries {t = t} {h} {w} {w'} {a} {b} f g p rd u e = entries_a u rd f g e ∙ entries_drop g p (rows_of t h w a)
 
 -- A change of chains a and b after which words of row i that are no link words are stored: no other row's words but
 -- links differ
@@ -182,7 +182,7 @@ module _ {ℓ} {X : Type ℓ} {t : Table} {h : Heads} {w w' : List ℕ} {a b : �
 
   -- rows of another chain of w
   pub chain_entries : (j : ℕ) → j ≤ h.owners → (c ≡ j → ⊥) → map f (rows_of t h w j) ≡ map g (rows_of t h w j)
-  chain_entries j hj n = entries-kept f g (rows_of t h w j) (λ x o. e x (on_chain t h w s j hj x o) (not_i j hj n x o))
+  chain_entries j hj n = entries_kept f g (rows_of t h w j) (λ x o. e x (on_chain t h w s j hj x o) (not_i j hj n x o))
 
   -- a chain that is neither a nor b nor i's old one
   pub other_entries : (j : ℕ) → j ≤ h.owners → (j ≡ a → ⊥) → (j ≡ b → ⊥) → (c ≡ j → ⊥)
@@ -190,24 +190,24 @@ module _ {ℓ} {X : Type ℓ} {t : Table} {h : Heads} {w w' : List ℕ} {a b : �
   other_entries j hj na nb nc = ap (map f) (k.others j hj na nb) ∙ chain_entries j hj nc
 
 -- the first row of chain a became the first of chain b, and was filled: chain b has gained its entry
-pub pushed-entries {ℓ} : {X : Type ℓ} {t : Table} {h : Heads} {w w' : List ℕ} {a b i : ℕ} (f g : ℕ → X)
+pub pushed_entries {ℓ} : {X : Type ℓ} {t : Table} {h : Heads} {w w' : List ℕ} {a b i : ℕ} (f g : ℕ → X)
     → Ready t h w a b → rows_of t h w a ≡ i ∷ tail (rows_of t h w a)
     → Filled t h w w' a b (tail (rows_of t h w a)) (i ∷ rows_of t h w b) i
     → ((x : ℕ) → IsRow t.count x → (x ≡ i → ⊥) → f x ≡ g x)
     → map f (rows_of t h w' b) ≡ f i ∷ map g (rows_of t h w b)
-pushed-entries {t = t} {h} {w} {w'} {a} {b} {i} f g rd tk k e =
+pushed_entries {t = t} {h} {w} {w'} {a} {b} {i} f g rd tk k e =
     ap (map f) k.at_b ∙ ap (λ y. f i ∷ y)
     (chain_entries k f g rd.parted a rd.a_in (rw tk (occ_here i (tail (rows_of t h w a)))) e b rd.b_in
     rd.differ)
 
 -- the first row of chain b came to stand between ks and ys on chain a, and was filled: chain a has gained its entry
 -- there
-pub inserted-entries {ℓ} : {X : Type ℓ} {t : Table} {h : Heads} {w w' : List ℕ} {a b i : ℕ} {zs : List ℕ} (f g : ℕ → X)
+pub inserted_entries {ℓ} : {X : Type ℓ} {t : Table} {h : Heads} {w w' : List ℕ} {a b i : ℕ} {zs : List ℕ} (f g : ℕ → X)
     (ks ys : List ℕ)
     → Ready t h w a b → rows_of t h w b ≡ i ∷ tail (rows_of t h w b) → rows_of t h w a ≡ ks ++ ys
     → Filled t h w w' a b (ks ++ i ∷ ys) zs i → ((x : ℕ) → IsRow t.count x → (x ≡ i → ⊥) → f x ≡ g x)
     → map f (rows_of t h w' a) ≡ map g ks ++ f i ∷ map g ys
-inserted-entries {t = t} {h} {w} {w'} {a} {b} {i} f g ks ys rd tk sp k e =
+inserted_entries {t = t} {h} {w} {w'} {a} {b} {i} f g ks ys rd tk sp k e =
     let on : 1 ≤ occ i (rows_of t h w b) = rw tk (occ_here i (tail (rows_of t h w b))) in
     let oc : (x : ℕ) → occ x (rows_of t h w a) ≡ occ x ks + occ x ys = λ x. ap (occ x) sp ∙ occ_append x ks ys in
     let same : (x : ℕ) → 1 ≤ occ x (rows_of t h w a)
@@ -215,27 +215,27 @@ inserted-entries {t = t} {h} {w} {w'} {a} {b} {i} f g ks ys rd tk sp k e =
     (not_i k f g rd.parted b rd.b_in on e a rd.a_in (λ z. rd.differ (sym z)) x o) in
     ap (map f) k.at_a ∙ map_append f ks (i ∷ ys)
     ∙ rw (
-      entries-kept f g ks (λ x o. same x (omega (arith, oc x))),
-      entries-kept f g ys (λ x o. same x (omega (arith, oc x))),
+      entries_kept f g ks (λ x o. same x (omega (arith, oc x))),
+      entries_kept f g ys (λ x o. same x (omega (arith, oc x))),
     )
 
 -- and where it stands after the front of rows whose entries pass a test
 pub sorted_entries {ℓ} : {X : Type ℓ} {t : Table} {h : Heads} {w w' : List ℕ} {a b i : ℕ} {zs : List ℕ} (f g : ℕ → X)
     (p : X → Bool) → Ready t h w a b → rows_of t h w b ≡ i ∷ tail (rows_of t h w b)
-    → Filled t h w w' a b (insertAfter (λ x. p (g x)) i (rows_of t h w a)) zs i
+    → Filled t h w w' a b (insert_after (λ x. p (g x)) i (rows_of t h w a)) zs i
     → ((x : ℕ) → IsRow t.count x → (x ≡ i → ⊥) → f x ≡ g x)
-    → map f (rows_of t h w' a) ≡ insertAfter p (f i) (map g (rows_of t h w a))
+    → map f (rows_of t h w' a) ≡ insert_after p (f i) (map g (rows_of t h w a))
 sorted_entries {t = t} {h} {w} {w'} {a} {b} {i} f g p rd tk k e =
     let rows = rows_of t h w a in
-    inserted-entries f g (takeWhile (λ x. p (g x)) rows) (dropWhile (λ x. p (g x)) rows) rd tk
-    (take-drop (λ x. p (g x)) rows) k e
+    inserted_entries f g (take_while (λ x. p (g x)) rows) (drop_while (λ x. p (g x)) rows) rd tk
+    (take_drop (λ x. p (g x)) rows) k e
     ∙ rw (entries_take g p rows, entries_beyond g p rows) refl
 
 -- the entries of every other chain are as before
-pub taken-others {ℓ} : {X : Type ℓ} {t : Table} {h : Heads} {w w' : List ℕ} {a b i : ℕ} {A B : List ℕ} (f g : ℕ → X)
+pub taken_others {ℓ} : {X : Type ℓ} {t : Table} {h : Heads} {w w' : List ℕ} {a b i : ℕ} {A B : List ℕ} (f g : ℕ → X)
     → Ready t h w a b → rows_of t h w b ≡ i ∷ tail (rows_of t h w b) → Filled t h w w' a b A B i
     → ((x : ℕ) → IsRow t.count x → (x ≡ i → ⊥) → f x ≡ g x) → (j : ℕ) → j ≤ h.owners → (j ≡ a → ⊥) → (j ≡ b → ⊥)
     → map f (rows_of t h w' j) ≡ map g (rows_of t h w j)
-taken-others {t = t} {h} {w} {w'} {a} {b} {i} f g rd tk k e j q na nb =
+taken_others {t = t} {h} {w} {w'} {a} {b} {i} f g rd tk k e j q na nb =
     other_entries k f g rd.parted b rd.b_in (rw tk (occ_here i (tail (rows_of t h w b)))) e j q na nb
     (λ z. nb (sym z))

@@ -11,7 +11,7 @@ use borrow.Author.Tests.{eq-eqb, ne_eqb}
 use Rattle.chains.specs.declared.Table.{Table}
 use Rattle.chains.specs.declared.Heads.{Heads}
 use Rattle.chains.specs.declared.Len.TheVariants.{Broken, Rows}
-use Rattle.chains.specs.Lists.{last_or, fold, all_of, first_of, takeWhile}
+use Rattle.chains.specs.Lists.{last_or, fold, all_of, first_of, take_while}
 use Rattle.chains.specs.Walk.{more, rows, ends}
 use Rattle.chains.specs.Table.{link, chain, ended, len_of, head_of, rows_of}
 use Rattle.chains.proofs.Walks.{step, stop, fuel_of}
@@ -102,24 +102,24 @@ module _ {nx : ℕ → ℕ} {n : ℕ} {p : ℕ → Bool} {answer h f : ℕ} (i :
 
 -- The place after the front of rows that pass; place so far
 pub record PlaceInv (nx : ℕ → ℕ) (n : ℕ) (p : ℕ → Bool) (answer place h f : ℕ) : Type 0 where
-  pub walk : Walk nx n (λ rs. last_or place (takeWhile p rs)) answer h f
+  pub walk : Walk nx n (λ rs. last_or place (take_while p rs)) answer h f
 
 pub place_start : (nx : ℕ → ℕ) (n : ℕ) (p : ℕ → Bool) (h : ℕ)
-    → PlaceInv nx n p (last_or 0 (takeWhile p (rows nx n n h))) 0 h n
+    → PlaceInv nx n p (last_or 0 (take_while p (rows nx n n h))) 0 h n
 place_start nx n p h = record { walk = record { same = refl } }
 
 module _ {nx : ℕ → ℕ} {n : ℕ} {p : ℕ → Bool} {answer place h f : ℕ} (i : PlaceInv nx n p answer place h f) {r : Bool}
     (d : r ≡ more n f h) where
   pub place_again : {h' : ℕ} → r ≡ true → p h ≡ true → h' ≡ nx h → PlaceInv nx n p answer h h' (f - 1)
-  unfolding takeWhile last_or
-  place_again e k q = record { walk = walk_again i.walk d (λ rs. last_or h (takeWhile p rs)) e (rw (k, takeWhile)) q }
+  unfolding take_while last_or
+  place_again e k q = record { walk = walk_again i.walk d (λ rs. last_or h (take_while p rs)) e (rw (k, take_while)) q }
 
   pub place_out : r ≡ true → p h ≡ false → place ≡ answer
-  unfolding takeWhile last_or
-  place_out e k = walk_out i.walk d e (rw (k, takeWhile))
+  unfolding take_while last_or
+  place_out e k = walk_out i.walk d e (rw (k, take_while))
 
   pub place_end : r ≡ false → place ≡ answer
-  unfolding takeWhile last_or
+  unfolding take_while last_or
   place_end e = walk_end i.walk d e refl
 
 -- The length of the chain from h₀: n - f rows have been met

@@ -6,34 +6,34 @@ use mathlib.Core.Bool.{Bool, true, false}
 use mathlib.Core.List.{List, [], ◌∷◌, ◌++◌}
 use Rattle.chains.specs.declared.Table.{Table}
 use Rattle.chains.specs.declared.Heads.{Heads}
-use Rattle.chains.specs.Lists.{last_or, takeWhile, dropWhile}
+use Rattle.chains.specs.Lists.{last_or, take_while, drop_while}
 use Rattle.chains.specs.Table.{chain, head_of, rows_of, stands_before}
 use Rattle.chains.specs.Change.{Ready, Split, Place, Taken, Inserted, InsertedSorted}
 use Rattle.chains.proofs.Words.{head_cons}
 
-pub take-drop {ℓ} : {A : Type ℓ} (p : A → Bool) (xs : List A) → xs ≡ takeWhile p xs ++ dropWhile p xs
-unfolding takeWhile dropWhile
-take-drop p [] = refl
-take-drop p (x ∷ xs) = go (p x) refl (take-drop p xs)
+pub take_drop {ℓ} : {A : Type ℓ} (p : A → Bool) (xs : List A) → xs ≡ take_while p xs ++ drop_while p xs
+unfolding take_while drop_while
+take_drop p [] = refl
+take_drop p (x ∷ xs) = go (p x) refl (take_drop p xs)
   where
-    go : (b : Bool) → p x ≡ b → xs ≡ takeWhile p xs ++ dropWhile p xs
-        → x ∷ xs ≡ takeWhile p (x ∷ xs) ++ dropWhile p (x ∷ xs)
-    go true e ih = rw (e, takeWhile, dropWhile) (ap (λ l. x ∷ l) ih)
-    go false e ih = rw (e, takeWhile, dropWhile) refl
+    go : (b : Bool) → p x ≡ b → xs ≡ take_while p xs ++ drop_while p xs
+        → x ∷ xs ≡ take_while p (x ∷ xs) ++ drop_while p (x ∷ xs)
+    go true e ih = rw (e, take_while, drop_while) (ap (λ l. x ∷ l) ih)
+    go false e ih = rw (e, take_while, drop_while) refl
 
 -- x is chain a's head, p the place found from there
 module _ (t : Table) (h : Heads) (w : List ℕ) (a : ℕ) (g : ℕ → Bool) {p x : ℕ} (e : x ≡ head_of h w a)
-    (k : p ≡ last_or 0 (takeWhile g (chain t w x))) where
-  pub front_split : Split t h w a p (takeWhile g (rows_of t h w a)) (dropWhile g (rows_of t h w a))
+    (k : p ≡ last_or 0 (take_while g (chain t w x))) where
+  pub front_split : Split t h w a p (take_while g (rows_of t h w a)) (drop_while g (rows_of t h w a))
   unfolding rows_of
   front_split = record {
-    parts = take-drop g (chain t w (head_of h w a));
-    last = k ∙ ap (λ y. last_or 0 (takeWhile g (chain t w y))) e;
+    parts = take_drop g (chain t w (head_of h w a));
+    last = k ∙ ap (λ y. last_or 0 (take_while g (chain t w y))) e;
   }
 
   pub front_place : Place t h w a p
   front_place =
-      record { upto = takeWhile g (rows_of t h w a); beyond = dropWhile g (rows_of t h w a); split = front_split }
+      record { upto = take_while g (rows_of t h w a); beyond = drop_while g (rows_of t h w a); split = front_split }
 
 -- the start is a place
 pub start_place : (t : Table) (h : Heads) (w : List ℕ) (a : ℕ) → Place t h w a 0
@@ -43,7 +43,7 @@ start_place t h w a = record { upto = []; beyond = rows_of t h w a; split = reco
 -- the code's steps of `insert_sorted`, where there is a row to insert
 pub sorted_law : {t : Table} {h : Heads} {w w' : List ℕ} {a b r x p : ℕ} (o q : ℕ) (rising : Bool)
     → Ready t h w a b → r ≡ head_of h w b → (r ≡ 0 → ⊥) → x ≡ head_of h w a
-    → p ≡ last_or 0 (takeWhile (stands_before rising t w o q) (chain t w x)) → Inserted t h w w' a b p r
+    → p ≡ last_or 0 (take_while (stands_before rising t w o q) (chain t w x)) → Inserted t h w w' a b p r
     → Taken h w w' b r (InsertedSorted t h w w' a b o q rising r)
 unfolding Inserted
 sorted_law {t} {h} {w} {w'} {a} {b} {r} o q rising rd e z ex ep i =

@@ -9,7 +9,7 @@ use native.Mathlib.Omega.{arith}
 use lib.ListN.{length, get_or, set, length-append}
 use Rattle.chains.specs.declared.Table.{Table}
 use Rattle.chains.specs.declared.Heads.{Heads}
-use Rattle.chains.specs.Lists.{occ, first, last_or, dropIf, push_if}
+use Rattle.chains.specs.Lists.{occ, first, last_or, drop_if, push_if}
 use Rattle.chains.specs.Walk.{IsRow, more}
 use Rattle.chains.specs.Table.{place, field, link, head_of, rows_of, after_cell, Laid}
 use Rattle.chains.specs.Partition.{partition}
@@ -22,13 +22,13 @@ use Rattle.chains.proofs.Words.{rep_of, on_chain, on_short, after_first}
 use Rattle.chains.proofs.Steps.{ready_after}
 use Rattle.chains.proofs.Frames.{put_same, put_ready, field_kept, else_refl, else_trans, else_put}
 
-drop_hit : (p : ℕ → Bool) (x : ℕ) (xs : List ℕ) → p x ≡ true → dropIf p (x ∷ xs) ≡ dropIf p xs
-unfolding dropIf
-drop_hit p x xs e = rw (e, dropIf)
+drop_hit : (p : ℕ → Bool) (x : ℕ) (xs : List ℕ) → p x ≡ true → drop_if p (x ∷ xs) ≡ drop_if p xs
+unfolding drop_if
+drop_hit p x xs e = rw (e, drop_if)
 
-drop_miss : (p : ℕ → Bool) (x : ℕ) (xs : List ℕ) → p x ≡ false → dropIf p (x ∷ xs) ≡ x ∷ dropIf p xs
-unfolding dropIf
-drop_miss p x xs e = rw (e, dropIf)
+drop_miss : (p : ℕ → Bool) (x : ℕ) (xs : List ℕ) → p x ≡ false → drop_if p (x ∷ xs) ≡ x ∷ drop_if p xs
+unfolding drop_if
+drop_miss p x xs e = rw (e, drop_if)
 
 push_hit : (p : ℕ → Bool) (x : ℕ) (xs acc : List ℕ) → p x ≡ true → push_if p (x ∷ xs) acc ≡ push_if p xs (x ∷ acc)
 unfolding push_if
@@ -50,7 +50,7 @@ pub record TurnInv (t : Table) (h : Heads) (test : ℕ → Bool) (w₀ : List �
   pub fit : length ahead ≤ left
   pub fuel : left ≤ t.count
   pub met : length ahead + (t.count - left) ≡ length ys
-  pub sofar_a : ks ++ dropIf test ys ≡ kept ++ dropIf test ahead
+  pub sofar_a : ks ++ drop_if test ys ≡ kept ++ drop_if test ahead
   pub sofar_b : push_if test ys (rows_of t h w₀ b) ≡ push_if test ahead (rows_of t h w b)
   pub others : (j : ℕ) → j ≤ h.owners → (j ≡ a → ⊥) → (j ≡ b → ⊥) → rows_of t h w j ≡ rows_of t h w₀ j
   pub elsewhere : Elsewhere t h w₀ w
@@ -153,7 +153,7 @@ module _ {t : Table} {h : Heads} {test : ℕ → Bool} {w₀ : List ℕ} {a b : 
         fit = omega (arith, i.fit, ap length eq);
         fuel = omega (arith, i.fuel);
         met = omega (arith, i.met, i.fit, i.fuel, ap length eq);
-        sofar_a = i.sofar_a ∙ ap (λ y. i.kept ++ y) (ap (dropIf test) eq ∙ drop_hit test cur zs k);
+        sofar_a = i.sofar_a ∙ ap (λ y. i.kept ++ y) (ap (drop_if test) eq ∙ drop_hit test cur zs k);
         sofar_b =
             i.sofar_b ∙ ap (λ y. push_if test y (rows_of t h w b)) eq ∙ push_hit test cur zs (rows_of t h w b) k
             ∙ ap (push_if test zs) (sym c.at_b);
@@ -182,8 +182,8 @@ module _ {t : Table} {h : Heads} {test : ℕ → Bool} {w₀ : List ℕ} {a b : 
         fuel = omega (arith, i.fuel);
         met = omega (arith, i.met, i.fit, i.fuel, ap length eq);
         sofar_a =
-            i.sofar_a ∙ ap (λ y. i.kept ++ y) (ap (dropIf test) eq ∙ drop_miss test cur zs k)
-            ∙ snoc i.kept cur (dropIf test zs);
+            i.sofar_a ∙ ap (λ y. i.kept ++ y) (ap (drop_if test) eq ∙ drop_miss test cur zs k)
+            ∙ snoc i.kept cur (drop_if test zs);
         sofar_b = i.sofar_b ∙ ap (λ y. push_if test y (rows_of t h w b)) eq ∙ push_miss test cur zs (rows_of t h w b) k;
         others = i.others;
         elsewhere = i.elsewhere;
@@ -227,13 +227,13 @@ module _ {t : Table} {h : Heads} {test : ℕ → Bool} {w₀ : List ℕ} {a b : 
           let row = on_chain t h w i.ready.parted a i.ready.a_in x o in
           absurd (false≢true (sym e ∙ d ∙ more_in t.count left cur (omega (arith, i.fit, ap length eq)) (rw c row)))
 
-  pub turn_end : r ≡ false → Changed t h w₀ w a b (ks ++ dropIf test ys) (push_if test ys (rows_of t h w₀ b))
-  unfolding dropIf push_if
+  pub turn_end : r ≡ false → Changed t h w₀ w a b (ks ++ drop_if test ys) (push_if test ys (rows_of t h w₀ b))
+  unfolding drop_if push_if
   turn_end e =
       let eq = turn_none e in
       record {
         parted = i.ready.parted;
-        at_a = i.here.parts ∙ ap (λ y. i.kept ++ y) eq ∙ sym (i.sofar_a ∙ ap (λ y. i.kept ++ dropIf test y) eq);
+        at_a = i.here.parts ∙ ap (λ y. i.kept ++ y) eq ∙ sym (i.sofar_a ∙ ap (λ y. i.kept ++ drop_if test y) eq);
         at_b = sym (i.sofar_b ∙ ap (λ y. push_if test y (rows_of t h w b)) eq);
         others = i.others;
         elsewhere = i.elsewhere;
@@ -277,8 +277,8 @@ turn_done i d e = turn_end i d e
 pub every_row : ℕ → Bool
 every_row x = true
 
-drop_all : (ys : List ℕ) → dropIf every_row ys ≡ []
-unfolding dropIf every_row
+drop_all : (ys : List ℕ) → drop_if every_row ys ≡ []
+unfolding drop_if every_row
 drop_all [] = refl
 drop_all (y ∷ ys) = drop_all ys
 

@@ -4,7 +4,7 @@ use Rattle.std.specs.Prelude.{ℕ, ◌≤◌, ◌≡◌, Bool, true, false, leng
 use mathlib.Core.List.{List, ◌∷◌, ◌++◌, tail, reverse_aux}
 use Rattle.chains.specs.declared.Table.{Table}
 use Rattle.chains.specs.declared.Heads.{Heads}
-use Rattle.chains.specs.Lists.{last_or, insertAfter, dropIf, push_if}
+use Rattle.chains.specs.Lists.{last_or, insert_after, drop_if, push_if}
 use Rattle.chains.specs.Walk.{IsRow}
 use Rattle.chains.specs.Table.{link_cell, head_cell, head_of, rows_of, Laid, after_cell, stands_before}
 use Rattle.chains.specs.Partition.{partition}
@@ -80,7 +80,7 @@ pub record InsertedSorted (t : Table) (h : Heads) (w w' : List ℕ) (a b o q : �
   pub row : IsRow t.count r
   pub taken : rows_of t h w b ≡ r ∷ tail (rows_of t h w b)
   pub changed :
-      Changed t h w w' a b (insertAfter (stands_before rising t w o q) r (rows_of t h w a)) (tail (rows_of t h w b))
+      Changed t h w w' a b (insert_after (stands_before rising t w o q) r (rows_of t h w a)) (tail (rows_of t h w b))
 
 -- row r, after place p of chain a, has become the first of chain b
 unfoldable pub Unlinked : Table → Heads → List ℕ → List ℕ → ℕ → ℕ → ℕ → ℕ → Type 0
@@ -97,7 +97,7 @@ pub record Turned (t : Table) (h : Heads) (w w' : List ℕ) (a b p r : ℕ) (hit
 -- chain a has lost the rows of which test holds, and chain b has gained them
 abbrev pub UnlinkedBy : (ℕ → Bool) → Table → Heads → List ℕ → List ℕ → ℕ → ℕ → Type 0
 UnlinkedBy test t h w w' a b =
-    Changed t h w w' a b (dropIf test (rows_of t h w a)) (push_if test (rows_of t h w a) (rows_of t h w b))
+    Changed t h w w' a b (drop_if test (rows_of t h w a)) (push_if test (rows_of t h w a) (rows_of t h w b))
 
 -- all rows after place p of chain a, r of them, have gone to chain b, one by one
 unfoldable pub Emptied : Table → Heads → List ℕ → List ℕ → ℕ → ℕ → ℕ → ℕ → Type 0

@@ -42,22 +42,22 @@ first_of p [] = 0
 first_of p (x ∷ xs) = elim (p x) [ true ↦ x | false ↦ first_of p xs ]
 
 -- the longest front of which p holds throughout, and what is left
-unfoldable pub takeWhile {ℓ} : {A : Type ℓ} → (A → Bool) → List A → List A
-takeWhile p [] = []
-takeWhile p (x ∷ xs) = elim (p x) [ true ↦ x ∷ takeWhile p xs | false ↦ [] ]
+unfoldable pub take_while {ℓ} : {A : Type ℓ} → (A → Bool) → List A → List A
+take_while p [] = []
+take_while p (x ∷ xs) = elim (p x) [ true ↦ x ∷ take_while p xs | false ↦ [] ]
 
-unfoldable pub dropWhile {ℓ} : {A : Type ℓ} → (A → Bool) → List A → List A
-dropWhile p [] = []
-dropWhile p (x ∷ xs) = elim (p x) [ true ↦ dropWhile p xs | false ↦ x ∷ xs ]
+unfoldable pub drop_while {ℓ} : {A : Type ℓ} → (A → Bool) → List A → List A
+drop_while p [] = []
+drop_while p (x ∷ xs) = elim (p x) [ true ↦ drop_while p xs | false ↦ x ∷ xs ]
 
 -- the list with x more, after that front
-abbrev pub insertAfter {ℓ} : {A : Type ℓ} → (A → Bool) → A → List A → List A
-insertAfter p x xs = takeWhile p xs ++ x ∷ dropWhile p xs
+abbrev pub insert_after {ℓ} : {A : Type ℓ} → (A → Bool) → A → List A → List A
+insert_after p x xs = take_while p xs ++ x ∷ drop_while p xs
 
 -- the elements of which p fails, in order
-unfoldable pub dropIf {ℓ} : {A : Type ℓ} → (A → Bool) → List A → List A
-dropIf p [] = []
-dropIf p (x ∷ xs) = elim (p x) [ true ↦ dropIf p xs | false ↦ x ∷ dropIf p xs ]
+unfoldable pub drop_if {ℓ} : {A : Type ℓ} → (A → Bool) → List A → List A
+drop_if p [] = []
+drop_if p (x ∷ xs) = elim (p x) [ true ↦ drop_if p xs | false ↦ x ∷ drop_if p xs ]
 
 -- the rows of which p holds, put before acc one after the other
 unfoldable pub push_if : (ℕ → Bool) → List ℕ → List ℕ → List ℕ

@@ -1,7 +1,7 @@
 // Walks along a chain, which read only. `left` is the number of rows that may still be met, so that a circular chain
 // ends too; each result is that of a function of the chain's rows. Rests on lib.rt.
 ghost use Rattle.std.specs.Prelude.{◌≡◌, ◌<◌};
-ghost use Rattle.chains.specs.Lists.{all_of, first_of, last_or, takeWhile};
+ghost use Rattle.chains.specs.Lists.{all_of, first_of, last_or, take_while};
 ghost use Rattle.chains.specs.Walk.{IsRow};
 ghost use Rattle.chains.specs.Table.{Lies, chain, len_of, holds, precedes, stands_before, larger, largest};
 
@@ -98,7 +98,7 @@ fn precedes(rising: bool, x: usize, q: usize) -> bool
 // The place after the front of rows whose word o comes before q.
 pub fn find_place(w: &[u64], t: Table, o: usize, q: usize, rising: bool, head: usize) -> usize
     requires { Lies t w.now × (o < t.stride) }
-    ensures { result ≡ last_or 0 (takeWhile (stands_before rising t w.now o q) (chain t w.now head)) }
+    ensures { result ≡ last_or 0 (take_while (stands_before rising t w.now o q) (chain t w.now head)) }
 {
     let n = t.count;
     let mut place = 0;

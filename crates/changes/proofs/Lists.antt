@@ -9,7 +9,7 @@ use native.Mathlib.Omega.{arith}
 use native.Mathlib.Decide.{ℕ_discrete}
 use lib.Dec.{ltb, leb}
 use borrow.Author.Tests.{ltb-true, ltb-false, lt-ltb, le-ltb, leb-true, leb-false}
-use Rattle.chains.specs.Lists.{occ, all_of, dropIf, takeWhile, dropWhile, insertAfter}
+use Rattle.chains.specs.Lists.{occ, all_of, drop_if, take_while, drop_while, insert_after}
 use Rattle.chains.proofs.Occurs.{occ_nil, occ_other, occ_here, occ_there, occ_swap}
 use Rattle.chains.proofs.Entries.{entries_all, map_append}
 use Rattle.meaning.specs.Lists.{all, any, keep, pairwise}
@@ -38,44 +38,44 @@ pub all_pushed : (f g : ℕ → Bool) (rs rs' : List ℕ) (b : Bool) → map f r
     → all_of f rs' ≡ true
 all_pushed f g rs rs' b e z h = all_inserted f g [] rs rs' b e z h
 
-pub all_dropped : (f p : ℕ → Bool) (rs : List ℕ) → all_of f rs ≡ true → all_of f (dropIf p rs) ≡ true
-unfolding all_of dropIf
+pub all_dropped : (f p : ℕ → Bool) (rs : List ℕ) → all_of f rs ≡ true → all_of f (drop_if p rs) ≡ true
+unfolding all_of drop_if
 all_dropped f p [] h = refl
 all_dropped f p (r ∷ rs) h = go (f r) (p r) refl refl (all_dropped f p rs)
   where
-    go : (a b : Bool) → f r ≡ a → p r ≡ b → (all_of f rs ≡ true → all_of f (dropIf p rs) ≡ true)
-        → all_of f (dropIf p (r ∷ rs)) ≡ true
-    go true true e d ih = rw (d, dropIf) (ih (rw (e, all_of) at h))
-    go true false e d ih = rw (d, dropIf) (rw (e, all_of) (ih (rw (e, all_of) at h)))
+    go : (a b : Bool) → f r ≡ a → p r ≡ b → (all_of f rs ≡ true → all_of f (drop_if p rs) ≡ true)
+        → all_of f (drop_if p (r ∷ rs)) ≡ true
+    go true true e d ih = rw (d, drop_if) (ih (rw (e, all_of) at h))
+    go true false e d ih = rw (d, drop_if) (rw (e, all_of) (ih (rw (e, all_of) at h)))
     go false b e d ih = absurd (false≢true (rw (e, all_of) at h))
 
 -- what is not dropped is kept
 module _ {A : Type 0} (p : A → Bool) where
-  pub drop_keep : (q : A → Bool) → ((x : A) → q x ≡ not (p x)) → (xs : List A) → dropIf p xs ≡ keep q xs
-  unfolding dropIf
+  pub drop_keep : (q : A → Bool) → ((x : A) → q x ≡ not (p x)) → (xs : List A) → drop_if p xs ≡ keep q xs
+  unfolding drop_if
   drop_keep q h [] = refl
   drop_keep q h (x ∷ xs) = go (p x) refl (drop_keep q h xs)
     where
-      go : (b : Bool) → p x ≡ b → dropIf p xs ≡ keep q xs → dropIf p (x ∷ xs) ≡ keep q (x ∷ xs)
-      go true e ih = rw (e, dropIf) (rw (h x ∙ ap not e) ih)
-      go false e ih = rw (e, dropIf) (rw (h x ∙ ap not e) (ap (λ y. x ∷ y) ih))
+      go : (b : Bool) → p x ≡ b → drop_if p xs ≡ keep q xs → drop_if p (x ∷ xs) ≡ keep q (x ∷ xs)
+      go true e ih = rw (e, drop_if) (rw (h x ∙ ap not e) ih)
+      go false e ih = rw (e, drop_if) (rw (h x ∙ ap not e) (ap (λ y. x ∷ y) ih))
 
 -- one more, before the first of which c holds, stands after the front of those of which c fails
 module _ {A : Type 0} (p c : A → Bool) (pc : (x : A) → p x ≡ not (c x)) (v : A) (put : List A → List A)
     (none : put [] ≡ v ∷ []) (some : (x : A) (xs : List A) → put (x ∷ xs) ≡ cond (c x) (v ∷ x ∷ xs) (x ∷ put xs)) where
-  put_after : (xs : List A) → insertAfter p v xs ≡ put xs
-  unfolding takeWhile dropWhile
+  put_after : (xs : List A) → insert_after p v xs ≡ put xs
+  unfolding take_while drop_while
   put_after [] = sym none
   put_after (x ∷ xs) = go (c x) refl (put_after xs)
     where
-      go : (b : Bool) → c x ≡ b → insertAfter p v xs ≡ put xs → insertAfter p v (x ∷ xs) ≡ put (x ∷ xs)
-      go true e ih = rw (some x xs, e) (rw (pc x ∙ ap not e, takeWhile, dropWhile) refl)
-      go false e ih = rw (some x xs, e) (rw (pc x ∙ ap not e, takeWhile, dropWhile) (ap (λ y. x ∷ y) ih))
+      go : (b : Bool) → c x ≡ b → insert_after p v xs ≡ put xs → insert_after p v (x ∷ xs) ≡ put (x ∷ xs)
+      go true e ih = rw (some x xs, e) (rw (pc x ∙ ap not e, take_while, drop_while) refl)
+      go false e ih = rw (some x xs, e) (rw (pc x ∙ ap not e, take_while, drop_while) (ap (λ y. x ∷ y) ih))
 
 -- a version stands after the front of versions above q, one less than its point
-pub insert_after : (q : ℕ) (v : Version) → v.point ≡ suc q → (vs : List Version)
-    → insertAfter (λ x. ltb q x.point) v vs ≡ insert v vs
-insert_after q v h =
+pub insert_after_lem : (q : ℕ) (v : Version) → v.point ≡ suc q → (vs : List Version)
+    → insert_after (λ x. ltb q x.point) v vs ≡ insert v vs
+insert_after_lem q v h =
     put_after (λ x. ltb q x.point) (λ x. ltb x.point v.point) (λ x. other x (ltb x.point v.point) refl) v
     (insert v) refl (λ x xs. refl)
   where
@@ -85,7 +85,7 @@ insert_after q v h =
 
 -- a lock stands after the front of locks with low points below q, its own
 pub lock_after : (q : ℕ) (l : Lock) → l.low ≡ q → (ls : List Lock)
-    → insertAfter (λ x. ltb x.low q) l ls ≡ put_lock l ls
+    → insert_after (λ x. ltb x.low q) l ls ≡ put_lock l ls
 lock_after q l h =
     put_after (λ x. ltb x.low q) (λ x. leb l.low x.low) (λ x. other x (leb l.low x.low) refl) l
     (put_lock l) refl (λ x xs. refl)
@@ -95,15 +95,15 @@ lock_after q l h =
     other x false e = lt-ltb x.low q (omega (arith, h, leb-false l.low x.low e))
 
 -- dropping adds no row
-pub occ_drop : (x : ℕ) (p : ℕ → Bool) (rs : List ℕ) → occ x (dropIf p rs) ≤ occ x rs
-unfolding dropIf
+pub occ_drop : (x : ℕ) (p : ℕ → Bool) (rs : List ℕ) → occ x (drop_if p rs) ≤ occ x rs
+unfolding drop_if
 occ_drop x p [] = omega arith
 occ_drop x p (r ∷ rs) = go (p r) refl (occ_drop x p rs)
   where
-    go : (b : Bool) → p r ≡ b → occ x (dropIf p rs) ≤ occ x rs → occ x (dropIf p (r ∷ rs)) ≤ occ x (r ∷ rs)
-    go true e ih = rw (e, dropIf) (omega (arith, occ_there x r rs))
+    go : (b : Bool) → p r ≡ b → occ x (drop_if p rs) ≤ occ x rs → occ x (drop_if p (r ∷ rs)) ≤ occ x (r ∷ rs)
+    go true e ih = rw (e, drop_if) (omega (arith, occ_there x r rs))
     go false e ih =
-        rw (e, dropIf) (omega (arith, occ_swap x r (dropIf p rs) rs, occ_there x r (dropIf p rs), occ_there x r rs))
+        rw (e, drop_if) (omega (arith, occ_swap x r (drop_if p rs) rs, occ_there x r (drop_if p rs), occ_there x r rs))
 
 -- a test of all rows and the test of one
 pub all_row : (f : ℕ → Bool) (rs : List ℕ) → all_of f rs ≡ true → (x : ℕ) → 1 ≤ occ x rs → f x ≡ true

@@ -8,14 +8,14 @@ use native.Mathlib.Omega.{arith}
 use native.Mathlib.Decide.{ℕ_discrete}
 use lib.Dec.{eqb, ltb}
 use borrow.Author.Tests.{eq-eqb}
-use Rattle.chains.specs.Lists.{occ, all_of, dropIf, push_if, takeWhile, dropWhile, insertAfter}
+use Rattle.chains.specs.Lists.{occ, all_of, drop_if, push_if, take_while, drop_while, insert_after}
 use Rattle.chains.specs.Walk.{IsRow}
 use Rattle.chains.specs.Table.{field, rows_of, precedes, stands_before}
 use Rattle.chains.specs.Change.{Ready, Elsewhere, Changed, InsertedSorted, Taken}
-use Rattle.chains.proofs.Places.{take-drop}
+use Rattle.chains.proofs.Places.{take_drop}
 use Rattle.chains.proofs.Words.{on_chain}
 use Rattle.chains.proofs.Frames.{only_elsewhere, field_kept, apart_kept}
-use Rattle.chains.proofs.Entries.{Filled, filled_start, inserted-entries, sorted_entries, taken-others, entries-kept}
+use Rattle.chains.proofs.Entries.{Filled, filled_start, inserted_entries, sorted_entries, taken_others, entries_kept}
 use Rattle.chains.proofs.Entries.{entries_drop}
 use Rattle.meaning.specs.Store.{with_rec, with_locks, rec_at, locks_used}
 use Rattle.meaning.specs.Points.{put_lock, add_lock}
@@ -42,9 +42,10 @@ locks_at c w r l = ap (λ x. x.locks) (rec_at_lem c w r l)
 
 -- and with those gone that pass a test
 pub locks_dropped : (c : Counts) (w : List ℕ) (r : ℕ) → r < c.records → (p : Lock → Bool)
-    → map (lock_at c w) (dropIf (λ i. p (lock_at c w i)) (lock_rows c w r)) ≡ dropIf p (rec_at (decode_at c w) r).locks
+    → map (lock_at c w) (drop_if (λ i. p (lock_at c w i)) (lock_rows c w r)) ≡ drop_if p
+    (rec_at (decode_at c w) r).locks
 unfolding locks_of
-locks_dropped c w r l p = entries_drop (lock_at c w) p (lock_rows c w r) ∙ ap (dropIf p) (sym (locks_at c w r l))
+locks_dropped c w r l p = entries_drop (lock_at c w) p (lock_rows c w r) ∙ ap (drop_if p) (sym (locks_at c w r l))
 
 -- where only head and link words differ, the locks are as before
 pub lock_kept : {c : Counts} {w w' : List ℕ} → Fits c w → Elsewhere (lock_table c) (lock_heads c) w w' → (x : ℕ)
@@ -88,7 +89,7 @@ module _ {c : Counts} {w : List ℕ} (W : Well c w) {r : ℕ} (l : r < c.records
     -- and once filled it stands where its low point belongs
     module _ (x : Lock) where
       inserted : Filled (lock_table c) (lock_heads c) w (lock_stored c w₁ i r x) (suc r) 0
-          (insertAfter (stands_before true (lock_table c) w L_LOW q) i
+          (insert_after (stands_before true (lock_table c) w L_LOW q) i
           (rows_of (lock_table c) (lock_heads c) w (suc r)))
           (tail (rows_of (lock_table c) (lock_heads c) w 0)) i
       inserted = lock_filled c lock_ready_back (filled_start lock_ready_back i lock_inserted.changed) lock_row r x
@@ -99,7 +100,7 @@ module _ {c : Counts} {w : List ℕ} (W : Well c w) {r : ℕ} (l : r < c.records
           let rows = rows_of (lock_table c) (lock_heads c) w (suc r) in
           sorted_entries (lock_at c (lock_stored c w₁ i r x)) (lock_at c w) (λ y. ltb y.low q) lock_ready_back
           lock_inserted.taken inserted (λ y q n. (lock_rest c inserted y q n).0)
-          ∙ ap (λ y. insertAfter (λ z. ltb z.low q) y (map (lock_at c w) rows))
+          ∙ ap (λ y. insert_after (λ z. ltb z.low q) y (map (lock_at c w) rows))
           (lock_stored_at lock_inserted_fits lock_row r x m)
           ∙ lock_after q x e (map (lock_at c w) rows)
 
@@ -107,7 +108,7 @@ module _ {c : Counts} {w : List ℕ} (W : Well c w) {r : ℕ} (l : r < c.records
           → j < c.records → (j ≡ r → ⊥) → map f (lock_rows c (lock_stored c w₁ i r x) j) ≡ map g (lock_rows c w j)
       unfolding lock_rows lock_heads lock_table
       inserted_others f g e j q n =
-          taken-others f g lock_ready_back lock_inserted.taken inserted e (suc j) (omega arith)
+          taken_others f g lock_ready_back lock_inserted.taken inserted e (suc j) (omega arith)
           (λ z. n (omega arith)) (λ z. omega arith)
 
       inserted_named : (j : ℕ) → j < c.records
@@ -118,13 +119,14 @@ module _ {c : Counts} {w : List ℕ} (W : Well c w) {r : ℕ} (l : r < c.records
           let test = stands_before true (lock_table c) w L_LOW q in
           let rows = rows_of (lock_table c) (lock_heads c) w (suc r) in
           elim (ℕ_discrete j r) [
-            | yes z ↦ rw z (all_inserted (names_record c w₂ r) (names_record c w r) (takeWhile test rows)
-                (dropWhile test rows) (lock_rows c w₂ r) (names_record c w₂ r i)
-                (inserted-entries (names_record c w₂ r) (names_record c w r) (takeWhile test rows) (dropWhile test rows)
-                lock_ready_back lock_inserted.taken (take-drop test rows) inserted
+            | yes z ↦ rw z (all_inserted (names_record c w₂ r) (names_record c w r) (take_while test rows)
+                (drop_while test rows) (lock_rows c w₂ r) (names_record c w₂ r i)
+                (inserted_entries (names_record c w₂ r) (names_record c w r) (take_while test rows)
+                (drop_while test rows)
+                lock_ready_back lock_inserted.taken (take_drop test rows) inserted
                 (λ y q n. (lock_rest c inserted y q n).1 r))
                 (eq-eqb (field (lock_table c) w₂ i L_RECORD) r (lock_stored_record lock_inserted_fits lock_row r x))
-                (ap (all_of (names_record c w r)) (sym (take-drop test rows)) ∙ W.named r l))
+                (ap (all_of (names_record c w r)) (sym (take_drop test rows)) ∙ W.named r l))
             | no z ↦ all_same (names_record c w₂ j) (names_record c w j) (lock_rows c w j) (lock_rows c w₂ j)
                 (inserted_others (names_record c w₂ j) (names_record c w j)
                 (λ y q n. (lock_rest c inserted y q n).1 j) j p z)
@@ -147,7 +149,7 @@ module _ {c : Counts} {w : List ℕ} (W : Well c w) {r : ℕ} (l : r < c.records
 
   -- rows that pass a test were sent to the free chain
   module _ {w' : List ℕ} (test : ℕ → Bool) (unlinked : Changed (lock_table c) (lock_heads c) w w' (suc r) 0
-      (dropIf test (rows_of (lock_table c) (lock_heads c) w (suc r)))
+      (drop_if test (rows_of (lock_table c) (lock_heads c) w (suc r)))
       (push_if test (rows_of (lock_table c) (lock_heads c) w (suc r))
       (rows_of (lock_table c) (lock_heads c) w 0))) where
     unlinked_rest : (x : ℕ) → IsRow c.locks x
@@ -164,22 +166,22 @@ module _ {c : Counts} {w : List ℕ} (W : Well c w) {r : ℕ} (l : r < c.records
     unfolding lock_rows lock_heads
     unlinked_others f g e j q n =
         ap (map f) (unlinked.others (suc j) (omega arith) (λ z. n (omega arith)) (λ z. omega arith))
-        ∙ entries-kept f g (rows_of (lock_table c) (lock_heads c) w (suc j)) (λ x o. e x (row_of j q x o))
+        ∙ entries_kept f g (rows_of (lock_table c) (lock_heads c) w (suc j)) (λ x o. e x (row_of j q x o))
 
     unlinked_here : {A : Type 0} (f g : ℕ → A) → ((x : ℕ) → IsRow c.locks x → f x ≡ g x)
-        → map f (lock_rows c w' r) ≡ map g (dropIf test (lock_rows c w r))
+        → map f (lock_rows c w' r) ≡ map g (drop_if test (lock_rows c w r))
     unfolding lock_rows
     unlinked_here f g e = ap (map f) unlinked.at_a
-        ∙ entries-kept f g (dropIf test (rows_of (lock_table c) (lock_heads c) w (suc r)))
+        ∙ entries_kept f g (drop_if test (rows_of (lock_table c) (lock_heads c) w (suc r)))
         (λ x o. e x (row_of r l x (dropped_in x o)))
       where
-        dropped_in : (x : ℕ) → 1 ≤ occ x (dropIf test (rows_of (lock_table c) (lock_heads c) w (suc r)))
+        dropped_in : (x : ℕ) → 1 ≤ occ x (drop_if test (rows_of (lock_table c) (lock_heads c) w (suc r)))
             → 1 ≤ occ x (rows_of (lock_table c) (lock_heads c) w (suc r))
         dropped_in x o = omega (arith, occ_drop x test (rows_of (lock_table c) (lock_heads c) w (suc r)))
 
     unlinked_named : (j : ℕ) → j < c.records → all_of (names_record c w' j) (lock_rows c w' j) ≡ true
     unlinked_named j q = elim (ℕ_discrete j r) [
-      | yes z ↦ rw z (all_same (names_record c w' r) (names_record c w r) (dropIf test (lock_rows c w r))
+      | yes z ↦ rw z (all_same (names_record c w' r) (names_record c w r) (drop_if test (lock_rows c w r))
           (lock_rows c w' r)
           (unlinked_here (names_record c w' r) (names_record c w r) (λ x q. (unlinked_rest x q).1 r))
           (all_dropped (names_record c w r) test (lock_rows c w r) (W.named r l)))
@@ -188,7 +190,7 @@ module _ {c : Counts} {w : List ℕ} (W : Well c w) {r : ℕ} (l : r < c.records
           (W.named j q)
     ]
 
-    pub drop_locks_law : {ls : List Lock} → map (lock_at c w) (dropIf test (lock_rows c w r)) ≡ ls
+    pub drop_locks_law : {ls : List Lock} → map (lock_at c w) (drop_if test (lock_rows c w r)) ≡ ls
         → Becomes c w' (with_rec (decode_at c w) r (with_locks (rec_at (decode_at c w) r) ls))
     unfolding locks_of lock_table
     drop_locks_law e =

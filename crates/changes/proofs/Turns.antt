@@ -5,7 +5,7 @@ use mathlib.Core.Path.{◌≡◌, ap, ◌∙◌}
 use mathlib.Core.Bool.{Bool, true, false}
 use mathlib.Core.List.{List, []}
 use native.Mathlib.Omega.{arith}
-use Rattle.chains.specs.Lists.{dropIf, push_if}
+use Rattle.chains.specs.Lists.{drop_if, push_if}
 use Rattle.chains.specs.Walk.{IsRow, more}
 use Rattle.chains.specs.Table.{link, head_of, rows_of}
 use Rattle.chains.specs.Change.{Ready, Changed, Follows, Turned}
@@ -65,7 +65,7 @@ module _ {c : Counts} {p : Lock → Bool} {w₀ : List ℕ} {r : ℕ} {w : List 
 
     pub lock_turns_end : b ≡ false
         → Changed (lock_table c) (lock_heads c) w₀ w (suc r) 0
-        (dropIf (λ i. p (lock_at c w₀ i)) (rows_of (lock_table c) (lock_heads c) w₀ (suc r)))
+        (drop_if (λ i. p (lock_at c w₀ i)) (rows_of (lock_table c) (lock_heads c) w₀ (suc r)))
         (push_if (λ i. p (lock_at c w₀ i)) (rows_of (lock_table c) (lock_heads c) w₀ (suc r))
         (rows_of (lock_table c) (lock_heads c) w₀ 0))
     unfolding lock_table

@@ -6,13 +6,13 @@ use mathlib.Core.Bool.{Bool, false}
 use mathlib.Core.List.{List, map, tail}
 use native.Mathlib.Omega.{arith}
 use lib.Dec.{ltb}
-use Rattle.chains.specs.Lists.{occ, dropIf, push_if, insertAfter}
+use Rattle.chains.specs.Lists.{occ, drop_if, push_if, insert_after}
 use Rattle.chains.specs.Walk.{IsRow}
 use Rattle.chains.specs.Table.{field, rows_of, precedes, stands_before}
 use Rattle.chains.specs.Change.{Ready, Changed, InsertedSorted, Taken}
 use Rattle.chains.proofs.Words.{on_chain}
 use Rattle.chains.proofs.Frames.{only_elsewhere, field_kept, apart_kept}
-use Rattle.chains.proofs.Entries.{Filled, filled_start, sorted_entries, taken-others, entries-kept, entries_drop}
+use Rattle.chains.proofs.Entries.{Filled, filled_start, sorted_entries, taken_others, entries_kept, entries_drop}
 use Rattle.meaning.specs.Store.{with_rec, rec_at, versions_used}
 use Rattle.meaning.specs.Ending.{insert}
 use Rattle.types.specs.declared.Version.{Version}
@@ -29,7 +29,7 @@ use Rattle.changes.proofs.Parts.{accesses_kept}
 use Rattle.changes.proofs.OneTable.{versions_become, versions_fit}
 use Rattle.tables.proofs.Rooms.{free_version}
 use Rattle.changes.proofs.Stored.{version_stored_at, version_filled, version_rest}
-use Rattle.changes.proofs.Lists.{occ_drop, insert_after}
+use Rattle.changes.proofs.Lists.{occ_drop, insert_after_lem}
 
 -- the decoded versions of a record
 pub versions_at : (c : Counts) (w : List ℕ) (r : ℕ) → r < c.records
@@ -68,7 +68,7 @@ module _ {c : Counts} {w : List ℕ} (W : Well c w) {r : ℕ} (l : r < c.records
     -- and once filled it stands where its point belongs
     module _ (point value : ℕ) where
       inserted : Filled (version_table c) (version_heads c) w (version_stored c w₁ i point value) (suc r) 0
-          (insertAfter (stands_before false (version_table c) w V_POINT q) i
+          (insert_after (stands_before false (version_table c) w V_POINT q) i
           (rows_of (version_table c) (version_heads c) w (suc r)))
           (tail (rows_of (version_table c) (version_heads c) w 0)) i
       inserted =
@@ -82,15 +82,15 @@ module _ {c : Counts} {w : List ℕ} (W : Well c w) {r : ℕ} (l : r < c.records
           let rows = rows_of (version_table c) (version_heads c) w (suc r) in
           sorted_entries (version_at c (version_stored c w₁ i point value)) (version_at c w) (λ x. ltb q x.point)
           version_ready version_inserted.taken inserted (λ y q n. version_rest c inserted y q n)
-          ∙ ap (λ y. insertAfter (λ x. ltb q x.point) y (map (version_at c w) rows))
+          ∙ ap (λ y. insert_after (λ x. ltb q x.point) y (map (version_at c w) rows))
           (version_stored_at version_inserted_fits version_row point value)
-          ∙ insert_after q (version_of point value) e (map (version_at c w) rows)
+          ∙ insert_after_lem q (version_of point value) e (map (version_at c w) rows)
 
       inserted_others : (j : ℕ) → j < c.records → (j ≡ r → ⊥)
           → versions_of c (version_stored c w₁ i point value) j ≡ versions_of c w j
       unfolding versions_of version_rows version_heads version_table
       inserted_others j q n =
-          taken-others (version_at c (version_stored c w₁ i point value)) (version_at c w) version_ready
+          taken_others (version_at c (version_stored c w₁ i point value)) (version_at c w) version_ready
           version_inserted.taken inserted (λ y q n. version_rest c inserted y q n) (suc j) (omega arith)
           (λ e. n (omega arith)) (λ e. omega arith)
 
@@ -108,7 +108,7 @@ module _ {c : Counts} {w : List ℕ} (W : Well c w) {r : ℕ} (l : r < c.records
   -- rows that pass a test of their entry were sent to the free chain
   module _ {w' : List ℕ} (p : Version → Bool)
       (unlinked : Changed (version_table c) (version_heads c) w w' (suc r) 0
-      (dropIf (λ i. p (version_at c w i)) (rows_of (version_table c) (version_heads c) w (suc r)))
+      (drop_if (λ i. p (version_at c w i)) (rows_of (version_table c) (version_heads c) w (suc r)))
       (push_if (λ i. p (version_at c w i)) (rows_of (version_table c) (version_heads c) w (suc r))
       (rows_of (version_table c) (version_heads c) w 0))) where
     unlinked_rest : (x : ℕ) → IsRow c.versions x → version_at c w' x ≡ version_at c w x
@@ -128,22 +128,22 @@ module _ {c : Counts} {w : List ℕ} (W : Well c w) {r : ℕ} (l : r < c.records
     unfolding versions_of version_rows version_heads
     unlinked_others j q n =
         ap (map (version_at c w')) (unlinked.others (suc j) (omega arith) (λ z. n (omega arith)) (λ z. omega arith))
-        ∙ entries-kept (version_at c w') (version_at c w) (rows_of (version_table c) (version_heads c) w (suc j))
+        ∙ entries_kept (version_at c w') (version_at c w) (rows_of (version_table c) (version_heads c) w (suc j))
         (λ x o. unlinked_rest x (row_of j q x o))
 
-    unlinked_here : versions_of c w' r ≡ dropIf p (versions_of c w r)
+    unlinked_here : versions_of c w' r ≡ drop_if p (versions_of c w r)
     unfolding versions_of version_rows
     unlinked_here =
         let test : ℕ → Bool = λ i. p (version_at c w i) in
         let rows = rows_of (version_table c) (version_heads c) w (suc r) in
         ap (map (version_at c w')) unlinked.at_a
-        ∙ entries-kept (version_at c w') (version_at c w) (dropIf test rows)
+        ∙ entries_kept (version_at c w') (version_at c w) (drop_if test rows)
         (λ x o. unlinked_rest x (row_of r l x (omega (arith, occ_drop x test rows))))
         ∙ entries_drop (version_at c w) p rows
 
-    pub drop_versions_law : {vs : List Version} → dropIf p (rec_at (decode_at c w) r).versions ≡ vs
+    pub drop_versions_law : {vs : List Version} → drop_if p (rec_at (decode_at c w) r).versions ≡ vs
         → Becomes c w' (with_rec (decode_at c w) r (with_versions (rec_at (decode_at c w) r) vs))
     unfolding version_table
     drop_versions_law e =
         versions_become W (only_elsewhere (omega arith) unlinked.elsewhere) r l unlinked.parted unlinked_others
-        (unlinked_here ∙ ap (dropIf p) (sym (versions_at c w r l)) ∙ e)
+        (unlinked_here ∙ ap (drop_if p) (sym (versions_at c w r l)) ∙ e)

@@ -23,7 +23,7 @@ use Rattle.types.specs.declared.Pick.{Pick}
 use Rattle.types.specs.declared.Pick.TheVariants.{Earliest, Latest, Named}
 use Rattle.types.specs.declared.Finish.{Finish}
 use Rattle.meaning.proofs.Laws.{common_set_is, earliest_is_least, latest_is_greatest}
-use Rattle.calls.proofs.Verdicts.{needs_fails, needs_holds, no_edit, edit_ended, edit_open}
+use Rattle.calls.proofs.Verdicts.{needs_fails, needs_holds, no_edit_lem, edit_ended, edit_open}
 use Rattle.endings.specs.Parts.{commit_at}
 
 module _ (s : Store) (h : ℕ) (pick : Pick) (f : Finish) where
@@ -35,7 +35,7 @@ module _ (s : Store) (h : ℕ) (pick : Pick) (f : Finish) where
 
   pub commit_no_edit : knows s h ≡ false → committing h pick f s ≡ replies s (refusing 2 [])
   unfolding committing_by commit_checks
-  commit_no_edit e = no_edit s rest h picked e
+  commit_no_edit e = no_edit_lem s rest h picked e
 
   pub commit_ended : knows s h ≡ true → is_open s h ≡ false → committing h pick f s ≡ replies s (refusing 3 [])
   unfolding committing_by commit_checks

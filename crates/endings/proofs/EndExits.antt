@@ -11,7 +11,7 @@ use Rattle.meaning.specs.Ending.{finished, aborted, settled, abort_checks, abort
 use Rattle.meaning.specs.Ending.{settling}
 use Rattle.meaning.specs.Ending.{settling_by}
 use Rattle.types.specs.declared.Finish.{Finish}
-use Rattle.calls.proofs.Verdicts.{needs_fails, needs_holds, no_edit, edit_ended, edit_open}
+use Rattle.calls.proofs.Verdicts.{needs_fails, needs_holds, no_edit_lem, edit_ended, edit_open}
 
 module _ (s : Store) (h : ℕ) (f : Finish) where
   abbrev abort_end : Outcome
@@ -19,7 +19,7 @@ module _ (s : Store) (h : ℕ) (f : Finish) where
 
   pub abort_no_edit : knows s h ≡ false → aborting h f s ≡ replies s (refusing 2 [])
   unfolding aborting_by abort_checks
-  abort_no_edit e = no_edit s abort_end h pass e
+  abort_no_edit e = no_edit_lem s abort_end h pass e
 
   pub abort_ended : knows s h ≡ true → is_open s h ≡ false → aborting h f s ≡ replies s (refusing 3 [])
   unfolding aborting_by abort_checks

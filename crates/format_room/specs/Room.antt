@@ -1,4 +1,4 @@
--- The room that a Format of a script has: "It lays out at most 8,000 words (more: `no 16`)". Rests on goodCounts of
+-- The room that a Format of a script has: "It lays out at most 8,000 words (more: `no 16`)". Rests on good_counts of
 -- `meaning` and Layout of `tables`.
 use Rattle.std.specs.Prelude.{ℕ, Bool, cond, ◌&&◌, leb}
 use Rattle.meaning.specs.Records.{good_counts}

@@ -58,14 +58,14 @@ at_moment m r p q v x e z =
     told_shown none = refl
     told_shown (some w) = refl
 
-module _ (Lent : Type 0) (decode : Lent → Store) (soundLent : Lent → Bool) where
+module _ (Lent : Type 0) (decode : Lent → Store) (sound_lent : Lent → Bool) where
   -- l was heard of the calls that left w
   record Leaves (n : ℕ) (l : History Val) (w : Lent) : Type 1 where
-    sound : soundLent w ≡ true
+    sound : sound_lent w ≡ true
     left : Left n l (decode w)
 
   call_leaves : {n : ℕ} {l : History Val} {w w' : Lent} (c : Call) {q : Reply}
-      → Does Lent decode soundLent (act c) w w' q
+      → Does Lent decode sound_lent (act c) w w' q
       → Leaves n l w
       → Leaves n (l ▸ heard c q) w'
   call_leaves {n} {l} {w} {w'} c {q} d h =
@@ -78,13 +78,13 @@ module _ (Lent : Type 0) (decode : Lent → Store) (soundLent : Lent → Bool) w
       }
 
   calls_leave : {n : ℕ} {l : History Val} {w w' : Lent} {ds : List Call} {ps : List Reply}
-      → Calls Lent decode soundLent w ds ps w'
+      → Calls Lent decode sound_lent w ds ps w'
       → Leaves n l w
       → Leaves n (heard_after l ds ps) w'
   calls_leave done h = h
   calls_leave {l = l} (then {c = c} {q = q} d r) h = calls_leave {l = l ▸ heard c q} r (call_leaves c d h)
 
-  fresh_leaves : (counts : Counts) (w : Lent) → Formats Lent decode soundLent counts w → Leaves counts.records ε w
+  fresh_leaves : (counts : Counts) (w : Lent) → Formats Lent decode sound_lent counts w → Leaves counts.records ε w
   fresh_leaves counts w f =
       record {
         sound = f.stays;
@@ -93,7 +93,7 @@ module _ (Lent : Type 0) (decode : Lent → Store) (soundLent : Lent → Bool) w
       }
 
   list_leaves : {counts : Counts} {cs : List Call} {qs : List Reply} {w : Lent}
-      → Listed Lent decode soundLent counts cs qs w → Leaves counts.records (history cs qs) w
+      → Listed Lent decode sound_lent counts cs qs w → Leaves counts.records (history cs qs) w
   list_leaves {counts} h = calls_leave h.calls (fresh_leaves counts h.start h.format)
 
   module _ {n : ℕ} {l : History Val} {w : Lent} (h : Leaves n l w) where
@@ -103,11 +103,11 @@ module _ (Lent : Type 0) (decode : Lent → Store) (soundLent : Lent → Bool) w
     runs : Run l state
     runs = slot_runs h.left.runs
 
-    seen_of : (r p q : ℕ) (v : Value) → ViewGives Lent decode soundLent w r p q v
+    seen_of : (r p q : ℕ) (v : Value) → ViewGives Lent decode sound_lent w r p q v
         → Seen l (decode w) h.left.good r p q v
     seen_of r p q v d = seen l (decode w) h.left.good r p q v (sym (d.reply h.sound))
 
-    chart : (p : ℕ) → Chart l p (λ r q v. ViewGives Lent decode soundLent w r p q v)
+    chart : (p : ℕ) → Chart l p (λ r q v. ViewGives Lent decode sound_lent w r p q v)
     chart p =
         record {
           has_moment = λ o C. (charts_are_moments Val l state runs o C p).has_moment;
@@ -119,8 +119,8 @@ module _ (Lent : Type 0) (decode : Lent → Store) (soundLent : Lent → Bool) w
 
   -- of the calls before, and of those after
   module _ {n : ℕ} {l m : History Val} {w w' : Lent} (h : Leaves n l w) (k : Leaves n m w') (g : Prefix l m) where
-    stays : (r p q : ℕ) (v : Value) → ViewGives Lent decode soundLent w r p q v → NoCommitSince l m r p
-        → ChartStays Lent decode soundLent m w' r p q v
+    stays : (r p q : ℕ) (v : Value) → ViewGives Lent decode sound_lent w r p q v → NoCommitSince l m r p
+        → ChartStays Lent decode sound_lent m w' r p q v
     stays r p q v d none-since =
         let s = seen_of h r p q v d in
         let z =
@@ -136,7 +136,7 @@ module _ (Lent : Type 0) (decode : Lent → Store) (soundLent : Lent → Bool) w
           moment = at_moment m r p q v s.value s.shown z;
         }
 
-    kept : (e t r : ℕ) → Commits l e t → Touches l e r → ChartOfEdit Lent decode soundLent l w' e t r
+    kept : (e t r : ℕ) → Commits l e t → Touches l e r → ChartOfEdit Lent decode sound_lent l w' e t r
     kept e t r c touch =
         record {
           place = λ o C. (after o C).place;
@@ -149,7 +149,7 @@ module _ (Lent : Type 0) (decode : Lent → Store) (soundLent : Lent → Bool) w
         after o C =
             charts_of_reads_stay Val l m (state h) (state k) (runs h) (runs k) g o C e t r c touch
 
-        value : (q : ℕ) (v : Value) → ViewGives Lent decode soundLent w' r t q v → (o : Seq ℕ) (C : CommitOrder l o)
+        value : (q : ℕ) (v : Value) → ViewGives Lent decode sound_lent w' r t q v → (o : Seq ℕ) (C : CommitOrder l o)
             → (a : Seq ℕ) → Prefix (a ▸ e) o
             → v ≡ shown_value (plain_end l (a ▸ e) r)
         value q v d o C a i =
@@ -169,13 +169,13 @@ module _ (Lent : Type 0) (decode : Lent → Store) (soundLent : Lent → Bool) w
         there : Prefix (before ▸ e) order.0
         there = later.place.1
 
-        some_value : (q : ℕ) (v : Value) → ViewGives Lent decode soundLent w' r t q v
+        some_value : (q : ℕ) (v : Value) → ViewGives Lent decode sound_lent w' r t q v
             → v ≡ shown_value (plain_end l (before ▸ e) r)
         some_value q v d = value q v d order.0 order.1 before there
 
   -- every View of a list, on what the calls before it left
   views_fit : {n : ℕ} {l end : History Val} {w w' : Lent} {E : State Val} {ds : List Call} {ps : List Reply}
-      → Calls Lent decode soundLent w ds ps w'
+      → Calls Lent decode sound_lent w ds ps w'
       → Leaves n l w → Run end E
       → ViewsFit l end ds ps
   unfolding act_by
@@ -194,7 +194,7 @@ module _ (Lent : Type 0) (decode : Lent → Store) (soundLent : Lent → Bool) w
 
   -- no Purge raises the floor of r above p
   calls_low : {n : ℕ} {l : History Val} {w w' : Lent} {ds : List Call} {ps : List Reply} (r p : ℕ)
-      → Calls Lent decode soundLent w ds ps w'
+      → Calls Lent decode sound_lent w ds ps w'
       → Leaves n l w → NoPurgeAbove ds r p
       → Low r p (decode w)
       → Low r p (decode w')
@@ -208,7 +208,7 @@ module _ (Lent : Type 0) (decode : Lent → Store) (soundLent : Lent → Bool) w
       omega (arith, purges b (Memᴰ.head z), newest_bound (decode w) h.left.good i b.0))
       low))
 
-  pub words_granted : WordsGranted Lent decode soundLent
+  pub words_granted : WordsGranted Lent decode sound_lent
   words_granted counts cs qs w h r p inside high purges a shows =
       let k = list_leaves h in
       let low =
@@ -221,7 +221,7 @@ module _ (Lent : Type 0) (decode : Lent → Store) (soundLent : Lent → Bool) w
             ∙ view_granted (decode w) r p (omega (arith, inside, k.left.count)) high low,
       )
 
-  pub words_charts : WordsCharts Lent decode soundLent
+  pub words_charts : WordsCharts Lent decode sound_lent
   words_charts counts cs qs w h ds ps w' c =
       let a = list_leaves h in
       let b = calls_leave c a in

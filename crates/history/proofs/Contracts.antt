@@ -18,9 +18,9 @@ use Rattle.meaning.specs.Contract.{Does, Shows}
 use Rattle.meaning.proofs.Verdicts.{view_same}
 use Rattle.history.specs.Words.{EnsuresDoes, Calls, done, then, EveryListListed}
 
-module _ (Lent : Type 0) (decode : Lent → Store) (soundLent : Lent → Bool) where
-  pub view_does : (r p : ℕ) {w : Lent} {q : Reply} → Shows Lent decode soundLent (viewing r p) w q
-      → Does Lent decode soundLent (viewing r p) w w q
+module _ (Lent : Type 0) (decode : Lent → Store) (sound_lent : Lent → Bool) where
+  pub view_does : (r p : ℕ) {w : Lent} {q : Reply} → Shows Lent decode sound_lent (viewing r p) w q
+      → Does Lent decode sound_lent (viewing r p) w w q
   view_does r p {w} d =
       record {
         unsound = d.unsound;
@@ -30,7 +30,7 @@ module _ (Lent : Type 0) (decode : Lent → Store) (soundLent : Lent → Bool) w
         unchanged = λ h. refl;
       }
 
-  pub ensures_does : EnsuresDoes Lent decode soundLent
+  pub ensures_does : EnsuresDoes Lent decode sound_lent
   unfolding act_by
   ensures_does C.Begin w w' q d = d
   ensures_does (C.Write h r v) w w' q d = d

@@ -14,10 +14,10 @@ use Rattle.history.specs.Words.{Calls, done, then}
 use Rattle.history.specs.OldTable.{AlikeCalls, StoreWordsMeanOldTable}
 use Rattle.history.proofs.OverStore.{formats}
 
-module _ (Lent : Type 0) (decode : Lent → Store) (soundLent : Lent → Bool) where
-  alike_calls : {w end : Lent} {cs : List Call} {qs : List Reply} (calls : Calls Lent decode soundLent w cs qs end)
-      → soundLent w ≡ true → (old new : Store) → decode w ≡ new → AlikeAlong cs old new
-      → AlikeCalls Lent decode soundLent calls old
+module _ (Lent : Type 0) (decode : Lent → Store) (sound_lent : Lent → Bool) where
+  alike_calls : {w end : Lent} {cs : List Call} {qs : List Reply} (calls : Calls Lent decode sound_lent w cs qs end)
+      → sound_lent w ≡ true → (old new : Store) → decode w ≡ new → AlikeAlong cs old new
+      → AlikeCalls Lent decode sound_lent calls old
   alike_calls done s old new e a = tt
   alike_calls (then {w = w} {w₁ = w₁} {c = c} {q = q} {cs = cs} d more) s old new e a =
       λ n.

@@ -16,14 +16,14 @@ use Rattle.history.specs.Statement.{replied}
 use Rattle.history.specs.Words.{Calls, done, then, Listed, WordsSerializable, WordsOrderExists, WordsPointIsOne}
 use Rattle.history.proofs.Theorem.{store_serializable, store_order_exists, store_point_is_one}
 
-module _ (Lent : Type 0) (decode : Lent → Store) (soundLent : Lent → Bool) where
+module _ (Lent : Type 0) (decode : Lent → Store) (sound_lent : Lent → Bool) where
   record Follows (w w' : Lent) (cs : List Call) (qs : List Reply) : Type 0 where
     replies : qs ≡ run cs (decode w)
     ends : decode w' ≡ after cs (decode w)
-    holds : soundLent w' ≡ true
+    holds : sound_lent w' ≡ true
 
-  follows : {w w' : Lent} {cs : List Call} {qs : List Reply} → Calls Lent decode soundLent w cs qs w'
-      → soundLent w ≡ true → Follows w w' cs qs
+  follows : {w w' : Lent} {cs : List Call} {qs : List Reply} → Calls Lent decode sound_lent w cs qs w'
+      → sound_lent w ≡ true → Follows w w' cs qs
   unfolding run_by after_by
   follows done s = record { replies = refl; ends = refl; holds = s }
   follows (then {w = w} {w₁ = w₁} {c = c} {q = q} {cs = cs} {qs = qs} d r) s =
@@ -38,7 +38,7 @@ module _ (Lent : Type 0) (decode : Lent → Store) (soundLent : Lent → Bool) w
 
   -- the list is that of the calls on a fresh store, with the same replies
   module _ (counts : Counts) (cs : List Call) (qs : List Reply) (end : Lent)
-      (l : Listed Lent decode soundLent counts cs qs end) where
+      (l : Listed Lent decode sound_lent counts cs qs end) where
     listed : Follows l.start end cs qs
     listed = follows l.calls l.format.stays
 
@@ -49,7 +49,7 @@ module _ (Lent : Type 0) (decode : Lent → Store) (soundLent : Lent → Bool) w
     same_end : decode end ≡ after cs (fresh counts)
     same_end = listed.ends ∙ ap (λ (t : Store). after cs t) l.format.store
 
-  pub words_serializable : WordsSerializable Lent decode soundLent
+  pub words_serializable : WordsSerializable Lent decode sound_lent
   words_serializable counts cs qs end l o order =
       let q = same_history counts cs qs end l in
       let p = store_serializable counts cs l.format.good o (subst (λ h. CommitOrder h o) q order) in
@@ -65,10 +65,10 @@ module _ (Lent : Type 0) (decode : Lent → Store) (soundLent : Lent → Bool) w
       }
       )
 
-  pub words_order_exists : WordsOrderExists Lent decode soundLent
+  pub words_order_exists : WordsOrderExists Lent decode sound_lent
   words_order_exists counts cs qs end l =
       rw (same_history counts cs qs end l) (store_order_exists counts cs l.format.good)
 
-  pub words_point_is_one : WordsPointIsOne Lent decode soundLent
+  pub words_point_is_one : WordsPointIsOne Lent decode sound_lent
   words_point_is_one counts cs qs end l =
       rw (same_history counts cs qs end l) (store_point_is_one counts cs l.format.good)

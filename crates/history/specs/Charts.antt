@@ -60,10 +60,10 @@ ViewsFit l end (c ∷ cs) (q ∷ qs) = ViewFits l end c q × ViewsFit (l ▸ hea
 abbrev pub NoPurgeAbove : List Call → ℕ → ℕ → Type 0
 NoPurgeAbove cs r p = (b : Point) → lists.◌∈◌ (C.Purge r b) cs → b.0 ≤ p
 
-module _ (Lent : Type 0) (decode : Lent → Store) (soundLent : Lent → Bool) where
+module _ (Lent : Type 0) (decode : Lent → Store) (sound_lent : Lent → Bool) where
   -- "View a record at p", asked of what is lent, was granted and replied `at q v`
   abbrev pub ViewGives : Lent → ℕ → ℕ → ℕ → Value → Type 0
-  ViewGives w r p q v = Shows Lent decode soundLent (viewing r p) w (at q v)
+  ViewGives w r p q v = Shows Lent decode sound_lent (viewing r p) w (at q v)
 
   -- A reply `at q v` of View of r at p, when the list has come to m and left w: View still gives it wherever it is
   -- granted, and granted or not it is of the moment p of m
@@ -95,20 +95,20 @@ module _ (Lent : Type 0) (decode : Lent → Store) (soundLent : Lent → Bool) w
 
   abbrev pub WordsCharts : Type 0
   WordsCharts = (counts : Counts) (cs : List Call) (qs : List Reply) (w : Lent)
-      → Listed Lent decode soundLent counts cs qs w
-      → (ds : List Call) (ps : List Reply) (w' : Lent) → Calls Lent decode soundLent w ds ps w'
+      → Listed Lent decode sound_lent counts cs qs w
+      → (ds : List Call) (ps : List Reply) (w' : Lent) → Calls Lent decode sound_lent w ds ps w'
       → Charts (history cs qs) w ds ps w'
 
   -- When View is granted, of what the calls cs left: of an existing record, at a point at or below LAST, if no Purge
   -- among the calls was of that record to a point above it
   abbrev pub Granted : ℕ → List Call → Lent → Type 0
   Granted records cs w = (r p : ℕ) → r < records → p ≤ LAST → NoPurgeAbove cs r p
-      → (a : Reply) → Shows Lent decode soundLent (viewing r p) w a
+      → (a : Reply) → Shows Lent decode sound_lent (viewing r p) w a
       → (q : ℕ) × (v : Value) × (a ≡ at q v)
 
   abbrev pub WordsGranted : Type 0
   WordsGranted = (counts : Counts) (cs : List Call) (qs : List Reply) (w : Lent)
-      → Listed Lent decode soundLent counts cs qs w → Granted counts.records cs w
+      → Listed Lent decode sound_lent counts cs qs w → Granted counts.records cs w
 
 -- The same over the words of the store: cs from a Format that replied `ok`, and then ds
 abbrev pub StoreWordsCharts : Type 0

@@ -13,8 +13,8 @@ use Rattle.history.specs.StoreWords.{HistoryOn}
 
 -- calls on what is lent and the same calls on the old table, "up to but without the first call that the old one refuses
 -- with 11"
-module _ (Lent : Type 0) (decode : Lent → Store) (soundLent : Lent → Bool) where
-  abbrev pub AlikeCalls : {w end : Lent} {cs : List Call} {qs : List Reply} → Calls Lent decode soundLent w cs qs end
+module _ (Lent : Type 0) (decode : Lent → Store) (sound_lent : Lent → Bool) where
+  abbrev pub AlikeCalls : {w end : Lent} {cs : List Call} {qs : List Reply} → Calls Lent decode sound_lent w cs qs end
       → Store → Type 0
   AlikeCalls done old = Unit {0}
   AlikeCalls (then {w₁ = w₁} {c = c} {q = q} does more) old = ((old_act c old).reply ≡ refusing 11 [] → ⊥)

@@ -1,5 +1,5 @@
 -- Demand 3 of document 01, "The plain, serial run", for the calls of the crate meaning: "one claim about the whole
--- list, not one for each call". CommitOrder, PlainFits and plainEnd are the crate serial's; the theorems are in
+-- list, not one for each call". CommitOrder, PlainFits and plain_end are the crate serial's; the theorems are in
 -- proofs/Theorem, under the same names. Rests on Heard, on Limits and Replies of `types`, on Store, Records and Calls
 -- of `meaning`, on Serializable of `serial`.
 use Rattle.std.specs.Prelude.{ℕ, ◌<◌, ◌≡◌, true, List}

@@ -20,42 +20,42 @@ use Rattle.serial.specs.Serializable.{Seq, History, Commits, plain_end, PlainFit
 use Rattle.history.specs.Heard.{shown_value, history}
 use Rattle.meaning.specs.Contract.{Does, Shows, Formats}
 
-module _ (Lent : Type 0) (decode : Lent → Store) (soundLent : Lent → Bool) where
+module _ (Lent : Type 0) (decode : Lent → Store) (sound_lent : Lent → Bool) where
   -- calls with their replies, each on what the one before left
   pub data Calls : Lent → List Call → List Reply → Lent → Type 0 where
     done : {w : Lent} → Calls w [] [] w
     then : {w w₁ w₂ : Lent} {c : Call} {q : Reply} {cs : List Call} {qs : List Reply}
-        → Does Lent decode soundLent (act c) w w₁ q
+        → Does Lent decode sound_lent (act c) w w₁ q
         → Calls w₁ cs qs w₂
         → Calls w (c ∷ cs) (q ∷ qs) w₂
 
   -- The premise of a call is the contract of `perform`, which takes a call of any kind. What the public function of
   -- each kind ensures is the same record; View is lent its words to read, so that they are the same afterwards
   abbrev pub Ensures : Call → Lent → Lent → Reply → Type 0
-  Ensures C.Begin w w' q = Does Lent decode soundLent beginning w w' q
-  Ensures (C.Write h r v) w w' q = Does Lent decode soundLent (writing h.0 r v) w w' q
-  Ensures (C.Lock h r low high e) w w' q = Does Lent decode soundLent (locking h.0 r low.0 high.0 e) w w' q
-  Ensures (C.Read h r m e) w w' q = Does Lent decode soundLent (reading h.0 r m.0 e) w w' q
-  Ensures (C.Commit h pick f) w w' q = Does Lent decode soundLent (committing h.0 pick f) w w' q
-  Ensures (C.Abort h f) w w' q = Does Lent decode soundLent (aborting h.0 f) w w' q
-  Ensures (C.Settle h) w w' q = Does Lent decode soundLent (settling h.0) w w' q
-  Ensures (C.Purge r b) w w' q = Does Lent decode soundLent (purging r b.0) w w' q
-  Ensures (C.View r p) w w' q = Shows Lent decode soundLent (viewing r p.0) w q × (w' ≡ w)
+  Ensures C.Begin w w' q = Does Lent decode sound_lent beginning w w' q
+  Ensures (C.Write h r v) w w' q = Does Lent decode sound_lent (writing h.0 r v) w w' q
+  Ensures (C.Lock h r low high e) w w' q = Does Lent decode sound_lent (locking h.0 r low.0 high.0 e) w w' q
+  Ensures (C.Read h r m e) w w' q = Does Lent decode sound_lent (reading h.0 r m.0 e) w w' q
+  Ensures (C.Commit h pick f) w w' q = Does Lent decode sound_lent (committing h.0 pick f) w w' q
+  Ensures (C.Abort h f) w w' q = Does Lent decode sound_lent (aborting h.0 f) w w' q
+  Ensures (C.Settle h) w w' q = Does Lent decode sound_lent (settling h.0) w w' q
+  Ensures (C.Purge r b) w w' q = Does Lent decode sound_lent (purging r b.0) w w' q
+  Ensures (C.View r p) w w' q = Shows Lent decode sound_lent (viewing r p.0) w q × (w' ≡ w)
 
   abbrev pub EnsuresDoes : Type 0
-  EnsuresDoes = (c : Call) (w w' : Lent) (q : Reply) → Ensures c w w' q → Does Lent decode soundLent (act c) w w' q
+  EnsuresDoes = (c : Call) (w w' : Lent) (q : Reply) → Ensures c w w' q → Does Lent decode sound_lent (act c) w w' q
 
   -- the list follows one Format
   pub record Listed (counts : Counts) (cs : List Call) (qs : List Reply) (end : Lent) : Type 0 where
     pub start : Lent
-    pub format : Formats Lent decode soundLent counts start
+    pub format : Formats Lent decode sound_lent counts start
     pub calls : Calls start cs qs end
 
   -- the plain run of the history l in the order o, and what the store is lent at the end of l: what a View at LAST
   -- replies there, by its contract, is the plain run's value
   pub record SerialWords (records : ℕ) (l : History Val) (end : Lent) (o : Seq ℕ) : Type 0 where
     pub reads : PlainFits l o
-    pub newest : (r : ℕ) (q : Reply) → r < records → Shows Lent decode soundLent (viewing r LAST) end q
+    pub newest : (r : ℕ) (q : Reply) → r < records → Shows Lent decode sound_lent (viewing r LAST) end q
         → (p : ℕ) × (q ≡ at p (shown_value (plain_end l o r)))
 
   abbrev pub WordsSerializable : Type 0

@@ -17,9 +17,9 @@ use Rattle.layers.specs.Programs as P
 use Rattle.layers.specs.Programs.{Program, Look, shown, play, denied}
 use Rattle.layers.specs.Layers.{Follows, ends, asks, looks, Layer, EveryProgramIsALayer, Steps, none, call, layer}
 
-module _ (Lent : Type 0) (decode : Lent → Store) (soundLent : Lent → Bool) where
+module _ (Lent : Type 0) (decode : Lent → Store) (sound_lent : Lent → Bool) where
   -- The contract of an answer, and of a call or a look in front of what follows it.
-  pub by_answer : {A : Type 0} {w : Lent} {a : A} → Layer Lent decode soundLent (P.answer a) w w a
+  pub by_answer : {A : Type 0} {w : Lent} {a : A} → Layer Lent decode sound_lent (P.answer a) w w a
   unfolding play denied
   by_answer =
       record {
@@ -33,15 +33,15 @@ module _ (Lent : Type 0) (decode : Lent → Store) (soundLent : Lent → Bool) w
       }
 
   pub by_ask : {A : Type 0} {w w₁ w₂ : Lent} {c : Call} {f : Reply → Program A} {q : Reply} {a : A}
-      → Does Lent decode soundLent (act c) w w₁ q → Layer Lent decode soundLent (f q) w₁ w₂ a
-      → Layer Lent decode soundLent (P.ask c f) w w₂ a
+      → Does Lent decode sound_lent (act c) w w₁ q → Layer Lent decode sound_lent (f q) w₁ w₂ a
+      → Layer Lent decode sound_lent (P.ask c f) w w₂ a
   unfolding play denied
   by_ask {A} {w} {w₁} {w₂} {c} {f} {q} {a} d l =
       record {
         unsound = λ u.
             let e : q ≡ refusing 1 [] = d.unsound u in
             let same : w₁ ≡ w = d.unchanged (ap refused e) in
-            let n = l.unsound (ap soundLent same ∙ u) in
+            let n = l.unsound (ap sound_lent same ∙ u) in
             (n.0 ∙ ap (λ (x : Reply). denied (f x)) e, n.1 ∙ same);
         told = λ s.
             l.told (d.stays s)
@@ -58,8 +58,8 @@ module _ (Lent : Type 0) (decode : Lent → Store) (soundLent : Lent → Bool) w
       }
 
   pub by_look : {A : Type 0} {w w₂ : Lent} {k : Look} {f : Reply → Program A} {q : Reply} {a : A}
-      → Shows Lent decode soundLent (shown k) w q → Layer Lent decode soundLent (f q) w w₂ a
-      → Layer Lent decode soundLent (P.look k f) w w₂ a
+      → Shows Lent decode sound_lent (shown k) w q → Layer Lent decode sound_lent (f q) w w₂ a
+      → Layer Lent decode sound_lent (P.look k f) w w₂ a
   unfolding play denied
   by_look {A} {w} {w₂} {k} {f} {q} {a} d l =
       record {
@@ -76,39 +76,39 @@ module _ (Lent : Type 0) (decode : Lent → Store) (soundLent : Lent → Bool) w
 
   -- what follows a program has its contract
   pub follows_layer : {A : Type 0} {p : Program A} {w w' : Lent} {cs : List Call} {qs : List Reply} {a : A}
-      → Follows Lent decode soundLent p w cs qs w' a
-      → Layer Lent decode soundLent p w w' a
+      → Follows Lent decode sound_lent p w cs qs w' a
+      → Layer Lent decode sound_lent p w w' a
   follows_layer ends = by_answer
   follows_layer (asks d r) = by_ask d (follows_layer r)
   follows_layer (looks d r) = by_look d (follows_layer r)
 
   -- And back, step by step: what a law about a program goes by.
   pub of_answer_lem : {A : Type 0} {a b : A} {w w' : Lent} {cs : List Call} {qs : List Reply}
-      → Follows Lent decode soundLent (P.answer a) w cs qs w' b
+      → Follows Lent decode sound_lent (P.answer a) w cs qs w' b
       → (w' ≡ w) × (a ≡ b)
   of_answer_lem ends = (refl, refl)
 
   pub of_ask : {A : Type 0} {c : Call} {f : Reply → Program A} {w w' : Lent} {cs : List Call} {qs : List Reply} {b : A}
-      → Follows Lent decode soundLent (P.ask c f) w cs qs w' b
-      → (q : Reply) × (w₁ : Lent) × Does Lent decode soundLent (act c) w w₁ q
-      × Layer Lent decode soundLent (f q) w₁ w' b
+      → Follows Lent decode sound_lent (P.ask c f) w cs qs w' b
+      → (q : Reply) × (w₁ : Lent) × Does Lent decode sound_lent (act c) w w₁ q
+      × Layer Lent decode sound_lent (f q) w₁ w' b
   of_ask (asks {w₁ = v} {q = q} d r) = (q, v, d, follows_layer r)
 
   pub of_look : {A : Type 0} {k : Look} {f : Reply → Program A} {w w' : Lent} {cs : List Call} {qs : List Reply} {b : A}
-      → Follows Lent decode soundLent (P.look k f) w cs qs w' b
-      → (q : Reply) × Shows Lent decode soundLent (shown k) w q × Layer Lent decode soundLent (f q) w w' b
+      → Follows Lent decode sound_lent (P.look k f) w cs qs w' b
+      → (q : Reply) × Shows Lent decode sound_lent (shown k) w q × Layer Lent decode sound_lent (f q) w w' b
   of_look (looks {q = q} d r) = (q, d, follows_layer r)
 
   -- the calls made in front of further ones
   onward : {A : Type 0} {p : Program A} {w w₁ w₂ : Lent} {cs ds : List Call} {qs rs : List Reply} {a : A}
-      → Follows Lent decode soundLent p w cs qs w₁ a → Calls Lent decode soundLent w₁ ds rs w₂
-      → Calls Lent decode soundLent w (cs ++ ds) (qs ++ rs) w₂
+      → Follows Lent decode sound_lent p w cs qs w₁ a → Calls Lent decode sound_lent w₁ ds rs w₂
+      → Calls Lent decode sound_lent w (cs ++ ds) (qs ++ rs) w₂
   onward ends b = b
   onward (asks d r) b = then d (onward r b)
   onward (looks d r) b = onward r b
 
-  pub steps_are_calls : {w w' : Lent} {cs : List Call} {qs : List Reply} → Steps Lent decode soundLent w cs qs w'
-      → Calls Lent decode soundLent w cs qs w'
+  pub steps_are_calls : {w w' : Lent} {cs : List Call} {qs : List Reply} → Steps Lent decode sound_lent w cs qs w'
+      → Calls Lent decode sound_lent w cs qs w'
   steps_are_calls none = done
   steps_are_calls (call d r) = then d (steps_are_calls r)
   steps_are_calls (layer l r) = onward l.follows (steps_are_calls r)

@@ -10,25 +10,25 @@ use Rattle.meaning.specs.Contract.{Does, Shows}
 use Rattle.meaning.specs.Sound.{sound_store}
 use Rattle.layers.specs.Programs.{Program, answer, ask, look, Look, shown, play, denied}
 
-module _ (Lent : Type 0) (decode : Lent → Store) (soundLent : Lent → Bool) where
+module _ (Lent : Type 0) (decode : Lent → Store) (sound_lent : Lent → Bool) where
   -- a program followed step by step, with the calls made and their replies: each call and each look keeps the contract
   -- of its function, on what the step before it left, and the program goes on by that reply
   pub data Follows {A : Type 0} : Program A → Lent → List Call → List Reply → Lent → A → Type 0 where
     ends : {w : Lent} {a : A} → Follows (answer a) w [] [] w a
     asks : {w w₁ w₂ : Lent} {c : Call} {f : Reply → Program A} {q : Reply} {cs : List Call} {qs : List Reply} {a : A}
-        → Does Lent decode soundLent (act c) w w₁ q
+        → Does Lent decode sound_lent (act c) w w₁ q
         → Follows (f q) w₁ cs qs w₂ a
         → Follows (ask c f) w (c ∷ cs) (q ∷ qs) w₂ a
     looks : {w w₂ : Lent} {l : Look} {f : Reply → Program A} {q : Reply} {cs : List Call} {qs : List Reply} {a : A}
-        → Shows Lent decode soundLent (shown l) w q
+        → Shows Lent decode sound_lent (shown l) w q
         → Follows (f q) w cs qs w₂ a
         → Follows (look l f) w cs qs w₂ a
 
   pub record Layer {A : Type 0} (p : Program A) (before after : Lent) (a : A) : Type 0 where
-    pub unsound : soundLent before ≡ false → (a ≡ denied p) × (after ≡ before)
-    pub told : soundLent before ≡ true → a ≡ (play p (decode before)).told
-    pub store : soundLent before ≡ true → decode after ≡ (play p (decode before)).store
-    pub stays : soundLent before ≡ true → soundLent after ≡ true
+    pub unsound : sound_lent before ≡ false → (a ≡ denied p) × (after ≡ before)
+    pub told : sound_lent before ≡ true → a ≡ (play p (decode before)).told
+    pub store : sound_lent before ≡ true → decode after ≡ (play p (decode before)).store
+    pub stays : sound_lent before ≡ true → sound_lent after ≡ true
     -- the calls made, with their replies
     pub calls : List Call
     pub replies : List Reply
@@ -38,7 +38,7 @@ module _ (Lent : Type 0) (decode : Lent → Store) (soundLent : Lent → Bool) w
   pub data Steps : Lent → List Call → List Reply → Lent → Type 1 where
     none : {w : Lent} → Steps w [] [] w
     call : {w w₁ w₂ : Lent} {c : Call} {q : Reply} {cs : List Call} {qs : List Reply}
-        → Does Lent decode soundLent (act c) w w₁ q
+        → Does Lent decode sound_lent (act c) w w₁ q
         → Steps w₁ cs qs w₂
         → Steps w (c ∷ cs) (q ∷ qs) w₂
     layer : {w w₁ w₂ : Lent} {cs : List Call} {qs : List Reply} {A : Type 0} {p : Program A} {a : A}

@@ -19,7 +19,7 @@ use Rattle.blocking.specs.declared.Blocked.{Blocked}
 use Rattle.blocking.specs.Search.{first_judged}
 use Rattle.calls.specs.declared.Grant.TheVariants.{Taken, Judged}
 use Rattle.calls.specs.Grants.{lock_grant, refusal_by}
-use Rattle.calls.proofs.Verdicts.{needs_fails, needs_holds, else_fails, else_holds, no_edit, edit_ended, edit_open}
+use Rattle.calls.proofs.Verdicts.{needs_fails, needs_holds, else_fails, else_holds, no_edit_lem, edit_ended, edit_open}
 use Rattle.calls.proofs.Granting.{grant_judged, grant_taken, lock_refused}
 use Rattle.calls.proofs.Judged.{by_small, refusal_is}
 
@@ -38,7 +38,7 @@ module _ (s : Store) (h r low high : ℕ) (w : Extent) where
 
   pub lock_no_edit : knows s h ≡ false → locking h r low high w s ≡ replies s (refusing 2 [])
   unfolding locking_by lock_checks
-  lock_no_edit e = no_edit s lock_next h lock_rest e
+  lock_no_edit e = no_edit_lem s lock_next h lock_rest e
 
   pub lock_ended : knows s h ≡ true → is_open s h ≡ false → locking h r low high w s ≡ replies s (refusing 3 [])
   unfolding locking_by lock_checks

@@ -105,15 +105,15 @@ module _ (s : Store) (h r low high : ℕ) (w : Extent) (a b : ℕ) (e : (locking
   unfolding knows with_lock_by with_records
   known m k x y = refl
 
-  still_open : (m k x y : ℕ) → is_open (with_lock s r m k x y) h ≡ is_open s h
+  still_open_lem : (m k x y : ℕ) → is_open (with_lock s r m k x y) h ≡ is_open s h
   unfolding is_open with_lock_by with_records
-  still_open m k x y = refl
+  still_open_lem m k x y = refl
 
   leaves : OpenEdit (locking h r low high w s).store h × (has_record (locking h r low high w s).store r ≡ true)
   leaves =
       let p = passes in
       rw after (
-        record { known = known WRITE _ _ _ ∙ p.0; still = still_open WRITE _ _ _ ∙ p.1 },
+        record { known = known WRITE _ _ _ ∙ p.0; still = still_open_lem WRITE _ _ _ ∙ p.1 },
         there WRITE _ _ _ ∙ p.2,
       )
 

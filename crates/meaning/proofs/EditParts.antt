@@ -71,7 +71,7 @@ starts_in k from ls s =
     (and_in (eq-eqb l.owner k s.owned)
     (and_in {a = not (is_write l)} (ap not (ne_eqb l.mode WRITE s.mode)) (eq-eqb l.low from s.starts)))
 
--- the tests of an edit, in the order of soundEdit
+-- the tests of an edit, in the order of sound_edit
 abbrev pub edit_tests : List Rec → ℕ → Edit → List Bool
 edit_tests rs k e =
     state_listed e

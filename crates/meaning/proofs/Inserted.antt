@@ -17,7 +17,7 @@ use Rattle.meaning.proofs.Lists.{length_put_before, put_before_new, put_before_o
 use Rattle.meaning.proofs.Lists.{put_before_pairwise}
 use Rattle.meaning.proofs.Lists.{test}
 
--- as in versionsFall
+-- as in versions_fall
 abbrev pub newer : Version → Version → Bool
 newer v w = ltb w.point v.point
 

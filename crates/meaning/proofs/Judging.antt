@@ -20,8 +20,8 @@ use Rattle.types.specs.Replies.{refusing, refused}
 use Rattle.meaning.specs.Outcomes.{Outcome, replies, handle_at}
 use Rattle.meaning.specs.Locking.{read_from}
 use Rattle.meaning.specs.Sound.{sound_store}
-use Rattle.meaning.specs.Order.{Item, unsound, no_slot, noEdit, ended, stillOpen, noRecord, badPoint, ownOrAgain}
-use Rattle.meaning.specs.Order.{belowFloor, emptySet, notCommon, locked_below, frozen, held, no_access_row}
+use Rattle.meaning.specs.Order.{Item, unsound, no_slot, no_edit, ended, still_open, no_record, bad_point, own_or_again}
+use Rattle.meaning.specs.Order.{below_floor, empty_set, not_common, locked_below, frozen, held, no_access_row}
 use Rattle.meaning.specs.Order.{no_lock_row, no_version_row, Stands, Says, Grants, Refuses, concerns}
 use Rattle.types.specs.declared.Call.{Call}
 use Rattle.types.specs.declared.Call.TheVariants as C
@@ -32,15 +32,15 @@ use Rattle.meaning.proofs.CauseTests.{Refutes}
 abbrev pub code : Item → ℕ
 code unsound = 1
 code no_slot = 13
-code noEdit = 2
+code no_edit = 2
 code ended = 3
-code stillOpen = 4
-code noRecord = 5
-code badPoint = 6
-code ownOrAgain = 0
-code belowFloor = 7
-code emptySet = 0
-code notCommon = 14
+code still_open = 4
+code no_record = 5
+code bad_point = 6
+code own_or_again = 0
+code below_floor = 7
+code empty_set = 0
+code not_common = 14
 code locked_below = 15
 code frozen = 9
 code held = 8
@@ -101,15 +101,15 @@ plain c i = any (eqb (code i)) (concerns c) && (not (eqb (code i) 8) && not (eqb
 says_code : (i : Item) → not (eqb (code i) 0) ≡ true → Says i (refusing (code i) [])
 says_code unsound e = ([], refl)
 says_code no_slot e = ([], refl)
-says_code noEdit e = ([], refl)
+says_code no_edit e = ([], refl)
 says_code ended e = ([], refl)
-says_code stillOpen e = ([], refl)
-says_code noRecord e = ([], refl)
-says_code badPoint e = ([], refl)
-says_code ownOrAgain e = absurd (false≢true e)
-says_code belowFloor e = ([], refl)
-says_code emptySet e = absurd (false≢true e)
-says_code notCommon e = ([], refl)
+says_code still_open e = ([], refl)
+says_code no_record e = ([], refl)
+says_code bad_point e = ([], refl)
+says_code own_or_again e = absurd (false≢true e)
+says_code below_floor e = ([], refl)
+says_code empty_set e = absurd (false≢true e)
+says_code not_common e = ([], refl)
 says_code locked_below e = ([], refl)
 says_code frozen e = ([], refl)
 says_code held e = ([], refl)
@@ -177,22 +177,22 @@ items =
     unsound
     ∷ unsound
     ∷ unsound
-    ∷ noEdit
+    ∷ no_edit
     ∷ ended
-    ∷ stillOpen
-    ∷ noRecord
-    ∷ badPoint
-    ∷ belowFloor
+    ∷ still_open
+    ∷ no_record
+    ∷ bad_point
+    ∷ below_floor
     ∷ held
     ∷ frozen
     ∷ no_access_row
     ∷ no_lock_row
     ∷ no_version_row
     ∷ no_slot
-    ∷ notCommon
+    ∷ not_common
     ∷ locked_below
-    ∷ ownOrAgain
-    ∷ emptySet
+    ∷ own_or_again
+    ∷ empty_set
     ∷ []
 
 item_of : ℕ → Item
@@ -211,16 +211,16 @@ told : (i : Item) (r : Reply) → Says i r → Told i r
 unfolding kind item_of items
 told unsound r w = refusal unsound 1 r refl w
 told no_slot r w = refusal no_slot 13 r refl w
-told noEdit r w = refusal noEdit 2 r refl w
+told no_edit r w = refusal no_edit 2 r refl w
 told ended r w = refusal ended 3 r refl w
-told stillOpen r w = refusal stillOpen 4 r refl w
-told noRecord r w = refusal noRecord 5 r refl w
-told badPoint r w = refusal badPoint 6 r refl w
-told ownOrAgain r (inl w) = rw w.1 (record { item = refl; some = omega arith })
-told ownOrAgain r (inr w) = rw w.1.1 (record { item = refl; some = omega arith })
-told belowFloor r w = refusal belowFloor 7 r refl w
-told emptySet r w = rw w (record { item = refl; some = omega arith })
-told notCommon r w = refusal notCommon 14 r refl w
+told still_open r w = refusal still_open 4 r refl w
+told no_record r w = refusal no_record 5 r refl w
+told bad_point r w = refusal bad_point 6 r refl w
+told own_or_again r (inl w) = rw w.1 (record { item = refl; some = omega arith })
+told own_or_again r (inr w) = rw w.1.1 (record { item = refl; some = omega arith })
+told below_floor r w = refusal below_floor 7 r refl w
+told empty_set r w = rw w (record { item = refl; some = omega arith })
+told not_common r w = refusal not_common 14 r refl w
 told locked_below r w = refusal locked_below 15 r refl w
 told frozen r w = refusal frozen 9 r refl w
 told held r w = refusal held 8 r refl w

@@ -86,7 +86,7 @@ falls_once x falls {v} {w} m n q = go (pairwise_out later x.versions falls m n)
     go (inr (inl e)) = absurd (omega (arith, ltb-true w.point v.point e))
     go (inr (inr e)) = absurd (omega (arith, ltb-true v.point w.point e))
 
--- where a version stands on p, versionOn finds one that does, and in a falling list that one
+-- where a version stands on p, version_on finds one that does, and in a falling list that one
 pub version_on_stands : (x : Rec) (p : ℕ) → VersionOn x p
     → (version_on x.versions p ∈ x.versions) × ((version_on x.versions p).point ≡ p)
 unfolding version_on

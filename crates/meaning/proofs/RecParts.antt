@@ -190,7 +190,7 @@ infixr 4 ◌also◌
 pub ◌also◌ : {a b : Bool} → a ≡ true → b ≡ true → (a && b) ≡ true
 p also q = and_in p q
 
--- the tests of a record, in the order of soundRec
+-- the tests of a record, in the order of sound_rec
 abbrev pub rec_tests : List Edit → ℕ → Rec → List Bool
 rec_tests es r x =
     modes_listed x

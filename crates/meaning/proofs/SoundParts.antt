@@ -56,7 +56,7 @@ fresh_edit_lem rs k =
       idle = λ c. refl;
     }
 
--- the tests of a store, in the order of soundStore; those of its rows
+-- the tests of a store, in the order of sound_store; those of its rows
 abbrev pub row_tests : Store → List Bool
 row_tests s =
     leb (versions_used s) s.version_rows ∷ leb (locks_used s) s.lock_rows ∷ leb (accesses_used s) s.access_rows ∷ []

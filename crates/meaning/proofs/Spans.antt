@@ -1,4 +1,4 @@
--- firstCovered is the least point of low..high under one of the locks, and firstFree the least under none: what the
+-- first_covered is the least point of low..high under one of the locks, and first_free the least under none: what the
 -- ends of the locks say of every point. Rests on Lists and Tests.
 use Prim.Native.Nat.{ℕ, zero, suc, ◌+◌, ◌-◌, ◌≤◌, ◌<◌, max}
 use native.Mathlib.Omega.{arith}
@@ -33,7 +33,7 @@ module _ (ls : List Lock) (low high : ℕ) where
   abbrev starts : List ℕ
   starts = map (λ l. max low l.low) (keep (meets low high) ls)
 
-  -- firstCovered is where a lock that meets low..high starts in it
+  -- first_covered is where a lock that meets low..high starts in it
   record Start : Type 0 where
     pub lock : Lock
     pub member : lock ∈ ls

@@ -7,23 +7,23 @@ use Rattle.meaning.specs.Outcomes.{Outcome}
 use Rattle.meaning.specs.Records.{good_counts}
 use Rattle.types.specs.declared.Counts.{Counts}
 
-module _ (Lent : Type 0) (decode : Lent → Store) (soundLent : Lent → Bool) where
+module _ (Lent : Type 0) (decode : Lent → Store) (sound_lent : Lent → Bool) where
   -- "settles its reply and the meaning of the lent store afterwards for every slice and argument, refused ones too": a
   -- call that may change the store
   pub record Does (call : Store → Outcome) (before after : Lent) (r : Reply) : Type 0 where
-    pub unsound : soundLent before ≡ false → r ≡ refusing 1 []
-    pub reply : soundLent before ≡ true → r ≡ (call (decode before)).reply
-    pub store : soundLent before ≡ true → decode after ≡ (call (decode before)).store
-    pub stays : soundLent before ≡ true → soundLent after ≡ true
+    pub unsound : sound_lent before ≡ false → r ≡ refusing 1 []
+    pub reply : sound_lent before ≡ true → r ≡ (call (decode before)).reply
+    pub store : sound_lent before ≡ true → decode after ≡ (call (decode before)).store
+    pub stays : sound_lent before ≡ true → sound_lent after ≡ true
     pub unchanged : refused r ≡ true → after ≡ before
 
   -- the same of a call that only looks, View: its reply
   pub record Shows (call : Store → Outcome) (lent : Lent) (r : Reply) : Type 0 where
-    pub unsound : soundLent lent ≡ false → r ≡ refusing 1 []
-    pub reply : soundLent lent ≡ true → r ≡ (call (decode lent)).reply
+    pub unsound : sound_lent lent ≡ false → r ≡ refusing 1 []
+    pub reply : sound_lent lent ≡ true → r ≡ (call (decode lent)).reply
 
   -- "one Format that replied `ok`", whatever the slice held before
   pub record Formats (counts : Counts) (after : Lent) : Type 0 where
     pub good : good_counts counts ≡ true
-    pub stays : soundLent after ≡ true
+    pub stays : sound_lent after ≡ true
     pub store : decode after ≡ fresh counts

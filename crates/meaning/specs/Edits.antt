@@ -17,7 +17,7 @@ with_access e a =
       point = e.point;
     }
 
--- "the lowest free slot", where the list starts at slot k, or one more than the last; for freeSlot
+-- "the lowest free slot", where the list starts at slot k, or one more than the last; for free_slot
 abbrev pub free_from : ℕ → List Edit → ℕ
 free_from k [] = k
 free_from k (e ∷ es) = cond (eqb e.state FREE) k (free_from (suc k) es)

@@ -7,7 +7,7 @@ infix 4 ◌∈◌
 abbrev pub ◌∈◌ : {A : Type 0} → A → List A → Type 0
 x ∈ xs = Memᴰ x xs
 
--- every test of a list of tests holds; for the clauses of Sound and the counts of Records.goodCounts
+-- every test of a list of tests holds; for the clauses of Sound and the counts of Records.good_counts
 abbrev pub every : List Bool → Bool
 every [] = true
 every (b ∷ bs) = b && every bs
@@ -18,17 +18,17 @@ module _ {A : Type 0} where
   all p [] = true
   all p (x ∷ xs) = p x && all p xs
 
-  -- some element passes; for Store.names, Points.covered and frozen, Records.purgeVerdict and the clauses of Sound
+  -- some element passes; for Store.names, Points.covered and frozen, Records.purge_verdict and the clauses of Sound
   abbrev pub any : (A → Bool) → List A → Bool
   any p [] = false
   any p (x ∷ xs) = p x || any p xs
 
-  -- the elements that pass, in their order; for Store.writtenOf, the lock lists of Points and Records.purgedRec
+  -- the elements that pass, in their order; for Store.writtenOf, the lock lists of Points and Records.purged_rec
   abbrev pub keep : (A → Bool) → List A → List A
   keep p [] = []
   keep p (x ∷ xs) = cond (p x) (x ∷ keep p xs) (keep p xs)
 
-  -- the first element that passes, or d; for Store.accessOf and the newest version
+  -- the first element that passes, or d; for Store.access_of and the newest version
   abbrev pub find : (A → Bool) → A → List A → A
   find p d [] = d
   find p d (x ∷ xs) = cond (p x) x (find p d xs)
@@ -38,7 +38,7 @@ module _ {A : Type 0} where
   put_before p x [] = x ∷ []
   put_before p x (y ∷ ys) = cond (p y) (x ∷ y ∷ ys) (y ∷ put_before p x ys)
 
-  -- every element stands in the relation to each later one; for Sound.versionsFall, writesApart and namesOnce
+  -- every element stands in the relation to each later one; for Sound.versions_fall, writes_apart and names_once
   abbrev pub pairwise : (A → A → Bool) → List A → Bool
   pairwise r [] = true
   pairwise r (x ∷ xs) = all (r x) xs && pairwise r xs
@@ -53,12 +53,12 @@ module _ {A : Type 0} where
   map_from i f [] = []
   map_from i f (x ∷ xs) = f i x ∷ map_from (suc i) f xs
 
-  -- every element passes together with its index, counted from i; for Sound.soundStore
+  -- every element passes together with its index, counted from i; for Sound.sound_store
   abbrev pub all_from : ℕ → (ℕ → A → Bool) → List A → Bool
   all_from i p [] = true
   all_from i p (x ∷ xs) = p i x && all_from (suc i) p xs
 
--- the least of d and the list; for Points.firstCovered, firstFree, holder and earliest
+-- the least of d and the list; for Points.first_covered, first_free, holder and earliest
 abbrev pub least : ℕ → List ℕ → ℕ
 least d [] = d
 least d (x ∷ xs) = min x (least d xs)

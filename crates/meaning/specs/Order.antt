@@ -15,7 +15,8 @@ use Rattle.types.specs.declared.Call.TheVariants as C
 
 -- what ends the checks of a call: a refusal, "own or repeated reads", `nopoint`
 pub data Item : Type 0 where
-  unsound no_slot noEdit ended stillOpen noRecord badPoint ownOrAgain belowFloor emptySet notCommon locked_below frozen
+  unsound no_slot no_edit ended still_open no_record bad_point own_or_again below_floor empty_set
+      not_common locked_below frozen
       held : Item
   no_access_row no_lock_row no_version_row : Item
 
@@ -25,15 +26,15 @@ abbrev pub order : List Item
 order =
     unsound
     ∷ no_slot
-    ∷ noEdit
+    ∷ no_edit
     ∷ ended
-    ∷ stillOpen
-    ∷ noRecord
-    ∷ badPoint
-    ∷ ownOrAgain
-    ∷ belowFloor
-    ∷ emptySet
-    ∷ notCommon
+    ∷ still_open
+    ∷ no_record
+    ∷ bad_point
+    ∷ own_or_again
+    ∷ below_floor
+    ∷ empty_set
+    ∷ not_common
     ∷ locked_below
     ∷ frozen
     ∷ held
@@ -46,15 +47,15 @@ order =
 abbrev pub Stands : Item → Call → Store → Type 0
 Stands unsound c s = sound_store s ≡ false
 Stands no_slot c s = NoFreeSlot c s
-Stands noEdit c s = OfHandle c (NoSuchEdit s)
+Stands no_edit c s = OfHandle c (NoSuchEdit s)
 Stands ended c s = OfOpen c (HasEnded s)
-Stands stillOpen c s = StillOpen c s
-Stands noRecord c s = OfRecord c (λ r. length s.records ≤ r)
-Stands badPoint c s = BadPoint c
-Stands ownOrAgain c s = OwnOrAgain c s
-Stands belowFloor c s = BelowFloor c s
-Stands emptySet c s = OfCommit c (λ k. EmptyCommonSet s.records k (edit_at s k))
-Stands notCommon c s = NotCommon c s
+Stands still_open c s = StillOpen c s
+Stands no_record c s = OfRecord c (λ r. length s.records ≤ r)
+Stands bad_point c s = BadPoint c
+Stands own_or_again c s = OwnOrAgain c s
+Stands below_floor c s = BelowFloor c s
+Stands empty_set c s = OfCommit c (λ k. EmptyCommonSet s.records k (edit_at s k))
+Stands not_common c s = NotCommon c s
 Stands locked_below c s = OfPurge c (LockedBelow s)
 Stands frozen c s = Judged c s (λ r mode k p. Frozen s r mode p)
 Stands held c s = Judged c s (λ r mode k p. Unit {0})
@@ -80,15 +81,15 @@ Refuses n r = (more : List ℕ) × (r ≡ refusing n more)
 abbrev pub Says : Item → Reply → Type 0
 Says unsound r = Refuses 1 r
 Says no_slot r = Refuses 13 r
-Says noEdit r = Refuses 2 r
+Says no_edit r = Refuses 2 r
 Says ended r = Refuses 3 r
-Says stillOpen r = Refuses 4 r
-Says noRecord r = Refuses 5 r
-Says badPoint r = Refuses 6 r
-Says ownOrAgain r = ((v : ℕ) × (r ≡ own v)) ⊎ ((tr : ℕ) × ((v : Value) × (r ≡ again tr v)))
-Says belowFloor r = Refuses 7 r
-Says emptySet r = r ≡ nopoint
-Says notCommon r = Refuses 14 r
+Says still_open r = Refuses 4 r
+Says no_record r = Refuses 5 r
+Says bad_point r = Refuses 6 r
+Says own_or_again r = ((v : ℕ) × (r ≡ own v)) ⊎ ((tr : ℕ) × ((v : Value) × (r ≡ again tr v)))
+Says below_floor r = Refuses 7 r
+Says empty_set r = r ≡ nopoint
+Says not_common r = Refuses 14 r
 Says locked_below r = Refuses 15 r
 Says frozen r = Refuses 9 r
 Says held r = Refuses 8 r

@@ -33,12 +33,12 @@ own k ls = keep (is_owned k) ls
 unfoldable pub writes : List Lock → List Lock
 writes ls = keep is_write ls
 
--- the least point of low..high under one of the locks, or high + 1; for firstBlocked
+-- the least point of low..high under one of the locks, or high + 1; for first_blocked
 unfoldable pub first_covered : List Lock → ℕ → ℕ → ℕ
 first_covered ls low high = least (suc high) (map (λ l. max low l.low) (keep (meets low high) ls))
 
 -- the least point of low..high under none of the locks, or high + 1: it is low or just after one of the locks; for
--- firstOpen and the common set
+-- first_open and the common set
 unfoldable pub first_free : List Lock → ℕ → ℕ → ℕ
 first_free ls low high =
     least (suc high) (keep (λ p. leb low p && not (covered ls p)) (low ∷ map (λ l. suc l.high) ls))
@@ -73,7 +73,7 @@ frozen s r mode p =
 unfoldable pub holder : ℕ → ℕ → Rec → ℕ → ℕ
 holder mode k x p = least SLOTS (map (λ l. l.owner) (keep (covers p) (blockers mode k x)))
 
--- A record's locks are changed only by addLock, leaveSettled, dropOwner and trimTo. Document 02, M-105: "Keep each
+-- A record's locks are changed only by add_lock, leave_settled, drop_owner and trim_to. Document 02, M-105: "Keep each
 -- record's locks in rising order of low point, and join settled read rows that overlap or adjoin."
 
 -- l starts no later than m

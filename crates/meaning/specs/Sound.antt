@@ -40,7 +40,7 @@ versions_fall x = pairwise (λ v w. ltb w.point v.point) x.versions
 unfoldable pub versions_lie : Rec → Bool
 versions_lie x = all (λ v. leb x.floor v.point && leb v.point LAST) x.versions
 
--- the last version of a list stands at p; for versionsEnd
+-- the last version of a list stands at p; for versions_end
 abbrev pub ends_at : ℕ → List Version → Bool
 ends_at p [] = false
 ends_at p (v ∷ []) = eqb v.point p

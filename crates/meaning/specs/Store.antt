@@ -71,7 +71,7 @@ unfoldable pub edit_of : List Edit → ℕ → Edit
 edit_of es zero = fresh_edit
 edit_of es (suc i) = get_or es i fresh_edit
 
--- the edits with e in slot k, for withEdit; slot 0 and those past the end are no slots, and nothing changes
+-- the edits with e in slot k, for with_edit; slot 0 and those past the end are no slots, and nothing changes
 unfoldable pub set_edit : List Edit → ℕ → Edit → List Edit
 set_edit es zero e = es
 set_edit es (suc i) e = set es i e
@@ -88,7 +88,7 @@ edit_at s k = edit_of s.edits k
 abbrev pub rec_at : Store → ℕ → Rec
 rec_at s r = rec_of s.records r
 
--- the store with e in slot k, all else the same. A store is rebuilt only by this and withRecords
+-- the store with e in slot k, all else the same. A store is rebuilt only by this and with_records
 unfoldable pub with_edit : Store → ℕ → Edit → Store
 with_edit s k e =
     record {
@@ -122,11 +122,11 @@ with_locks x ls = record { versions = x.versions; locks = ls; floor = x.floor }
 unfoldable pub in_use : List Edit → ℕ → Bool
 in_use es k = not (eqb (edit_of es k).state FREE)
 
--- an access of record r; for accessOf, names and Edits.withAccess
+-- an access of record r; for access_of, names and Edits.with_access
 abbrev pub is_of : ℕ → Access → Bool
 is_of r a = eqb a.rec r
 
--- an access of r with nothing read and nothing written; for accessOf, where the edit has none
+-- an access of r with nothing read and nothing written; for access_of, where the edit has none
 abbrev pub no_access : ℕ → Access
 no_access r = record { rec = r; from = 0; written = false; value = blank }
 

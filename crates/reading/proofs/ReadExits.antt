@@ -23,7 +23,7 @@ use Rattle.blocking.specs.Search.{first_judged}
 use Rattle.calls.specs.declared.Grant.TheVariants.{Taken, Judged}
 use Rattle.calls.specs.Grants.{read_grant, refusal_by}
 use Rattle.calls.specs.Parts.{read_taken}
-use Rattle.calls.proofs.Verdicts.{needs_fails, needs_holds, else_fails, else_holds, no_edit, edit_ended, edit_open}
+use Rattle.calls.proofs.Verdicts.{needs_fails, needs_holds, else_fails, else_holds, no_edit_lem, edit_ended, edit_open}
 use Rattle.calls.proofs.Granting.{grant_judged, grant_taken, read_refused}
 use Rattle.calls.proofs.Judged.{by_small, refusal_is}
 
@@ -36,7 +36,7 @@ module _ (s : Store) (h r m : ℕ) (w : Extent) where
 
   pub read_no_edit : knows s h ≡ false → reading h r m w s ≡ replies s (refusing 2 [])
   unfolding reading_by read_checks
-  read_no_edit e = no_edit s read_next h read_rest e
+  read_no_edit e = no_edit_lem s read_next h read_rest e
 
   pub read_ended : knows s h ≡ true → is_open s h ≡ false → reading h r m w s ≡ replies s (refusing 3 [])
   unfolding reading_by read_checks

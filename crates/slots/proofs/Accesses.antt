@@ -14,7 +14,7 @@ use Rattle.chains.specs.Change.{Ready, Changed, Moved, Taken, Emptied}
 use Rattle.chains.proofs.Occurs.{occ_here}
 use Rattle.chains.proofs.Words.{on_chain}
 use Rattle.chains.proofs.Frames.{only_elsewhere, field_kept}
-use Rattle.chains.proofs.Entries.{Filled, filled_start, pushed-entries, other_entries, entries-kept}
+use Rattle.chains.proofs.Entries.{Filled, filled_start, pushed_entries, other_entries, entries_kept}
 use Rattle.meaning.specs.Store.{Edit, with_edit, edit_at, accesses_used, names}
 use Rattle.meaning.specs.Edits.{with_access}
 use Rattle.types.specs.declared.Access.{Access}
@@ -92,7 +92,7 @@ module _ {c : Counts} {w : List ℕ} (W : Well c w) {k : ℕ} (l : IsRow c.edits
       pushed_here : accesses_of c (access_stored c w₁ i x) k ≡ x ∷ accesses_of c w k
       unfolding accesses_of access_rows access_table
       pushed_here =
-          pushed-entries (access_at c (access_stored c w₁ i x)) (access_at c w) access_ready access_moved.taken pushed
+          pushed_entries (access_at c (access_stored c w₁ i x)) (access_at c w) access_ready access_moved.taken pushed
           (λ y q n. (access_rest c pushed y q n).0)
           ∙ ap (λ y. y ∷ map (access_at c w) (rows_of (access_table c) (access_heads c) w k))
           (access_stored_at access_moved_fits access_row x)
@@ -111,7 +111,7 @@ module _ {c : Counts} {w : List ℕ} (W : Well c w) {k : ℕ} (l : IsRow c.edits
           let w₂ = access_stored c w₁ i x in
           elim (ℕ_discrete j k) [
             | yes z ↦ all_pushed (marked c w₂) (marked c w) (access_rows c w j) (access_rows c w₂ j) (marked c w₂ i)
-                (rw z (pushed-entries (marked c w₂) (marked c w) access_ready access_moved.taken pushed
+                (rw z (pushed_entries (marked c w₂) (marked c w) access_ready access_moved.taken pushed
                 (λ y q n. (access_rest c pushed y q n).1)))
                 (access_stored_marked access_moved_fits access_row x) (W.marks j p q)
             | no z ↦ all_same (marked c w₂) (marked c w) (access_rows c w j) (access_rows c w₂ j)
@@ -159,7 +159,7 @@ module _ {c : Counts} {w : List ℕ} (W : Well c w) {k : ℕ} (l : IsRow c.edits
         → IsRow c.edits j → (j ≡ k → ⊥) → map f (access_rows c w' j) ≡ map g (access_rows c w j)
     unfolding access_rows access_heads
     emptied_others f g e j q n = ap (map f) (emptied.others j q.high n (λ z. omega (arith, q.low)))
-        ∙ entries-kept f g (rows_of (access_table c) (access_heads c) w j) (λ x o. e x (row_of j q.high x o))
+        ∙ entries_kept f g (rows_of (access_table c) (access_heads c) w j) (λ x o. e x (row_of j q.high x o))
 
     emptied_marks : (j : ℕ) → 1 ≤ j → j ≤ c.edits → all_of (marked c w') (access_rows c w' j) ≡ true
     unfolding access_rows all_of

@@ -15,7 +15,7 @@ use Rattle.chains.specs.Table.{rows_of}
 use Rattle.chains.specs.Change.{Changed}
 use Rattle.chains.proofs.Words.{on_chain}
 use Rattle.chains.proofs.Frames.{else_refl}
-use Rattle.chains.proofs.Entries.{Filled, filled_start, other_entries, entries-kept}
+use Rattle.chains.proofs.Entries.{Filled, filled_start, other_entries, entries_kept}
 use Rattle.meaning.specs.Lists.{any, pairwise}
 use Rattle.meaning.specs.Store.{Edit, with_edit, edit_at, is_of, names}
 use Rattle.meaning.specs.Edits.{with_access}
@@ -88,7 +88,7 @@ module _ {c : Counts} {w : List ℕ} (W : Well c w) {k : ℕ} (l : IsRow c.edits
     refilled_here : accesses_of c (access_stored c w i x) k ≡ map (λ b. cond (is_of x.rec b) x b) (accesses_of c w k)
     unfolding accesses_of access_rows
     refilled_here = ap (map (access_at c (access_stored c w i x))) refilled.at_b
-        ∙ entries-kept (access_at c (access_stored c w i x))
+        ∙ entries_kept (access_at c (access_stored c w i x))
         (λ y. cond (is_of x.rec (access_at c w y)) x (access_at c w y)) (rows_of (access_table c) (access_heads c) w k)
         refilled_entry
         ∙ sym (map_map (access_at c w) (λ b. cond (is_of x.rec b) x b) (rows_of (access_table c) (access_heads c) w k))

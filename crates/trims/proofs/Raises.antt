@@ -19,7 +19,7 @@ use Rattle.chains.proofs.Walks.{more_out, step, stop}
 use Rattle.chains.proofs.Words.{on_chain, on_once, on_one}
 use Rattle.chains.proofs.Cells.{field_same, field_other, head_place, lies}
 use Rattle.chains.proofs.Frames.{OnlyTable, only_put, only_trans, same_chains}
-use Rattle.chains.proofs.Entries.{entries-kept}
+use Rattle.chains.proofs.Entries.{entries_kept}
 use Rattle.types.specs.Limits.{SETTLED}
 use Rattle.meaning.specs.Store.{with_rec, with_locks, rec_at}
 use Rattle.meaning.specs.Points.{is_owned, trimmed, cut}
@@ -235,7 +235,7 @@ module _ {c : Counts} {v : ℕ} {w₀ : List ℕ} {r : ℕ} {w : List ℕ} {cur 
       unfolding lock_rows lock_table lock_heads
       named j q = all_same (names_record c w j) (names_record c w₀ j) (lock_rows c w₀ j) (lock_rows c w j)
           (ap (map (names_record c w j)) (raises_same.rows_kept (suc j) q)
-          ∙ entries-kept (names_record c w j) (names_record c w₀ j) (rows_of (lock_table c) (lock_heads c) w₀ (suc j))
+          ∙ entries_kept (names_record c w j) (names_record c w₀ j) (rows_of (lock_table c) (lock_heads c) w₀ (suc j))
           (λ x o. ap (λ y. eqb y j)
           (i.kept x L_RECORD (on_chain (lock_table c) (lock_heads c) w₀ i.well.locks_parted_lem (suc j) q x o)
           (omega arith) (λ z. omega arith))))
@@ -248,9 +248,9 @@ module _ {c : Counts} {v : ℕ} {w₀ : List ℕ} {r : ℕ} {w : List ℕ} {cur 
       raise_lows_law = locks_become i.well i.only r i.within
           (raises_same.parted_kept ∙ i.well.locks_parted_lem) named
           (λ j q n. ap (map (lock_at c w)) (raises_same.rows_kept (suc j) q)
-          ∙ entries-kept (lock_at c w) (lock_at c w₀) (rows_of (lock_table c) (lock_heads c) w₀ (suc j)) (there j q n))
+          ∙ entries_kept (lock_at c w) (lock_at c w₀) (rows_of (lock_table c) (lock_heads c) w₀ (suc j)) (there j q n))
           (ap (map (lock_at c w)) (raises_same.rows_kept (suc r) i.within)
-          ∙ entries-kept (lock_at c w) (λ x. trimmed v (lock_at c w₀ x))
+          ∙ entries_kept (lock_at c w) (λ x. trimmed v (lock_at c w₀ x))
           (rows_of (lock_table c) (lock_heads c) w₀ (suc r)) raises_here
           ∙ sym (map_map (lock_at c w₀) (trimmed v) (rows_of (lock_table c) (lock_heads c) w₀ (suc r)))
           ∙ ap (map (trimmed v)) (sym (locks_at c w₀ r i.within)))

@@ -9,12 +9,12 @@ use native.Mathlib.Omega.{arith}
 use lib.Dec.{leb}
 use lib.ListN.{length, set}
 use borrow.Author.Tests.{eq-eqb, ne_eqb}
-use Rattle.chains.specs.Lists.{dropIf}
+use Rattle.chains.specs.Lists.{drop_if}
 use Rattle.chains.specs.Walk.{IsRow, more}
 use Rattle.chains.specs.Table.{place, link, head_of, rows_of}
 use Rattle.chains.specs.Change.{Ready, Follows, Turned}
 use Rattle.chains.proofs.Cells.{field_other}
-use Rattle.chains.proofs.Entries.{entries-kept}
+use Rattle.chains.proofs.Entries.{entries_kept}
 use Rattle.chains.proofs.Frames.{put_same, only_put, only_elsewhere}
 use Rattle.chains.proofs.Turns.{TurnInv, turn_start, turn_ready, turn_again, turn_count, turn_link, turn_put, turn_end}
 use Rattle.chains.proofs.Walks.{more_out}
@@ -143,15 +143,15 @@ module _ {c : Counts} {v : ℕ} {w₀ : List ℕ} {r : ℕ} {w : List ℕ} {plac
 
     -- the end of the chain
     module _ (e : b ≡ false) where
-      left_locks : map (lock_at c i.base) (dropIf (λ x. emptied v (lock_at c w₀ x))
+      left_locks : map (lock_at c i.base) (drop_if (λ x. emptied v (lock_at c w₀ x))
           (rows_of (lock_table c) (lock_heads c) w₀ (suc r))) ≡ trim_to v (rec_at (decode_at c w₀) r).locks
       unfolding trim_to lock_rows
       left_locks =
           let test : ℕ → Bool = λ x. emptied v (lock_at c w₀ x) in
           let rs = rows_of (lock_table c) (lock_heads c) w₀ (suc r) in
-          entries-kept (lock_at c i.base) (λ x. trimmed v (lock_at c w₀ x)) (dropIf test rs)
+          entries_kept (lock_at c i.base) (λ x. trimmed v (lock_at c w₀ x)) (drop_if test rs)
           (λ x o. raises_here i.raises d e x (omega (arith, occ_drop x test rs)))
-          ∙ sym (map_map (lock_at c w₀) (trimmed v) (dropIf test rs))
+          ∙ sym (map_map (lock_at c w₀) (trimmed v) (drop_if test rs))
           ∙ ap (map (trimmed v)) (locks_dropped c w₀ r i.raises.within (emptied v)
           ∙ drop_keep (emptied v) (λ l. not (emptied v l)) (λ l. refl) (rec_at (decode_at c w₀) r).locks)
 

@@ -8,7 +8,7 @@ use mathlib.Core.List.{List, []}
 use native.Mathlib.Omega.{arith}
 use lib.Dec.{leb, ltb}
 use borrow.Author.Tests.{ltb-true, ltb-false, le-leb, lt-leb}
-use Rattle.chains.specs.Lists.{dropIf, push_if}
+use Rattle.chains.specs.Lists.{drop_if, push_if}
 use Rattle.chains.specs.Walk.{IsRow, more}
 use Rattle.chains.specs.Table.{field, link, head_of, rows_of}
 use Rattle.chains.specs.Change.{Ready, Changed, Follows, Turned}
@@ -102,7 +102,7 @@ module _ {c : Counts} {p : Version → Bool} {w₀ : List ℕ} {r : ℕ} {w : Li
 
     pub version_turns_end : b ≡ false
         → Changed (version_table c) (version_heads c) w₀ w (suc r) 0
-        (dropIf (λ i. p (version_at c w₀ i)) (rows_of (version_table c) (version_heads c) w₀ (suc r)))
+        (drop_if (λ i. p (version_at c w₀ i)) (rows_of (version_table c) (version_heads c) w₀ (suc r)))
         (push_if (λ i. p (version_at c w₀ i)) (rows_of (version_table c) (version_heads c) w₀ (suc r))
         (rows_of (version_table c) (version_heads c) w₀ 0))
     unfolding version_table
