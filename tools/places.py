@@ -38,7 +38,7 @@ Point 2, twins
   step      the same of STEPS, whose members differ in the test that they make or the step that they run
 Point 3, loops that count by hand
   walk      a `while` along a chain (`more(..)`)
-  index     any other `while`, but for
+  index     any other `while` (a `while let` takes what a step gives, and counts nothing), but for
   search    one that counts nothing: it goes on until a value stays
   unrolled  a loop written out: five or more statements one after the other that call one function, or as many pairs
 Point 4, equality, order, copying, conversion, printing by hand
@@ -700,7 +700,7 @@ def point_3(items):
         if not is_fn(i):
             continue
         body = i.body[1]
-        for n, line in lines_with(i, r"^\s*while "):
+        for n, line in lines_with(i, r"^\s*while (?!let\b)"):
             rest = body.split("\n")[n - i.body[0] - 1:]
             indent = re.match(r"\s*", rest[0])[0]
             loop = "\n".join(rest[:next((k for k, t in enumerate(rest) if t == indent + "}"), len(rest))])

@@ -23,7 +23,7 @@ use Rattle.store.specs.Promises.{Does}
 use Rattle.replies.specs.Lines.{line_of}
 use Rattle.replies.specs.declared.Line.{Line}
 use Rattle.replies.specs.declared.Line.TheVariants as L
-use Rattle.fields.specs.declared.Parsed.{Parsed}
+use Rattle.fields.specs.Fields.{Parsed}
 use Rattle.meaning.proofs.Lists.{and_left, and_right}
 use Rattle.answers.specs.Script.{Has, nothing, one, Stands, Said, Says, Answers, called, kept, formatted, said}
 use Rattle.format_room.specs.Room.{room_for, words_for}

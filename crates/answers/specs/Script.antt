@@ -1,7 +1,7 @@
 -- What a line of a script prints and what the program has after it: "Before the first F that succeeds every other call
 -- prints `no 1`; a refused F keeps the earlier store". Rests on the calls of meaning, the words of tables,
 -- `format_room`, `fields` and `replies`.
-use Rattle.std.specs.Prelude.{ℕ, ◌≤◌, ◌≡◌, Bool, true, false, List, [], length, take}
+use Rattle.std.specs.Prelude.{ℕ, ◌≤◌, ◌≡◌, Bool, true, false, List, [], length, take, Some, None}
 use Rattle.meaning.specs.Store.{Store, fresh}
 use Rattle.meaning.specs.Calls.{act}
 use Rattle.types.specs.declared.Call.{Call}
@@ -11,8 +11,8 @@ use Rattle.format_room.specs.Room.{room_for}
 use Rattle.replies.specs.Lines.{line_of}
 use Rattle.replies.specs.declared.Line.{Line}
 use Rattle.replies.specs.declared.Line.TheVariants as L
-use Rattle.fields.specs.declared.Parsed.{Parsed}
-use Rattle.fields.specs.declared.Parsed.TheVariants as P
+use Rattle.fields.specs.Fields.{Parsed}
+use Rattle.fields.specs.declared.Command.TheVariants as P
 
 -- the store, if a Format has succeeded
 pub data Has : Type 0 where
@@ -40,9 +40,9 @@ abbrev pub kept : Has → Said
 kept h = record { line = L.Malformed; has = h }
 
 abbrev pub said : ℕ → Parsed → Has → Said
-said room P.Malformed = kept
-said room (P.Format c) = formatted c (room_for room c)
-said room (P.Call c) = called c
+said room None = kept
+said room (Some (P.Format c)) = formatted c (room_for room c)
+said room (Some (P.Call c)) = called c
 
 -- what is printed and left, whatever the program had
 pub record Says (f : Has → Said) (before : List ℕ) (l : Line) (after : List ℕ) : Type 0 where

@@ -8,13 +8,13 @@ ghost use Rattle.lines.specs.Calls.{parsed};
 ghost use Rattle.answers.specs.Script.{Says, Answers, called, formatted, said};
 ghost use Rattle.format_room.specs.Room.{room_for};
 
-use fields::Parsed;
+use fields::Command;
 use format_room::words_for;
 use lines::parse;
 use rendering::line_of_answer;
 use replies::{Line, line_of_refusal};
 use store::perform;
-use types::{Call, Counts, FormatReply};
+use types::{Call, Counts};
 
 // The line to print, and how many words are in use after it.
 #[derive(Clone, Copy)]
@@ -32,11 +32,11 @@ fn run_format(words: &mut [u64], used: usize, c: Counts) -> Answered
     let n = words_for(c, words.len());
     let reply = format::format(&mut words[..n], c);
     match reply {
-        FormatReply::Done => Answered {
+        Ok(()) => Answered {
             line: Line::Ok,
             used: n,
         },
-        FormatReply::Refused(r) => Answered {
+        Err(r) => Answered {
             line: line_of_refusal(r),
             used,
         },
@@ -58,12 +58,12 @@ pub fn answer(words: &mut [u64], used: usize, line: &[u8]) -> Answered
         words.new result.used }
 {
     match parse(line) {
-        Parsed::Malformed => Answered {
+        None => Answered {
             line: Line::Malformed,
             used,
         },
-        Parsed::Format(c) => run_format(words, used, c),
-        Parsed::Call(call) => Answered {
+        Some(Command::Format(c)) => run_format(words, used, c),
+        Some(Command::Call(call)) => Answered {
             line: run_call(words, used, call),
             used,
         },

@@ -4,7 +4,7 @@ use mathlib.Core.Path.{◌≡◌, refl, sym, ap, ◌∙◌}
 use mathlib.Core.Bool.{true}
 use mathlib.Core.List.{List}
 use Rattle.types.specs.Replies.{at}
-use Rattle.types.specs.declared.Value.{Value}
+use Rattle.types.specs.Values.{Value}
 use Rattle.meaning.specs.Records.{viewing}
 use Rattle.tables.specs.Words.{lent, decode, sound_words}
 use Rattle.history.proofs.Charts.{store_words_chart}

@@ -1,19 +1,18 @@
 -- The many views ask by ask: after i turns the first i asks are answered and told. Rests on Rows of `encoding`.
 use Prim.Native.Nat.{ℕ, ◌+◌, ◌*◌, ◌/◌, ◌≤◌, ◌<◌, min}
-use mathlib.Core.Path.{◌≡◌, refl, ap, ◌∙◌}
+use mathlib.Core.Path.{◌≡◌, refl}
 use mathlib.Core.Bool.{true, false}
 use mathlib.Core.List.{List, [], ◌∷◌, ◌++◌}
 use native.Mathlib.Omega.{arith}
 use native.Mathlib.Numerals.{add-one}
-use lib.ListN.{length, set, replicate}
+use lib.ListN.{length}
 use lib.Seq.{sets}
 use Rattle.types.specs.Replies.{Reply, refusing}
 use Rattle.meaning.specs.Records.{viewing}
 use Rattle.tables.specs.Words.{lent, decode, sound_words}
-use Rattle.codes.specs.Codes.{Tells}
 use Rattle.encoding.specs.Encoding.{row_of}
 use Rattle.asks.specs.Views.{ASK_WORDS, VIEW_NUMBERS, VIEW_WORDS, asked, asked_at, replies_of, Views}
-use Rattle.encoding.proofs.Rows.{stores, told_row, Told, told_none, told_more}
+use Rattle.encoding.proofs.Rows.{Told, told_none, told_more}
 
 -- what View replies on sound words and on others
 pub asked_sound : (r p : ℕ) (w : List ℕ) {q : Reply} → sound_words (lent w) ≡ true
@@ -24,12 +23,6 @@ asked_sound r p w s e = rw s e
 pub asked_unsound : (r p : ℕ) (w : List ℕ) → sound_words (lent w) ≡ false → refusing 1 [] ≡ asked r p w
 unfolding asked
 asked_unsound r p w s = rw s refl
-
--- a reply told, put at a place
-pub put_told : (w : List ℕ) (at : ℕ) {q : Reply} {code a b c : ℕ} → Tells q code (replicate 3 0) (a ∷ b ∷ c ∷ [])
-    → set (set (set (set w at code) (at + 1) a) (at + 2) b) (at + 3) c ≡ sets w at (row_of VIEW_NUMBERS q)
-put_told w at {code = code} {a = a} {b = b} {c = c} t =
-    stores w at code (a ∷ b ∷ c ∷ []) ∙ ap (sets w at) (told_row VIEW_NUMBERS 3 t refl)
 
 pub record Viewing (words list area₀ : List ℕ) (n i : ℕ) (area : List ℕ) : Type 0 where
   pub upto : i ≤ n

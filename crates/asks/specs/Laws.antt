@@ -2,7 +2,7 @@
 -- `meaning`, and on the histories and charts of `history`.
 use Rattle.std.specs.Prelude.{ℕ, ◌+◌, ◌*◌, ◌≡◌, List}
 use Rattle.types.specs.Replies.{Reply, at}
-use Rattle.types.specs.declared.Value.{Value}
+use Rattle.types.specs.Values.{Value}
 use Rattle.types.specs.declared.Counts.{Counts}
 use Rattle.types.specs.declared.Call.{Call}
 use Rattle.meaning.specs.Records.{viewing}

@@ -1,6 +1,6 @@
 // Many views after one check of the words: a lent list of asks and a lent area for their replies. An ask is a row of
 // ASK_WORDS words, a record and a point; its reply a row of VIEW_WORDS words. Rests on the crates `types`, `meaning`,
-// `tables`, `soundness`, `calls`, `codes`, `telling` and `encoding`.
+// `tables`, `soundness`, `calls`, `codes` and `encoding`.
 #![tactic(auto)]
 
 ghost use Rattle.std.specs.Prelude.{◌+◌, ◌*◌, ◌≤◌, ◌≡◌, length};
@@ -10,38 +10,34 @@ ghost use Rattle.tables.specs.Words.{lent, sound_words};
 ghost use Rattle.encoding.specs.Encoding.{row_of};
 ghost use Rattle.asks.specs.Views.{ASK_WORDS, VIEW_NUMBERS, VIEW_WORDS, asked, asked_at, Views};
 
-use encoding::least;
-use types::{Refusal, ViewReply, point_of_word};
+use codes::{bits, mark, refusal};
+use encoding::put_row;
+use types::{Point, Refusal, Seen};
 
 const ASK_WORDS: usize = 2;
 
 const VIEW_WORDS: usize = 4;
 
 // What View replies on words of which it is known whether they are sound.
-fn ask(words: &[u64], good: bool, rec: u64, p: u64) -> ViewReply
+fn ask(words: &[u64], good: bool, rec: u64, p: u64) -> Result<Seen, Refusal>
     requires { good ≡ sound_words (lent words.now) }
     ensures { of_view result ≡ asked rec p words.now }
 {
     if good {
-        calls::view(words, rec, point_of_word(p))
+        calls::view(words, rec, Point::from(p))
     } else {
-        ViewReply::Refused(Refusal::Unsound)
+        Err(Refusal::Unsound)
     }
 }
 
-// Puts the row of a reply at a place.
-fn put_view(area: &mut [u64], at: usize, r: ViewReply)
-    requires { at + VIEW_WORDS ≤ length area.old }
-    ensures { area.new ≡ sets area.old at (row_of VIEW_NUMBERS (of_view r)) }
+// The row of a reply: its code, and its numbers or as many zeros.
+fn row_of(r: Result<Seen, Refusal>) -> [u64; VIEW_WORDS]
+    ensures { result ≡ row_of VIEW_NUMBERS (of_view r) }
 {
-    let mut point = 0;
-    let mut written = 0;
-    let mut value = 0;
-    let code = telling::view(r, &mut point, &mut written, &mut value);
-    area[at] = code;
-    area[at + 1] = point;
-    area[at + 2] = written;
-    area[at + 3] = value;
+    match r {
+        Ok(s) => [0, u64::from(s.point), mark(s.value), bits(s.value)],
+        Err(no) => [refusal(no), 0, 0, 0],
+    }
 }
 
 // Ask i of the list, and its reply in row i.
@@ -55,7 +51,7 @@ fn view_step(words: &[u64], good: bool, list: &[u64], i: usize, replies: &mut [u
 {
     let at = i * ASK_WORDS;
     let reply = ask(words, good, list[at], list[at + 1]);
-    put_view(replies, i * VIEW_WORDS, reply);
+    put_row(replies, i * VIEW_WORDS, row_of(reply));
 }
 
 // Answers the asks of the list in their order, until the list ends or the next reply has no room; returns how many.
@@ -63,11 +59,9 @@ pub fn views(words: &[u64], list: &[u64], replies: &mut [u64]) -> usize
     ensures { Views words.now list.now replies.old replies.new result }
 {
     let good = soundness::check(words);
-    let n = least(list.len() / ASK_WORDS, replies.len() / VIEW_WORDS);
-    let mut i = 0;
-    while i < n {
+    let n = (list.len() / ASK_WORDS).min(replies.len() / VIEW_WORDS);
+    for i in 0..n {
         view_step(words, good, list, i, replies);
-        i += 1;
     }
     n
 }

@@ -1,30 +1,30 @@
 // Many calls after one check of the words: a lent list of calls as rows of words, and a lent area for their replies.
 // The public function has no `requires`. Each call leaves the words as sound as they were, so that one check serves
-// all. Rests on the crates `types`, `meaning`, `tables`, `soundness`, `format`, `history`, `index`, `store`, `codes`,
-// `encoding` and `opened`.
+// all. Rests on the crates `types`, `meaning`, `tables`, `soundness`, `format`, `history`, `index`, `store`, `encoding`
+// and `opened`.
 #![tactic(auto)]
 
 ghost use Rattle.std.specs.Prelude.{◌+◌, ◌*◌, ◌≤◌, ◌≡◌, length};
 ghost use Rattle.tables.specs.Words.{lent, decode, sound_words};
 ghost use Rattle.index.specs.Index.{Indexed};
-ghost use Rattle.encoding.specs.Encoding.{CALL_WORDS, REPLY_WORDS, words_of};
+ghost use Rattle.encoding.specs.Encoding.{CALL_WORDS, REPLY_WORDS};
 ghost use Rattle.batch.specs.Runs.{Answers, Steps, Runs, fitting};
 
-use encoding::{CALL_WORDS, REPLY_WORDS, Row, call_at, least, put_row, row_0, row_of};
+use encoding::{CALL_WORDS, REPLY_WORDS, call_at, put_row, row_of};
 use index::{INDEX, UNKNOWN};
 use opened::perform;
 use types::{Call, Refusal};
 
 // The call on words of which it is known whether they are sound, and its reply as a row.
-fn answer(words: &mut [u64], good: bool, call: Call, ix: &mut [u16]) -> Row
+fn answer(words: &mut [u64], good: bool, call: Call, ix: &mut [u16]) -> [u64; REPLY_WORDS]
     requires { (sound_words (lent words.old) ≡ good) × Indexed (decode (lent words.old)) ix.old }
-    ensures { Answers call words.old words.new (words_of result)
+    ensures { Answers call words.old words.new result
         × Indexed (decode (lent words.new)) ix.new }
 {
     if good {
         row_of(perform(words, ix, call))
     } else {
-        row_0(codes::refusal(Refusal::Unsound))
+        row_of(Err(Refusal::Unsound))
     }
 }
 
@@ -51,10 +51,8 @@ fn steps(words: &mut [u64], good: bool, list: &[u64], n: usize, replies: &mut [u
         words.old words.new
         replies.old replies.new n }
 {
-    let mut i = 0;
-    while i < n {
+    for i in 0..n {
         step(words, good, list, i, replies, ix);
-        i += 1;
     }
 }
 
@@ -68,7 +66,7 @@ pub fn run(words: &mut [u64], list: &[u64], replies: &mut [u64]) -> usize
         replies.old replies.new result }
 {
     let good = soundness::check(words);
-    let n = least(list.len() / CALL_WORDS, replies.len() / REPLY_WORDS);
+    let n = (list.len() / CALL_WORDS).min(replies.len() / REPLY_WORDS);
     if n < FEW {
         let mut none = [UNKNOWN; 1];
         steps(words, good, list, n, replies, &mut none);

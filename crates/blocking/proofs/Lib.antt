@@ -1,6 +1,6 @@
--- Laws of the searches of points. Extremes: loops that keep the least or the greatest; Rising: why a walk of rising
--- locks may stop; Free: the first free point; Near and Judged: the first blocked point with its judgement. They rest on
--- the laws of `meaning`, `chains` and `tables`.
+-- Laws of the searches of points. Extremes: folds that keep the least or the greatest, and turns of a walk that stops;
+-- Rising: why a walk of rising locks may stop; Free: the first free point; Near and Judged: the first blocked point
+-- with its judgement. They rest on the laws of `meaning` and `tables`.
 pub mod Extremes
 pub mod Rising
 pub mod Free

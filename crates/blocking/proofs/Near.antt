@@ -23,27 +23,9 @@ use Rattle.meaning.proofs.Lists.{least_shift}
 use Rattle.blocking.proofs.Extremes.{valued}
 use Rattle.blocking.proofs.Rising.{rest_rises, none_meets}
 
--- the turns of the code: the best so far is nearer, the lock is nearer, both are as near and one has the lower owner
-module _ (b : Blocked) (q o : ℕ) where
-  pub joined_past : b.point < q → b ≡ joined b q o
-  joined_past l = rw (lt-ltb b.point q l) refl
-
-  module _ (g : q ≤ b.point) where
-    pub joined_first : {m : ℕ} → q < b.point → m ≡ min SLOTS o → record { point = q; by = m } ≡ joined b q o
-    joined_first l e = rw (le-ltb b.point q g, lt-ltb q b.point l, e) refl
-
-    as_near : b.point ≤ q → record { point = q; by = min b.by o } ≡ joined b q o
-    as_near l = rw (le-ltb b.point q g, le-ltb q b.point l) refl
-
-    pub joined_lower : b.point ≤ q → b.by < o → b ≡ joined b q o
-    joined_lower l h =
-        let m : b.by ≡ min b.by o = omega arith in
-        let n : b.point ≡ q = omega arith in
-        ap (λ (x : ℕ). record { point = x; by = b.by }) n ∙ ap (λ (x : ℕ). record { point = q; by = x }) m ∙ as_near l
-
-    pub joined_owner : b.point ≤ q → o ≤ b.by → record { point = q; by = o } ≡ joined b q o
-    joined_owner l h =
-        let m : o ≡ min b.by o = omega arith in ap (λ (x : ℕ). record { point = q; by = x }) m ∙ as_near l
+-- a best so far that is nearer stays
+joined_past : (b : Blocked) (q o : ℕ) → b.point < q → b ≡ joined b q o
+joined_past b q o l = rw (lt-ltb b.point q l) refl
 
 -- what is found with b so far: S are the starts of the locks ahead, O p the owners of those that start at p
 abbrev owner_of : Blocked → List ℕ → ℕ → ℕ

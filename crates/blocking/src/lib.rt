@@ -1,7 +1,7 @@
 // Points of a record r under its locks: the first free one, and the first blocked one with who blocks it. Read-only,
 // each equal to a function of the decoded store. `mine` picks slot k's own locks, else those of others that block it in
 // the mode. Each is one walk of the record's locks that stops as soon as no later one can matter. Rests on the crates
-// `types`, `meaning`, `locks`, `chains`, `tables` and `lookups`.  A caller proves that the words have these counts
+// `types`, `meaning`, `locks`, `tables` and `lookups`. A caller proves that the words have these counts
 // (`Fits`), that the record and the points are in range and that the record's locks rise (`Rises`), so the functions
 // have `requires`; `first_blocked` also asks that they are spans (`Proper`).
 #![tactic(auto)]
@@ -26,40 +26,38 @@ pub struct Blocked {
     pub by: u64,
 }
 
+#[tactic(auto, unfolding(crate::specs::Search::counts))]
 fn counts(mine: bool, mode: u64, k: u64, l: Lock) -> bool
     ensures { result ≡ counts mine mode k l }
 {
     if mine {
-        return l.owner == k;
+        l.owner == k
+    } else {
+        locks::blocks(mode, k, l)
     }
-    locks::blocks(mode, k, l)
 }
 
 // One lock of the walk for a free point: where it counts and the end lies in it, the end goes to just after it.
+#[tactic(auto, unfolding(crate::specs::Search::further))]
 fn further(mine: bool, mode: u64, k: u64, high: u64, end: u64, l: Lock) -> u64
     requires { high ≤ LAST }
     ensures { result ≡ further mine mode k high end l }
 {
-    if !counts(mine, mode, k, l) {
-        return end;
+    if counts(mine, mode, k, l) && end <= l.high {
+        return smaller(high, l.high) + 1;
     }
-    if l.high < end {
-        return end;
-    }
-    smaller(high, l.high) + 1
+    end
 }
 
 fn stops(high: u64, end: u64, l: Lock) -> bool
     ensures { result ≡ stops high end l }
 {
-    if high < end {
-        return true;
-    }
-    end < l.low
+    high < end || end < l.low
 }
 
 // The least point of low..high under none of them, or high + 1. One walk: all points before `end` are under them. The
 // locks rise, so where one starts beyond the end nothing covers the end, counted or not: it is free.
+// Kept: `mine` is a bool, since it stands in this public contract, by `counted`.
 pub fn first_free(
     w: &[u64],
     c: Counts,
@@ -73,18 +71,12 @@ pub fn first_free(
     requires { Fits c w.now × (r < c.records) × (low ≤ high) × (high ≤ LAST) × Rises c w.now r }
     ensures { result ≡ first_free (counted mine mode k (record_at c w.now r).locks) low high }
 {
-    let n = c.locks;
     let mut end = low;
-    let mut cur = tables::first_lock(w, c, r);
-    let mut left = n;
-    while chains::more(n, left, cur) {
-        let l = tables::lock_at(w, c, cur);
+    for l in tables::locks(w, c, r) {
         if stops(high, end, l) {
             return end;
         }
         end = further(mine, mode, k, high, end, l);
-        cur = tables::next_lock(w, c, cur);
-        left -= 1;
     }
     end
 }
@@ -92,10 +84,7 @@ pub fn first_free(
 fn meets(low: u64, high: u64, l: Lock) -> bool
     ensures { result ≡ meets low high l }
 {
-    if high < l.low {
-        return false;
-    }
-    low <= l.high
+    l.low <= high && low <= l.high
 }
 
 // The nearer of the best so far and a lock of owner o that starts at q; of those as near, the lowest owner.
@@ -117,16 +106,14 @@ fn joined(best: Blocked, q: u64, o: u64) -> Blocked
     Blocked { point: q, by: o }
 }
 
+#[tactic(auto, unfolding(crate::specs::Search::nearer))]
 fn nearer(mode: u64, k: u64, low: u64, high: u64, best: Blocked, l: Lock) -> Blocked
     ensures { result ≡ nearer mode k low high best l }
 {
-    if !locks::blocks(mode, k, l) {
-        return best;
+    if locks::blocks(mode, k, l) && meets(low, high, l) {
+        return joined(best, larger(low, l.low), l.owner);
     }
-    if !meets(low, high, l) {
-        return best;
-    }
-    joined(best, larger(low, l.low), l.owner)
+    best
 }
 
 // The first point of low..high under a lock that blocks slot k, with the lowest owner of those that start there. The
@@ -135,21 +122,15 @@ fn nearest(w: &[u64], c: Counts, mode: u64, k: u64, r: usize, low: u64, high: u6
     requires { Fits c w.now × (r < c.records) × (high ≤ LAST) }
     ensures { result ≡ nearest mode k low high (nobody high) (record_at c w.now r).locks }
 {
-    let n = c.locks;
     let mut best = Blocked {
         point: high + 1,
         by: SLOTS,
     };
-    let mut cur = tables::first_lock(w, c, r);
-    let mut left = n;
-    while chains::more(n, left, cur) {
-        let l = tables::lock_at(w, c, cur);
+    for l in tables::locks(w, c, r) {
         if best.point < l.low {
             return best;
         }
         best = nearer(mode, k, low, high, best, l);
-        cur = tables::next_lock(w, c, cur);
-        left -= 1;
     }
     best
 }

@@ -1,4 +1,5 @@
--- The ways that Begin, Write and View end, one law for each return of the code. Rests on Verdicts.
+-- The ways that Begin, Write and View end, one law for each return of the code. Rests on Verdicts and Checks.
+use Rattle.std.specs.Prelude.{Result, Err}
 use Prim.Native.Nat.{ℕ, ◌≤◌, ◌<◌}
 use mathlib.Core.Path.{◌≡◌, ◌∙◌}
 use mathlib.Core.Bool.{true, false}
@@ -10,13 +11,16 @@ use Rattle.types.specs.Limits.{LAST}
 use Rattle.meaning.specs.Store.{Store, edit_at, rec_at, newest_at}
 use Rattle.types.specs.Numbers.{handle, slot_of, next_generation}
 use Rattle.types.specs.Values.{Val}
-use Rattle.types.specs.Replies.{ok, edit, at, refusing}
+use Rattle.types.specs.Replies.{ok, edit, at, refusing, of_refusal}
+use Rattle.types.specs.declared.Refusal.{Refusal}
 use Rattle.meaning.specs.Outcomes.{Outcome, replies, Verdict, pass, needs, unless, knows, is_open, has_record}
 use Rattle.meaning.specs.Outcomes.{access_room}
 use Rattle.meaning.specs.Edits.{free_slot, begun, begin_checks, beginning, written, write_checks, writing}
 use Rattle.meaning.specs.Records.{view_checks, viewing}
 use Rattle.calls.specs.Parts.{write_open}
-use Rattle.calls.proofs.Verdicts.{needs_fails, needs_holds, no_edit_lem, edit_ended, edit_open}
+use Rattle.calls.proofs.Verdicts.{needs_fails, needs_holds, edit_open}
+use Rattle.calls.specs.Checks.{open_slot}
+use Rattle.calls.proofs.Checks.{open_refused}
 
 -- Begin
 
@@ -48,13 +52,10 @@ module _ (s : Store) (h r : ℕ) (v : Val) where
   abbrev write_rest : Verdict
   write_rest = needs (access_room s (slot_of h) r) 10 pass
 
-  pub write_no_edit : knows s h ≡ false → writing h r v s ≡ replies s (refusing 2 [])
+  pub write_closed : {q : Result ℕ Refusal} {x : Refusal} → q ≡ open_slot s h → q ≡ Err x
+      → writing h r v s ≡ replies s (of_refusal x)
   unfolding writing write_checks
-  write_no_edit e = no_edit_lem s write_end h (needs (has_record s r) 5 write_rest) e
-
-  pub write_ended : knows s h ≡ true → is_open s h ≡ false → writing h r v s ≡ replies s (refusing 3 [])
-  unfolding writing write_checks
-  write_ended e f = edit_ended s write_end h (needs (has_record s r) 5 write_rest) e f
+  write_closed m e = open_refused s h m (needs (has_record s r) 5 write_rest) write_end e
 
   pub write_no_record : knows s h ≡ true → is_open s h ≡ true → has_record s r ≡ false
       → writing h r v s ≡ replies s (refusing 5 [])

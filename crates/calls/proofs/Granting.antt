@@ -24,9 +24,9 @@ use Rattle.tables.specs.Decode.{record_at, decode_at}
 use Rattle.tables.proofs.Decoded.{rec_at_lem}
 use Rattle.blocking.specs.declared.Blocked.{Blocked}
 use Rattle.blocking.specs.Search.{Rises, counts, counted, first_judged}
-use Rattle.calls.specs.declared.Grant.TheVariants.{Taken, Judged}
+use Rattle.std.specs.Prelude.{Result, Ok, Err}
 use Rattle.calls.specs.Contract.{Ready}
-use Rattle.calls.specs.Grants.{lock_grant, read_grant}
+use Rattle.calls.specs.Grants.{Grant, lock_grant, read_grant}
 use Rattle.calls.proofs.Acting.{all_rise}
 
 -- the search for a blocked point, by slot k
@@ -37,15 +37,17 @@ pub search_needs : {c : Counts} {w : List ℕ} {r low high k : ℕ} → Ready c 
 search_needs {c} {w} {r} R l order last slot =
     (R.well.fits, l, order, last, slot, proper (decode_at c w) R.store r, all_rise c w R r l)
 
-pub grant_judged : (t : Bool) (from end : ℕ) (q b : Blocked) → cond t (Taken from end) (Judged q) ≡ Judged b
+pub grant_judged : (t : Bool) (from end : ℕ) (q b : Blocked) → cond {A = Grant} t (Ok (from, end)) (Err q) ≡ Err b
     → (t ≡ false) × (q ≡ b)
 grant_judged false from end q b e = (refl, cc)
 grant_judged true from end q b e = let z : ◌≡◌ {A = ℕ} 0 1 = cc in absurd (omega arith)
 
 pub grant_taken : (t : Bool) (from end : ℕ) (q : Blocked) (low high : ℕ)
-    → cond t (Taken from end) (Judged q) ≡ Taken low high
+    → cond {A = Grant} t (Ok (from, end)) (Err q) ≡ Ok (low, high)
     → (t ≡ true) × (from ≡ low) × (end ≡ high)
-grant_taken true from end q low high e = (refl, cc, cc)
+grant_taken true from end q low high e =
+    let p : ◌≡◌ {A = ℕ × ℕ} (from, end) (low, high) = cc in
+    (refl, ap (λ x. x.0) p, ap (λ x. x.1) p)
 grant_taken false from end q low high e = let z : ◌≡◌ {A = ℕ} 0 1 = cc in absurd (omega arith)
 
 -- where low is not blocked, it is the first free point
@@ -93,22 +95,22 @@ module _ (s : Store) (k r low high : ℕ) (b : Blocked) (e : b ≡ first_judged 
   first_is : b.point ≡ first_blocked WRITE k (rec_at s r) low high
   first_is = point_is s WRITE k r low high b e
 
-  pub lock_all_taken : high < b.point → Taken low high ≡ lock_grant All s k r low high
+  pub lock_all_taken : high < b.point → Ok (low, high) ≡ lock_grant All s k r low high
   unfolding lock_grant
   lock_all_taken l = let f = first_is in rw (lt-ltb high (first_blocked WRITE k (rec_at s r) low high) (omega arith))
       refl
 
-  pub lock_all_judged : b.point ≤ high → Judged b ≡ lock_grant All s k r low high
+  pub lock_all_judged : b.point ≤ high → Err b ≡ lock_grant All s k r low high
   unfolding lock_grant
   lock_all_judged l =
-      let f = first_is in rw (le-ltb high (first_blocked WRITE k (rec_at s r) low high) (omega arith)) (ap Judged e)
+      let f = first_is in rw (le-ltb high (first_blocked WRITE k (rec_at s r) low high) (omega arith)) (ap Err e)
 
-  pub lock_part_low : low ≤ high → low < b.point → Taken low (b.point - 1) ≡ lock_grant Part s k r low high
+  pub lock_part_low : low ≤ high → low < b.point → Ok (low, b.point - 1) ≡ lock_grant Part s k r low high
   unfolding lock_grant
   lock_part_low order l =
       let f = first_is in
       rw (open_low WRITE k (rec_at s r) low high order (omega arith), le-leb low high order)
-      (ap (λ (p : ℕ). Taken low (p - 1)) f)
+      (ap (λ (p : ℕ). Ok (low, p - 1)) f)
 
 -- P of Lock, from the first free point, which the words gave
 module _ (c : Counts) (w : List ℕ) (k r low high : ℕ) (l : r < c.records) (from : ℕ)
@@ -121,16 +123,16 @@ module _ (c : Counts) (w : List ℕ) (k r low high : ℕ) (l : r < c.records) (f
   from_is = e ∙ ap (λ (x : Rec). first_open WRITE k x low high) (sym (rec_at_lem c w r l))
 
   pub later_judged : (b : Blocked) → b ≡ first_judged s r WRITE k low high → high < from
-      → Judged b ≡ lock_grant Part s k r low high
+      → Err b ≡ lock_grant Part s k r low high
   unfolding lock_grant
   later_judged b f above =
-      let g = from_is in rw (lt-leb (first_open WRITE k (rec_at s r) low high) high (omega arith)) (ap Judged f)
+      let g = from_is in rw (lt-leb (first_open WRITE k (rec_at s r) low high) high (omega arith)) (ap Err f)
 
   module _ (inside : from ≤ high) (n : Blocked) (f : n ≡ first_judged s r WRITE k from high) where
     next_is : n.point ≡ first_blocked WRITE k (rec_at s r) from high
     next_is = point_is s WRITE k r from high n f
 
-    pub later_taken : Taken from (n.point - 1) ≡ lock_grant Part s k r low high
+    pub later_taken : Ok (from, n.point - 1) ≡ lock_grant Part s k r low high
     unfolding lock_grant
     later_taken =
         let g = from_is in
@@ -148,22 +150,22 @@ module _ (s : Store) (k r low high : ℕ) (b : Blocked) (e : b ≡ first_judged 
   met_is : b.point ≡ first_blocked READ k (rec_at s r) low high
   met_is = point_is s READ k r low high b e
 
-  pub read_all_taken : high < b.point → Taken low high ≡ read_grant All s k r low high
+  pub read_all_taken : high < b.point → Ok (low, high) ≡ read_grant All s k r low high
   unfolding read_grant
   read_all_taken l = let f = met_is in rw (lt-ltb high (first_blocked READ k (rec_at s r) low high) (omega arith)) refl
 
-  pub read_all_judged : b.point ≤ high → Judged b ≡ read_grant All s k r low high
+  pub read_all_judged : b.point ≤ high → Err b ≡ read_grant All s k r low high
   unfolding read_grant
   read_all_judged l =
-      let f = met_is in rw (le-ltb high (first_blocked READ k (rec_at s r) low high) (omega arith)) (ap Judged e)
+      let f = met_is in rw (le-ltb high (first_blocked READ k (rec_at s r) low high) (omega arith)) (ap Err e)
 
-  pub read_part_taken : low < b.point → Taken low (b.point - 1) ≡ read_grant Part s k r low high
+  pub read_part_taken : low < b.point → Ok (low, b.point - 1) ≡ read_grant Part s k r low high
   unfolding read_grant
   read_part_taken l =
       let f = met_is in
-      rw (lt-ltb low (first_blocked READ k (rec_at s r) low high) (omega arith)) (ap (λ (p : ℕ). Taken low (p - 1)) f)
+      rw (lt-ltb low (first_blocked READ k (rec_at s r) low high) (omega arith)) (ap (λ (p : ℕ). Ok (low, p - 1)) f)
 
-  pub read_part_judged : b.point ≤ low → Judged b ≡ read_grant Part s k r low high
+  pub read_part_judged : b.point ≤ low → Err b ≡ read_grant Part s k r low high
   unfolding read_grant
   read_part_judged l =
-      let f = met_is in rw (le-ltb low (first_blocked READ k (rec_at s r) low high) (omega arith)) (ap Judged e)
+      let f = met_is in rw (le-ltb low (first_blocked READ k (rec_at s r) low high) (omega arith)) (ap Err e)

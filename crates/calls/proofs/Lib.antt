@@ -2,6 +2,7 @@
 pub mod Answers
 pub mod Verdicts
 pub mod Acting
+pub mod Checks
 pub mod Handles
 pub mod Exits
 pub mod Viewing

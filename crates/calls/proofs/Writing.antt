@@ -1,4 +1,5 @@
 -- What Write has done at each of its returns. Rests on Acting, Exits, Handles and CallsKeep of `meaning`.
+use Rattle.std.specs.Prelude.{Result, Err}
 use Prim.Native.Nat.{ℕ}
 use mathlib.Core.Path.{◌≡◌, refl, sym, ap, ◌∙◌}
 use mathlib.Core.Bool.{true, false}
@@ -8,8 +9,11 @@ use Rattle.chains.specs.Walk.{IsRow}
 use Rattle.meaning.specs.Store.{Edit, edit_at, access_of}
 use Rattle.types.specs.Numbers.{slot_of}
 use Rattle.types.specs.Values.{Val}
-use Rattle.types.specs.Replies.{Reply, ok, refusing}
-use Rattle.meaning.specs.Outcomes.{knows, is_open, access_room}
+use Rattle.types.specs.Replies.{Reply, ok, refusing, number, details, of_refusal}
+use Rattle.types.specs.declared.Refusal.{Refusal}
+use Rattle.types.specs.declared.Refusal.TheVariants.{NoRecord}
+use Rattle.calls.specs.Checks.{open_slot}
+use Rattle.meaning.specs.Outcomes.{replies, knows, is_open, access_room}
 use Rattle.meaning.specs.Edits.{with_access, written, writing}
 use Rattle.types.specs.declared.Access.{Access}
 use Rattle.types.specs.declared.Counts.{Counts}
@@ -23,26 +27,23 @@ use Rattle.calls.specs.Contract.{Acts, Ready, Makes}
 use Rattle.calls.specs.Parts.{write_open}
 use Rattle.calls.proofs.Acting.{ready, makes_refused, makes_done, makes_as, acts}
 use Rattle.calls.proofs.Handles.{has_record_is}
-use Rattle.calls.proofs.Exits.{write_no_edit, write_ended, write_no_record, write_passes, write_no_room}
+use Rattle.calls.proofs.Exits.{write_closed, write_no_record, write_passes, write_no_room}
 use Rattle.calls.proofs.Exits.{write_done}
 
 module _ (c : Counts) (w : List ℕ) (hs : sound_words (lent w) ≡ true) (e : c ≡ counts_of w) (h r : ℕ) (v : Val) where
-  refuses : (n : ℕ) → writing h r v (decode_at c w) ≡ record { reply = refusing n []; store = decode_at c w }
-      → Acts (writing h r v) (lent w) (lent w) (refusing n [])
-  refuses n o =
-      acts (writing h r v) (write_keeps h r v) c w w (refusing n []) hs e
-      (makes_refused c w (writing h r v (decode_at c w)) n [] (ready w hs c e).well o)
+  refuses : (x : Refusal) → writing h r v (decode_at c w) ≡ replies (decode_at c w) (of_refusal x)
+      → Acts (writing h r v) (lent w) (lent w) (of_refusal x)
+  refuses x o =
+      acts (writing h r v) (write_keeps h r v) c w w (of_refusal x) hs e
+      (makes_refused c w (writing h r v (decode_at c w)) (number x) (details x) (ready w hs c e).well o)
 
-  pub wrote_no_edit : knows (decode_at c w) h ≡ false → Acts (writing h r v) (lent w) (lent w) (refusing 2 [])
-  wrote_no_edit k = refuses 2 (write_no_edit (decode_at c w) h r v k)
-
-  pub wrote_ended : knows (decode_at c w) h ≡ true → is_open (decode_at c w) h ≡ false
-      → Acts (writing h r v) (lent w) (lent w) (refusing 3 [])
-  wrote_ended k o = refuses 3 (write_ended (decode_at c w) h r v k o)
+  pub wrote_closed : {q : Result ℕ Refusal} {x : Refusal} → q ≡ open_slot (decode_at c w) h → q ≡ Err x
+      → Acts (writing h r v) (lent w) (lent w) (of_refusal x)
+  wrote_closed {q} {x} m f = refuses x (write_closed (decode_at c w) h r v m f)
 
   pub wrote_no_record : knows (decode_at c w) h ≡ true → is_open (decode_at c w) h ≡ true → ltb r c.records ≡ false
       → Acts (writing h r v) (lent w) (lent w) (refusing 5 [])
-  wrote_no_record k o t = refuses 5 (write_no_record (decode_at c w) h r v k o (sym (has_record_is c w r) ∙ t))
+  wrote_no_record k o t = refuses NoRecord (write_no_record (decode_at c w) h r v k o (sym (has_record_is c w r) ∙ t))
 
   pub wrote : knows (decode_at c w) h ≡ true → is_open (decode_at c w) h ≡ true → ltb r c.records ≡ true
       → (w' : List ℕ) (x : Reply) (j : ℕ) → j ≡ slot_of h → Makes c (write_open (decode_at c w) j r v) w w' x

@@ -3,3 +3,4 @@
 pub mod Contract
 pub mod Grants
 pub mod Parts
+pub mod Checks

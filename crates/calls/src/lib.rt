@@ -10,7 +10,7 @@ ghost use Rattle.meaning.specs.Edits.{beginning, writing};
 ghost use Rattle.types.specs.Limits.{LAST, SLOTS, GENERATIONS};
 ghost use Rattle.meaning.specs.Outcomes.{refuse, handle_at};
 ghost use Rattle.meaning.specs.Records.{viewing};
-ghost use Rattle.types.specs.Replies.{number, details, of_begin, of_write, of_view};
+ghost use Rattle.types.specs.Replies.{number, details, of_begin, of_done, of_view};
 ghost use Rattle.meaning.specs.Store.{edit_at};
 ghost use Rattle.types.specs.Numbers.{slot_of};
 ghost use Rattle.tables.specs.Decode.{decode_at};
@@ -20,32 +20,45 @@ ghost use Rattle.calls.specs.Contract.{Acts, Ready, Makes};
 ghost use Rattle.index.specs.Index.{Indexed};
 ghost use Rattle.calls.specs.Grants.{refusal_by};
 ghost use Rattle.calls.specs.Parts.{write_open};
+ghost use Rattle.calls.specs.Checks.{record_in, known_slot, open_slot};
 
 use blocking::Blocked;
-use types::{
-    Access, BeginReply, Counts, Handle, LAST, Point, Refusal, SETTLED, ViewReply, WriteReply,
-};
+use types::{Access, Counts, Handle, LAST, Point, Refusal, SETTLED, Seen};
 
-// What Lock and Read get of the points that they want: a run of points, or the first blocked point with its judgement.
-#[derive(Clone, Copy)]
-pub enum Grant {
-    Taken(u64, u64),
-    Judged(Blocked),
+// Checks that several calls share, each with its refusal.
+
+// The record of this number: 5 where there is none.
+pub fn record(c: Counts, r: u64) -> Result<usize, Refusal>
+    ensures { result ≡ record_in c.records r }
+{
+    let r = r as usize;
+    if c.records <= r {
+        return Err(Refusal::NoRecord);
+    }
+    Ok(r)
 }
 
-// Reads that several calls share.
-
-pub fn has_record(c: Counts, r: u64) -> bool
-    ensures { result ≡ ltb r c.records }
+// The slot of the edit that the handle names: 2 where it names none.
+pub fn known_slot(w: &[u64], c: Counts, h: Handle) -> Result<usize, Refusal>
+    requires { Fits c w.now }
+    ensures { result ≡ known_slot (decode_at c w.now) h.0 }
 {
-    (r as usize) < c.records
+    if !lookups::known(w, c, h) {
+        return Err(Refusal::NoEdit);
+    }
+    Ok(h.slot() as usize)
 }
 
-// The slot that a handle names.
-pub fn slot(h: Handle) -> usize
-    ensures { result ≡ slot_of h.0 }
+// The slot of an open edit: 3 where it has ended.
+pub fn open_slot(w: &[u64], c: Counts, h: Handle) -> Result<usize, Refusal>
+    requires { Fits c w.now }
+    ensures { result ≡ open_slot (decode_at c w.now) h.0 }
 {
-    types::slot_of(h) as usize
+    let k = known_slot(w, c, h)?;
+    if !lookups::is_open(w, c, h) {
+        return Err(Refusal::EditEnded);
+    }
+    Ok(k)
 }
 
 // The handle of slot k's edit. Slot 0 and slots past the end read as never begun.
@@ -54,13 +67,13 @@ pub fn handle_at(w: &[u64], c: Counts, k: usize) -> Handle
     ensures { result.0 ≡ handle_at (decode_at c w.now) k }
 {
     if k < 1 {
-        return types::make_handle(0, 0);
+        return Handle::of(0, 0);
     }
     if c.edits < k {
-        return types::make_handle(0, k as u8);
+        return Handle::of(0, k as u8);
     }
     let g = tables::generation_of(w, c, k);
-    types::make_handle(g as u16, k as u8)
+    Handle::of(g as u16, k as u8)
 }
 
 // Why a blocked point cannot be had: it is frozen, or held by a slot.
@@ -75,27 +88,34 @@ pub fn judge(w: &[u64], c: Counts, b: Blocked) -> Refusal
 }
 
 // The call Begin.
-pub fn begin(w: &mut [u64]) -> BeginReply
+pub fn begin(w: &mut [u64]) -> Result<Handle, Refusal>
     requires { sound_words (lent w.old) ≡ true }
     ensures { Acts beginning (lent w.old) (lent w.new) (of_begin result) }
 {
     let c = tables::counts_of(w);
     let k = lookups::free_slot(w, c);
     if c.edits < k {
-        return BeginReply::Refused(Refusal::NoSlot);
+        return Err(Refusal::NoSlot);
     }
     slots::open_slot(w, c, k);
-    BeginReply::Edit(handle_at(w, c, k))
+    Ok(handle_at(w, c, k))
 }
 
 // Write, once the edit is open and the record there: one access row for a record new to the edit.
-fn write_open(w: &mut [u64], c: Counts, k: usize, rec: u64, pending: u64, ix: &[u16]) -> WriteReply
+fn write_open(
+    w: &mut [u64],
+    c: Counts,
+    k: usize,
+    rec: u64,
+    pending: u64,
+    ix: &[u16],
+) -> Result<(), Refusal>
     requires { Ready c w.old × IsRow c.edits k × (rec < c.records) × Indexed (decode_at c w.old) ix.now }
-    ensures { Makes c (write_open (decode_at c w.old) k rec pending) w.old w.new (of_write result) }
+    ensures { Makes c (write_open (decode_at c w.old) k rec pending) w.old w.new (of_done result) }
 {
     let i = index::access_row(w, c, k, rec, ix);
     if !lookups::access_room(w, c, i) {
-        return WriteReply::Refused(Refusal::NoAccessRow);
+        return Err(Refusal::NoAccessRow);
     }
     let a = lookups::access_in(w, c, rec, i);
     let from = a.from;
@@ -111,46 +131,38 @@ fn write_open(w: &mut [u64], c: Counts, k: usize, rec: u64, pending: u64, ix: &[
             value: pending,
         },
     );
-    WriteReply::Done
+    Ok(())
 }
 
 // The call Write.
-pub fn write(w: &mut [u64], h: Handle, rec: u64, value: u64, ix: &[u16]) -> WriteReply
+pub fn write(w: &mut [u64], h: Handle, rec: u64, value: u64, ix: &[u16]) -> Result<(), Refusal>
     requires { (sound_words (lent w.old) ≡ true) × Indexed (decode (lent w.old)) ix.now }
-    ensures { Acts (writing h.0 rec value) (lent w.old) (lent w.new) (of_write result) }
+    ensures { Acts (writing h.0 rec value) (lent w.old) (lent w.new) (of_done result) }
 {
     let c = tables::counts_of(w);
-    if !lookups::known(w, c, h) {
-        return WriteReply::Refused(Refusal::NoEdit);
-    }
-    if !lookups::is_open(w, c, h) {
-        return WriteReply::Refused(Refusal::EditEnded);
-    }
-    if !has_record(c, rec) {
-        return WriteReply::Refused(Refusal::NoRecord);
-    }
-    write_open(w, c, slot(h), rec, value, ix)
+    let k = open_slot(w, c, h)?;
+    record(c, rec)?;
+    write_open(w, c, k, rec, value, ix)
 }
 
 // The call View. It looks at one record's floor and versions, so words with a good header are enough.
-pub fn view(w: &[u64], rec: u64, p: Point) -> ViewReply
+pub fn view(w: &[u64], rec: u64, p: Point) -> Result<Seen, Refusal>
     requires { header_ok w.now ≡ true }
     ensures { of_view result ≡ (viewing rec p.0 (decode (lent w.now))).reply }
 {
     let c = tables::counts_of(w);
-    if !has_record(c, rec) {
-        return ViewReply::Refused(Refusal::NoRecord);
-    }
-    let q = types::word_of_point(p);
+    let r = record(c, rec)?;
+    let q = u64::from(p);
     if LAST < q {
-        return ViewReply::Refused(Refusal::BadPoint);
+        return Err(Refusal::BadPoint);
     }
-    let r = rec as usize;
     let floor = tables::floor_of(w, c, r);
     if q < floor {
-        return ViewReply::Refused(Refusal::BelowFloor);
+        return Err(Refusal::BelowFloor);
     }
     let v = lookups::newest_at(w, c, r, q);
-    let value = v.value;
-    ViewReply::At(types::point_of_word(v.point), value)
+    Ok(Seen {
+        point: Point::from(v.point),
+        value: v.value,
+    })
 }

@@ -3,7 +3,9 @@
 pub mod Bounded
 pub mod Occurs
 pub mod Walks
+pub mod Stepping
 pub mod Loops
+pub mod Fielded
 pub mod Segments
 pub mod Chains
 pub mod Relinks

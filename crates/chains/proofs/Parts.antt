@@ -1,7 +1,7 @@
 -- The loops of the partition check: marking one chain, in steps that may stop anywhere and be taken up again, and one
 -- chain after the other within one budget of rows. Rests on Words.
 use Prim.Native.Nat.{ℕ, zero, suc, ◌+◌, ◌-◌, ◌≤◌, ◌<◌}
-use mathlib.Core.Path.{◌≡◌, refl, sym, ap, ◌∙◌}
+use mathlib.Core.Path.{◌≡◌, refl, sym, ap, subst, ◌∙◌}
 use mathlib.Core.Logic.{◌⊎◌, inl, inr}
 use mathlib.Core.Bool.{Bool, true, false, false≢true}
 use mathlib.Core.List.{List, ◌∷◌}
@@ -16,9 +16,10 @@ use Rattle.chains.specs.declared.Table.{Table}
 use Rattle.chains.specs.declared.Heads.{Heads}
 use Rattle.chains.specs.declared.Cursor.{Cursor}
 use Rattle.chains.specs.Lists.{occ, sum_to, all_to}
+use Rattle.chains.specs.Cursor.{Met, Halted}
 use Rattle.chains.specs.Walk.{more, rows, ends}
 use Rattle.chains.specs.Table.{Laid, link, chain, ended, front, head_of, rows_of, ended_of}
-use Rattle.chains.specs.Partition.{MARKS, on_chains, partition, Marks, Clear, Unmarked, MarkedChain}
+use Rattle.chains.specs.Partition.{MARKS, on_chains, partition, Marks, Clear, Unmarked, Marked}
 use Rattle.chains.specs.Partition.{CanCheck, CanMark, Advanced, free_start, Begun}
 use Rattle.chains.proofs.Bounded.{bool_false, all_suc, all_at, sum_front, sum_full}
 use Rattle.chains.proofs.Occurs.{occ_nil, occ_same, occ_other, occ_here}
@@ -83,52 +84,57 @@ mark_again {t} {w} {m₀} {s₀} {m} {s} {x} i b d e z q =
       long = omega (arith, o.fuel, ap length y.row, i.long);
     })
 
+-- the same by a cursor's step
+pub mark_met : {t : Table} {w m₀ : List ℕ} {s₀ : Cursor} {m : List ℕ} {s : Cursor} {i : ℕ} {s' : Cursor}
+    → Advanced t w m₀ s₀ m s → t.count < MARKS → Met t w s i s' → get_or m i 0 ≡ 0
+    → Advanced t w m₀ s₀ (set m i 1) s'
+mark_met {t} {w} {m₀} {s₀} {m} {s} {i} {s'} v b k z =
+    let left : s.left - 1 ≡ s'.left = omega (arith, k.counted) in
+    let next : s'.row ≡ link t w s.row = k.next ∙ ap (link t w) k.at in
+    let a = mark_again v b (sym k.goes_on) refl (ap (λ x. get_or m x 0) (sym k.at) ∙ z) next in
+    subst (λ f. Advanced t w m₀ s₀ (set m i 1) (record { row = s'.row; left = f })) left
+    (subst (λ x. Advanced t w m₀ s₀ (set m x 1) (record { row = s'.row; left = s.left - 1 })) (sym k.at) a)
+
 -- where it stops, the whole chain is judged
-module _ (t : Table) (w : List ℕ) {m₀ : List ℕ} {s₀ : Cursor} {m : List ℕ} {s : Cursor} {r : Bool}
-    (v : Advanced t w m₀ s₀ m s) (d : r ≡ more t.count s.left s.row) where
+module _ (t : Table) (w : List ℕ) {m₀ : List ℕ} {s₀ : Cursor} {m : List ℕ} {s s' : Cursor}
+    (v : Advanced t w m₀ s₀ m s) where
   -- a row is met for the second time
-  pub mark_twice : {m' : List ℕ} → r ≡ true → (get_or m s.row 0 ≡ 0 → ⊥)
-      → MarkedChain t w m₀ m' s₀.row s₀.left 0
+  pub mark_twice : {i : ℕ} → Met t w s i s' → (get_or m i 0 ≡ 0 → ⊥) → Unmarked t w m₀ s₀.row s₀.left
   unfolding Unmarked front
-  mark_twice e z = record {
-    refused =
-        λ _. inr (
-          s.row,
-          omega (
-            arith,
-            v.met s.row,
-            ap (occ s.row) (step (link t w) t.count s.left s.row d e).row,
-            occ_here s.row (rows (link t w) t.count (s.left - 1) (link t w s.row)),
-            ne_zero (get_or m s.row 0) z,
-          ),
-        );
-    done = λ k. absurd (omega arith);
-  }
+  mark_twice {i} k z =
+      let y = step (link t w) t.count s.left s.row (sym k.goes_on) refl in
+      inr (
+        s.row,
+        omega (
+          arith,
+          v.met s.row,
+          ap (occ s.row) y.row,
+          occ_here s.row (rows (link t w) t.count (s.left - 1) (link t w s.row)),
+          ne_zero (get_or m s.row 0) (λ q. z (ap (λ x. get_or m x 0) k.at ∙ q)),
+        ),
+      )
     where
       ne_zero : (x : ℕ) → (x ≡ 0 → ⊥) → 1 ≤ x
       ne_zero x k = omega arith
 
-  pub mark_broken : {m' : List ℕ} → r ≡ false → (s.row ≡ 0 → ⊥) → MarkedChain t w m₀ m' s₀.row s₀.left 0
-  unfolding Unmarked
-  mark_broken e z = record {
-    refused =
-        λ _. inl (sym v.end ∙ (stop (link t w) t.count s.left s.row d e).end ∙ ne_eqb s.row 0 z);
-    done = λ k. absurd (omega arith);
-  }
+  module _ (k : Halted t w s s') where
+    pub mark_broken : (s'.row ≡ 0 → ⊥) → Unmarked t w m₀ s₀.row s₀.left
+    unfolding Unmarked
+    mark_broken z =
+        inl (sym v.end ∙ (stop (link t w) t.count s.left s.row (sym k.ends) refl).end
+        ∙ ne_eqb s.row 0 (λ q. z (ap (λ (x : Cursor). x.row) k.stays ∙ q)))
 
-  pub mark_end : r ≡ false → s.row ≡ 0 → MarkedChain t w m₀ m s₀.row s₀.left (s.left + 1)
-  unfolding front
-  mark_end e z =
-      let y = stop (link t w) t.count s.left s.row d e in
-      record {
-        refused = λ k. absurd (omega arith);
-        done = λ _. record {
-          ended_in = sym v.end ∙ y.end ∙ eq-eqb s.row 0 z;
+    pub mark_end : s'.row ≡ 0 → Marked t w m₀ m s₀.row s₀.left s'.left
+    unfolding front
+    mark_end z =
+        let y = stop (link t w) t.count s.left s.row (sym k.ends) refl in
+        let left : s'.left ≡ s.left = ap (λ (x : Cursor). x.left) k.stays in
+        record {
+          ended_in = sym v.end ∙ y.end ∙ eq-eqb s.row 0 (sym (ap (λ (x : Cursor). x.row) k.stays) ∙ z);
           marks = v.marks;
           added = λ i. omega (arith, v.met i, ap (occ i) y.row, occ_nil i);
-          room_left = omega (arith, v.long, v.fuel, ap length y.row);
-        };
-      }
+          room_left = omega (arith, left, v.long, v.fuel, ap length y.row);
+        }
 
 -- a walk taken up again where it stopped: it can go on, the steps of both parts are steps of one walk, and what marking
 -- the rest of the chain finds out is so of the whole
@@ -150,22 +156,23 @@ module _ {t : Table} {w m₀ : List ℕ} {s₀ : Cursor} {m : List ℕ} {s : Cur
     long = omega (arith, i.long, j.long);
   }
 
-  pub mark_rest : {m' : List ℕ} {r : ℕ} → MarkedChain t w m m' s.row s.left r
-      → MarkedChain t w m₀ m' s₀.row s₀.left r
+  pub rest_unmarked : Unmarked t w m s.row s.left → Unmarked t w m₀ s₀.row s₀.left
   unfolding Unmarked
-  mark_rest q = record {
-    refused = λ z. elim (q.refused z) [
-      | inl n ↦ inl (sym i.end ∙ n)
-      | inr n ↦ inr (n.0, omega (arith, n.1, i.met n.0))
-    ];
-    done = λ l. let y = q.done l in
-        record {
-          ended_in = sym i.end ∙ y.ended_in;
-          marks = y.marks;
-          added = λ k. y.added k ∙ i.met k;
-          room_left = omega (arith, y.room_left, i.long);
-        };
-  }
+  rest_unmarked u =
+      elim u [
+        | inl n ↦ inl (sym i.end ∙ n)
+        | inr n ↦ inr (n.0, omega (arith, n.1, i.met n.0))
+      ]
+
+  pub rest_marked : {m' : List ℕ} {left : ℕ} → Marked t w m m' s.row s.left left
+      → Marked t w m₀ m' s₀.row s₀.left left
+  rest_marked y =
+      record {
+        ended_in = sym i.end ∙ y.ended_in;
+        marks = y.marks;
+        added = λ k. y.added k ∙ i.met k;
+        room_left = omega (arith, y.room_left, i.long);
+      }
 
 pub few_left : {t : Table} {w : List ℕ} {f : ℕ} {m : List ℕ} → CanMark t w f m → f < MARKS
 few_left k = omega (arith, k.few, k.room_within)
@@ -214,12 +221,10 @@ within t w f x l e =
     seg_rows (link t w) t.count (rows (link t w) t.count f x) t.count x (rows_seg (link t w) t.count f x e)
     (omega (arith, rows_length (link t w) t.count f x))
 
-pub part_again : {t : Table} {h : Heads} {w m m' : List ℕ} {room k x r : ℕ} → PartInv t h w m room k → k ≤ h.owners
-    → x ≡ head_of h w k
-    → MarkedChain t w m m' x room r → (r ≡ 0 → ⊥) → PartInv t h w m' (r - 1) (k + 1)
+pub part_again : {t : Table} {h : Heads} {w m m' : List ℕ} {room k x left : ℕ} → PartInv t h w m room k → k ≤ h.owners
+    → x ≡ head_of h w k → Marked t w m m' x room left → PartInv t h w m' left (k + 1)
 unfolding rows_of ended_of sum_to
-part_again {t} {h} {w} {m} {m'} {room} {k} {x} {r} i b p q z =
-    let y = q.done (omega arith) in
+part_again {t} {h} {w} {m} {m'} {room} {k} {x} i b p y =
     let a = within t w room x (omega (arith, i.budget)) y.ended_in in
     rw add-one (record {
       upto = omega arith;
@@ -230,11 +235,10 @@ part_again {t} {h} {w} {m} {m'} {room} {k} {x} {r} i b p q z =
     })
 
 -- a chain that cannot be marked
-pub part_broken : {t : Table} {h : Heads} {w m m' : List ℕ} {room k x r : ℕ} → PartInv t h w m room k → k ≤ h.owners
-    → x ≡ head_of h w k
-    → MarkedChain t w m m' x room r → r ≡ 0 → partition t h w ≡ false
+pub part_broken : {t : Table} {h : Heads} {w m : List ℕ} {room k x : ℕ} → PartInv t h w m room k → k ≤ h.owners
+    → x ≡ head_of h w k → Unmarked t w m x room → partition t h w ≡ false
 unfolding Unmarked front
-part_broken {t} {h} {w} {m} {m'} {room} {k} {x} {r} i b p q z = bool_false (partition t h w) (λ d. go d (q.refused z))
+part_broken {t} {h} {w} {m} {room} {k} {x} i b p u = bool_false (partition t h w) (λ d. go d u)
   where
     go : partition t h w ≡ true
         → (ends (link t w) t.count room x ≡ false)
@@ -265,13 +269,12 @@ part_broken {t} {h} {w} {m} {m'} {room} {k} {x} {r} i b p q z = bool_false (part
         ]
 
 -- the free chain is the first, however far it was marked before
-module _ {t : Table} {h : Heads} {w m m' : List ℕ} {s : Cursor} {r : ℕ} (b : Begun t h w m s)
-    (q : MarkedChain t w m m' s.row s.left r) where
-  pub free_broken : r ≡ 0 → partition t h w ≡ false
-  free_broken z = part_broken (part_start t h w b.clear) (omega arith) refl (mark_rest b.advanced q) z
+module _ {t : Table} {h : Heads} {w m : List ℕ} {s : Cursor} (b : Begun t h w m s) where
+  pub free_broken : Unmarked t w m s.row s.left → partition t h w ≡ false
+  free_broken u = part_broken (part_start t h w b.clear) (omega arith) refl (rest_unmarked b.advanced u)
 
-  pub free_marked : (r ≡ 0 → ⊥) → PartInv t h w m' (r - 1) 1
-  free_marked z = part_again (part_start t h w b.clear) (omega arith) refl (mark_rest b.advanced q) z
+  pub free_marked : {m' : List ℕ} {left : ℕ} → Marked t w m m' s.row s.left left → PartInv t h w m' left 1
+  free_marked y = part_again (part_start t h w b.clear) (omega arith) refl (rest_marked b.advanced y)
 
 -- all chains are marked: if the budget is spent, every row was met
 module _ (t : Table) (h : Heads) (w : List ℕ) {m : List ℕ} {room : ℕ} (i : PartInv t h w m room (suc h.owners)) where

@@ -1,6 +1,6 @@
 -- A chain as a list: Seg nx n a rs b says that the links lead from a over the rows rs to b. It has no fuel, so lists
 -- can be cut, joined and turned to another end. Bridges to rows and ends go both ways. Rests on Walks and Occurs.
-use Prim.Native.Nat.{ℕ, zero, suc, ◌+◌, ◌≤◌}
+use Prim.Native.Nat.{ℕ, zero, suc, ◌≤◌}
 use mathlib.Core.Path.{◌≡◌, refl, sym, ap, ◌∙◌}
 use mathlib.Core.Bool.{Bool, true, false}
 use mathlib.Core.List.{List, [], ◌∷◌, ◌++◌}

@@ -1,6 +1,6 @@
 -- The laws of the mutators' steps: the three stores of `relink`, and what `unlink`, `insert_after` and `move_first`
 -- make of them. Rests on Relinks, Cells and Words.
-use Prim.Native.Nat.{ℕ, suc, ◌+◌, ◌-◌, ◌≤◌}
+use Prim.Native.Nat.{ℕ, suc, ◌≤◌}
 use mathlib.Core.Path.{◌≡◌, refl, sym, ap, ◌∙◌}
 use mathlib.Core.List.{List, [], ◌∷◌, ◌++◌, tail}
 use native.Mathlib.Omega.{arith}

@@ -1,21 +1,24 @@
--- Unlinking by any test: the loop along chain a whose turns send the rows that pass to chain b. TurnInv is its
--- invariant, for any test on rows: turn-start, turn-ready, turn-again and turn_end answer a caller's loop. Rests on
--- Steps and Frames.
+-- Unlinking by any test: the walk along chain a whose turns send the rows that pass to chain b. TurnInv is its
+-- invariant, for any test on rows: turn_start, turn_ready, turn_again and turn_end answer a caller's loop. A step reads
+-- the row's link before the turn changes the words: m is what it ensures. Rests on Steps and Frames.
 use Prim.Native.Nat.{ℕ, ◌+◌, ◌-◌, ◌≤◌, ◌<◌}
-use mathlib.Core.Path.{◌≡◌, refl, sym, ap, ◌∙◌}
+use mathlib.Core.Path.{◌≡◌, refl, sym, ap, subst, ◌∙◌}
 use mathlib.Core.Bool.{Bool, true, false, cond, false≢true}
 use mathlib.Core.List.{List, [], ◌∷◌, ◌++◌, append-nil, reverse_aux}
 use native.Mathlib.Omega.{arith}
 use lib.ListN.{length, get_or, set, length-append}
 use Rattle.chains.specs.declared.Table.{Table}
 use Rattle.chains.specs.declared.Heads.{Heads}
+use Rattle.chains.specs.declared.Cursor.{Cursor}
 use Rattle.chains.specs.Lists.{occ, first, last_or, drop_if, push_if}
-use Rattle.chains.specs.Walk.{IsRow, more}
+use Rattle.chains.specs.Walk.{IsRow}
+use Rattle.chains.specs.Cursor.{start, Met, Halted}
 use Rattle.chains.specs.Table.{place, field, link, head_of, rows_of, after_cell, Laid}
 use Rattle.chains.specs.Partition.{partition}
-use Rattle.chains.specs.Change.{Ready, Elsewhere, Changed, Split, Follows, Unlinked, Turned, UnlinkedBy}
+use Rattle.chains.specs.Change.{Ready, Elsewhere, Changed, Split, Follows, Unlinked, Turned}
 use Rattle.chains.proofs.Occurs.{occ_here, occ_append, last_snoc, snoc, cons_of}
-use Rattle.chains.proofs.Walks.{more_out, more_in}
+use Rattle.chains.proofs.Walks.{more_in}
+use Rattle.chains.proofs.Stepping.{met_in}
 use Rattle.chains.proofs.Segments.{Seg, seg_split, seg_first, seg_in, seg_frame}
 use Rattle.chains.proofs.Cells.{after_head, lies, place_lt, field_other}
 use Rattle.chains.proofs.Words.{rep_of, on_chain, on_short, after_first}
@@ -39,22 +42,22 @@ unfolding push_if
 push_miss p x xs acc e = rw (e, push_if)
 
 -- From words w₀, where chain a was ks before the loop's first place and ys after it: `kept` is what chain a has up to
--- the place, `ahead` what follows, linked as in w₀
+-- the place, `ahead` what follows, linked as in w₀, where the walk stands
 pub record TurnInv (t : Table) (h : Heads) (test : ℕ → Bool) (w₀ : List ℕ) (a b : ℕ) (ks ys : List ℕ) (w : List ℕ)
-    (place cur left : ℕ) : Type 0 where
+    (place : ℕ) (s : Cursor) : Type 0 where
   pub ready : Ready t h w a b
   pub kept : List ℕ
   pub ahead : List ℕ
   pub here : Split t h w a place kept ahead
-  pub at_cur : cur ≡ first ahead
-  pub fit : length ahead ≤ left
-  pub fuel : left ≤ t.count
-  pub met : length ahead + (t.count - left) ≡ length ys
+  pub at_row : s.row ≡ first ahead
+  pub fit : length ahead ≤ s.left
+  pub fuel : s.left ≤ t.count
+  pub met : length ahead + (t.count - s.left) ≡ length ys
   pub sofar_a : ks ++ drop_if test ys ≡ kept ++ drop_if test ahead
   pub sofar_b : push_if test ys (rows_of t h w₀ b) ≡ push_if test ahead (rows_of t h w b)
   pub others : (j : ℕ) → j ≤ h.owners → (j ≡ a → ⊥) → (j ≡ b → ⊥) → rows_of t h w j ≡ rows_of t h w₀ j
   pub elsewhere : Elsewhere t h w₀ w
-  pub walk : Seg (link t w₀) t.count cur ahead 0
+  pub walk : Seg (link t w₀) t.count s.row ahead 0
 
 ahead_fits : (t : Table) (h : Heads) (w : List ℕ) (a p : ℕ) (ks ys : List ℕ) → partition t h w ≡ true → a ≤ h.owners
     → Split t h w a p ks ys → length ys ≤ t.count
@@ -68,46 +71,45 @@ ahead_seg t h w a p ks ys s ha sp =
     rw (sym (seg_first (link t w) t.count ys q.0 q.2)) q.2
 
 -- the start at a place, and at the head
-pub turn_start_at : {t : Table} {h : Heads} (test : ℕ → Bool) {w : List ℕ} {a b p cur : ℕ} {ks ys : List ℕ}
-    → Ready t h w a b → Split t h w a p ks ys → cur ≡ get_or w (after_cell t h a p) 0
-    → TurnInv t h test w a b ks ys w p cur t.count
-turn_start_at {t} {h} test {w} {a} {b} {p} {cur} {ks} {ys} rd sp e = record {
-  ready = rd;
-  kept = ks;
-  ahead = ys;
-  here = sp;
-  at_cur = e ∙ after_first rd.parted rd.a_in sp;
-  fit = ahead_fits t h w a p ks ys rd.parted rd.a_in sp;
-  fuel = omega arith;
-  met = omega arith;
-  sofar_a = refl;
-  sofar_b = refl;
-  others = λ j p q z. refl;
-  elsewhere = else_refl t h w;
-  walk = rw (e ∙ after_first rd.parted rd.a_in sp) (ahead_seg t h w a p ks ys rd.parted rd.a_in sp);
-}
+pub turn_start_at : {t : Table} {h : Heads} (test : ℕ → Bool) {w : List ℕ} {a b p : ℕ} {s : Cursor} {ks ys : List ℕ}
+    → Ready t h w a b → Split t h w a p ks ys → s ≡ start t (get_or w (after_cell t h a p) 0)
+    → TurnInv t h test w a b ks ys w p s
+turn_start_at {t} {h} test {w} {a} {b} {p} {s} {ks} {ys} rd sp e =
+    rw (e, after_first rd.parted rd.a_in sp) (record {
+      ready = rd;
+      kept = ks;
+      ahead = ys;
+      here = sp;
+      at_row = refl;
+      fit = ahead_fits t h w a p ks ys rd.parted rd.a_in sp;
+      fuel = omega arith;
+      met = omega arith;
+      sofar_a = refl;
+      sofar_b = refl;
+      others = λ j p q z. refl;
+      elsewhere = else_refl t h w;
+      walk = ahead_seg t h w a p ks ys rd.parted rd.a_in sp;
+    })
 
-pub turn_start : {t : Table} {h : Heads} (test : ℕ → Bool) {w : List ℕ} {a b cur : ℕ} → Ready t h w a b
-    → cur ≡ head_of h w a → TurnInv t h test w a b [] (rows_of t h w a) w 0 cur t.count
+pub turn_start : {t : Table} {h : Heads} (test : ℕ → Bool) {w : List ℕ} {a b : ℕ} {s : Cursor} → Ready t h w a b
+    → s ≡ start t (head_of h w a) → TurnInv t h test w a b [] (rows_of t h w a) w 0 s
 unfolding last_or
-turn_start {t} {h} test {w} {a} {b} {cur} rd e =
-    turn_start_at test rd (record { parts = refl; last = refl }) (e ∙ sym (after_head t h w a 0 refl))
+turn_start {t} {h} test {w} {a} {b} {s} rd e =
+    turn_start_at test rd (record { parts = refl; last = refl }) (e ∙ ap (start t) (sym (after_head t h w a 0 refl)))
 
 module _ {t : Table} {h : Heads} {test : ℕ → Bool} {w₀ : List ℕ} {a b : ℕ} {ks ys : List ℕ} {w : List ℕ}
-    {place cur left : ℕ} (i : TurnInv t h test w₀ a b ks ys w place cur left) {r : Bool}
-    (d : r ≡ more t.count left cur) where
+    {place cur : ℕ} {s s' : Cursor} (i : TurnInv t h test w₀ a b ks ys w place s) (m : Met t w s cur s') where
   -- a row's word that is no link word is as before the loop
-  pub turn_field : r ≡ true → (o : ℕ) → o < t.stride → (o ≡ t.off → ⊥) → Ready t h w₀ a b
-      → field t w cur o ≡ field t w₀ cur o
-  turn_field e o l n rd = field_kept rd.laid i.elsewhere cur o (more_out t.count left cur d e).row.low l n
+  pub turn_field : (o : ℕ) → o < t.stride → (o ≡ t.off → ⊥) → Ready t h w₀ a b → field t w cur o ≡ field t w₀ cur o
+  turn_field o l n rd = field_kept rd.laid i.elsewhere cur o m.row.low l n
 
-  split_cur : r ≡ true → (zs : List ℕ) × (i.ahead ≡ cur ∷ zs)
-  split_cur e = cons_of i.ahead cur i.at_cur (more_out t.count left cur d e).row.low
+  split_cur : (zs : List ℕ) × (i.ahead ≡ cur ∷ zs)
+  split_cur = cons_of i.ahead cur (m.at ∙ i.at_row) m.row.low
 
   -- what a turn requires
-  pub turn_ready : r ≡ true → Ready t h w a b × Follows t h w a place cur
-  turn_ready e =
-      let q = split_cur e in (
+  pub turn_ready : Ready t h w a b × Follows t h w a place cur
+  turn_ready =
+      let q = split_cur in (
         i.ready,
         record {
           upto = i.kept;
@@ -125,21 +127,21 @@ module _ {t : Table} {h : Heads} {test : ℕ → Bool} {w₀ : List ℕ} {a b : 
       seg_first (link t w) t.count zs (link t w cur) q.2.3
 
   walk_on : (zs : List ℕ) → i.ahead ≡ cur ∷ zs → Seg (link t w₀) t.count (link t w₀ cur) zs 0
-  walk_on zs e = let q : Seg (link t w₀) t.count cur (cur ∷ zs) 0 = rw e at i.walk in q.3
+  walk_on zs e = let q : Seg (link t w₀) t.count cur (cur ∷ zs) 0 = rw (← m.at, e) at i.walk in q.3
 
   next_kept : (zs : List ℕ) → i.ahead ≡ cur ∷ zs → link t w cur ≡ link t w₀ cur
   next_kept zs e = next_first zs e ∙ sym (seg_first (link t w₀) t.count zs (link t w₀ cur) (walk_on zs e))
 
-  -- a row ahead is linked as before the loop
-  pub turn_link : r ≡ true → link t w cur ≡ link t w₀ cur
-  turn_link e = let q = split_cur e in next_kept q.0 q.1
+  -- a row ahead is linked as before the loop, so the walk steps as in those words
+  pub turn_met : Met t w₀ s cur s'
+  turn_met = let q = split_cur in met_in w₀ m (next_kept q.0 q.1)
 
   -- the row passes
-  pub turn_hit : {w' : List ℕ} {nxt : ℕ} → r ≡ true → nxt ≡ link t w cur → test cur ≡ true
-      → Unlinked t h w w' a b place cur → TurnInv t h test w₀ a b ks ys w' place nxt (left - 1)
+  pub turn_hit : {w' : List ℕ} → test cur ≡ true → Unlinked t h w w' a b place cur
+      → TurnInv t h test w₀ a b ks ys w' place s'
   unfolding Unlinked
-  turn_hit {w'} e en k u =
-      let q = split_cur e in
+  turn_hit {w'} k u =
+      let q = split_cur in
       let zs = q.0 in
       let eq = q.1 in
       let c = u i.kept zs (record { parts = i.here.parts ∙ ap (λ y. i.kept ++ y) eq; last = i.here.last }) in
@@ -149,24 +151,23 @@ module _ {t : Table} {h : Heads} {test : ℕ → Bool} {w₀ : List ℕ} {a b : 
         kept = i.kept;
         ahead = zs;
         here = record { parts = c.at_a; last = i.here.last };
-        at_cur = en ∙ next_first zs eq;
-        fit = omega (arith, i.fit, ap length eq);
-        fuel = omega (arith, i.fuel);
-        met = omega (arith, i.met, i.fit, i.fuel, ap length eq);
+        at_row = m.next ∙ next_first zs eq;
+        fit = omega (arith, i.fit, m.counted, ap length eq);
+        fuel = omega (arith, i.fuel, m.counted);
+        met = omega (arith, i.met, i.fit, i.fuel, m.counted, ap length eq);
         sofar_a = i.sofar_a ∙ ap (λ y. i.kept ++ y) (ap (drop_if test) eq ∙ drop_hit test cur zs k);
         sofar_b =
             i.sofar_b ∙ ap (λ y. push_if test y (rows_of t h w b)) eq ∙ push_hit test cur zs (rows_of t h w b) k
             ∙ ap (push_if test zs) (sym c.at_b);
         others = λ j p x y. c.others j p x y ∙ i.others j p x y;
         elsewhere = else_trans i.elsewhere c.elsewhere;
-        walk = rw (en ∙ next_kept zs eq) (walk_on zs eq);
+        walk = subst (λ y. Seg (link t w₀) t.count y zs 0) (sym (m.next ∙ next_kept zs eq)) (walk_on zs eq);
       }
 
   -- the row does not pass
-  pub turn_miss : {nxt : ℕ} → r ≡ true → nxt ≡ link t w cur → test cur ≡ false
-      → TurnInv t h test w₀ a b ks ys w cur nxt (left - 1)
-  turn_miss e en k =
-      let q = split_cur e in
+  pub turn_miss : test cur ≡ false → TurnInv t h test w₀ a b ks ys w cur s'
+  turn_miss k =
+      let q = split_cur in
       let zs = q.0 in
       let eq = q.1 in
       record {
@@ -177,31 +178,31 @@ module _ {t : Table} {h : Heads} {test : ℕ → Bool} {w₀ : List ℕ} {a b : 
           parts = i.here.parts ∙ ap (λ y. i.kept ++ y) eq ∙ snoc i.kept cur zs;
           last = sym (last_snoc 0 i.kept cur);
         };
-        at_cur = en ∙ next_first zs eq;
-        fit = omega (arith, i.fit, ap length eq);
-        fuel = omega (arith, i.fuel);
-        met = omega (arith, i.met, i.fit, i.fuel, ap length eq);
+        at_row = m.next ∙ next_first zs eq;
+        fit = omega (arith, i.fit, m.counted, ap length eq);
+        fuel = omega (arith, i.fuel, m.counted);
+        met = omega (arith, i.met, i.fit, i.fuel, m.counted, ap length eq);
         sofar_a =
             i.sofar_a ∙ ap (λ y. i.kept ++ y) (ap (drop_if test) eq ∙ drop_miss test cur zs k)
             ∙ snoc i.kept cur (drop_if test zs);
         sofar_b = i.sofar_b ∙ ap (λ y. push_if test y (rows_of t h w b)) eq ∙ push_miss test cur zs (rows_of t h w b) k;
         others = i.others;
         elsewhere = i.elsewhere;
-        walk = rw (en ∙ next_kept zs eq) (walk_on zs eq);
+        walk = subst (λ y. Seg (link t w₀) t.count y zs 0) (sym (m.next ∙ next_kept zs eq)) (walk_on zs eq);
       }
 
   -- a turn of `unlink_turn`, whose verdict is the test's
-  pub turn_again : {w' : List ℕ} {nxt place' : ℕ} (hit : Bool) → r ≡ true → nxt ≡ link t w cur → hit ≡ test cur
-      → Turned t h w w' a b place cur hit place' → TurnInv t h test w₀ a b ks ys w' place' nxt (left - 1)
-  turn_again true e en k u = let g = u.taken refl in rw g.0 (turn_hit e en (sym k) g.1)
-  turn_again false e en k u = let g = u.left refl in rw (g.0, g.1) (turn_miss e en (sym k))
+  pub turn_again : {w' : List ℕ} {place' : ℕ} (hit : Bool) → hit ≡ test cur
+      → Turned t h w w' a b place cur hit place' → TurnInv t h test w₀ a b ks ys w' place' s'
+  turn_again true k u = let g = u.taken refl in rw g.0 (turn_hit (sym k) g.1)
+  turn_again false k u = let g = u.left refl in rw (g.0, g.1) (turn_miss (sym k))
 
   -- how many rows chain a loses in a turn, for a caller that counts them
-  pub turn_count : {w' : List ℕ} {place' : ℕ} (hit : Bool) → r ≡ true → Turned t h w w' a b place cur hit place'
+  pub turn_count : {w' : List ℕ} {place' : ℕ} (hit : Bool) → Turned t h w w' a b place cur hit place'
       → cond hit 1 0 + length (rows_of t h w' a) ≡ length (rows_of t h w a)
   unfolding Unlinked
-  turn_count true e u =
-      let f = (turn_ready e).1 in
+  turn_count true u =
+      let f = turn_ready.1 in
       let c = (u.taken refl).1 f.upto f.beyond f.split in
       omega (
         arith,
@@ -210,27 +211,30 @@ module _ {t : Table} {h : Heads} {test : ℕ → Bool} {w₀ : List ℕ} {a b : 
         length-append f.upto f.beyond,
         length-append f.upto (cur ∷ f.beyond),
       )
-  turn_count false e u = omega (arith, ap (λ y. length (rows_of t h y a)) (u.left refl).1)
+  turn_count false u = omega (arith, ap (λ y. length (rows_of t h y a)) (u.left refl).1)
 
-  -- the end of the chain: no row is ahead
-  pub turn_none : r ≡ false → i.ahead ≡ []
+-- the end of the walk: no row is ahead
+module _ {t : Table} {h : Heads} {test : ℕ → Bool} {w₀ : List ℕ} {a b : ℕ} {ks ys : List ℕ} {w : List ℕ} {place : ℕ}
+    {s s' : Cursor} (i : TurnInv t h test w₀ a b ks ys w place s) (m : Halted t w s s') where
+  pub turn_none : i.ahead ≡ []
   unfolding first
-  turn_none e = go i.ahead refl
+  turn_none = go i.ahead refl
     where
       go : (rs : List ℕ) → i.ahead ≡ rs → i.ahead ≡ []
       go [] eq = eq
       go (x ∷ zs) eq =
-          let c : cur ≡ x = i.at_cur ∙ ap first eq in
+          let c : s.row ≡ x = i.at_row ∙ ap first eq in
           let o : 1 ≤ occ x (rows_of t h w a) =
           omega
           (arith, ap (occ x) i.here.parts ∙ occ_append x i.kept i.ahead, ap (occ x) eq, occ_here x zs) in
           let row = on_chain t h w i.ready.parted a i.ready.a_in x o in
-          absurd (false≢true (sym e ∙ d ∙ more_in t.count left cur (omega (arith, i.fit, ap length eq)) (rw c row)))
+          absurd
+          (false≢true (sym m.ends ∙ more_in t.count s.left s.row (omega (arith, i.fit, ap length eq)) (rw c row)))
 
-  pub turn_end : r ≡ false → Changed t h w₀ w a b (ks ++ drop_if test ys) (push_if test ys (rows_of t h w₀ b))
+  pub turn_end : Changed t h w₀ w a b (ks ++ drop_if test ys) (push_if test ys (rows_of t h w₀ b))
   unfolding drop_if push_if
-  turn_end e =
-      let eq = turn_none e in
+  turn_end =
+      let eq = turn_none in
       record {
         parted = i.ready.parted;
         at_a = i.here.parts ∙ ap (λ y. i.kept ++ y) eq ∙ sym (i.sofar_a ∙ ap (λ y. i.kept ++ drop_if test y) eq);
@@ -241,37 +245,30 @@ module _ {t : Table} {h : Heads} {test : ℕ → Bool} {w₀ : List ℕ} {a b : 
 
 -- a word of a row that is no link word stored beside the turns: it is as if the loop had begun with it
 pub turn_put : {t : Table} {h : Heads} {test : ℕ → Bool} {w₀ : List ℕ} {a b : ℕ} {ks ys : List ℕ} {w : List ℕ}
-    {place' cur left : ℕ} → TurnInv t h test w₀ a b ks ys w place' cur left → Laid t h w₀
+    {place' : ℕ} {s : Cursor} → TurnInv t h test w₀ a b ks ys w place' s → Laid t h w₀
     → (x o v : ℕ) → IsRow t.count x → o < t.stride → (o ≡ t.off → ⊥)
-    → TurnInv t h test (set w₀ (place t x o) v) a b ks ys (set w (place t x o) v) place' cur left
-turn_put {t} {h} {test} {w₀} {a} {b} {ks} {ys} {w} {place'} {cur} {left} i l x o v q k n =
-    let s₀ = put_same t h w₀ x o v l q.low k n in
-    let s = put_same t h w x o v i.ready.laid q.low k n in
+    → TurnInv t h test (set w₀ (place t x o) v) a b ks ys (set w (place t x o) v) place' s
+turn_put {t} {h} {test} {w₀} {a} {b} {ks} {ys} {w} {place'} {s} i l x o v q k n =
+    let same₀ = put_same t h w₀ x o v l q.low k n in
+    let same = put_same t h w x o v i.ready.laid q.low k n in
     record {
       ready = put_ready x o v i.ready q.low k n;
       kept = i.kept;
       ahead = i.ahead;
-      here = record { parts = s.rows_kept a i.ready.a_in ∙ i.here.parts; last = i.here.last };
-      at_cur = i.at_cur;
+      here = record { parts = same.rows_kept a i.ready.a_in ∙ i.here.parts; last = i.here.last };
+      at_row = i.at_row;
       fit = i.fit;
       fuel = i.fuel;
       met = i.met;
       sofar_a = i.sofar_a;
-      sofar_b = ap (push_if test ys) (s₀.rows_kept b i.ready.b_in) ∙ i.sofar_b
-          ∙ ap (push_if test i.ahead) (sym (s.rows_kept b i.ready.b_in));
-      others = λ j p y z. s.rows_kept j p ∙ i.others j p y z ∙ sym (s₀.rows_kept j p);
+      sofar_b = ap (push_if test ys) (same₀.rows_kept b i.ready.b_in) ∙ i.sofar_b
+          ∙ ap (push_if test i.ahead) (sym (same.rows_kept b i.ready.b_in));
+      others = λ j p y z. same.rows_kept j p ∙ i.others j p y z ∙ sym (same₀.rows_kept j p);
       elsewhere = else_put i.elsewhere (place t x o) v (place_lt t w₀ x o (lies l) q k);
-      walk = seg_frame (link t w₀) t.count (link t (set w₀ (place t x o) v)) i.ahead cur 0 i.walk
+      walk = seg_frame (link t w₀) t.count (link t (set w₀ (place t x o) v)) i.ahead s.row 0 i.walk
           (λ y p. field_other t w₀ x y o t.off v q.low
-          (seg_in (link t w₀) t.count i.ahead cur 0 y i.walk p).low k l.within (λ z. n (sym z.1)));
+          (seg_in (link t w₀) t.count i.ahead s.row 0 y i.walk p).low k l.within (λ z. n (sym z.1)));
     }
-
--- the loop from the head: chain a has lost the rows that pass, and chain b has gained them
-pub turn_done : {t : Table} {h : Heads} {test : ℕ → Bool} {w₀ : List ℕ} {a b : ℕ} {w : List ℕ} {place cur left : ℕ}
-    {r : Bool}
-    → TurnInv t h test w₀ a b [] (rows_of t h w₀ a) w place cur left
-    → r ≡ more t.count left cur → r ≡ false → UnlinkedBy test t h w₀ w a b
-turn_done i d e = turn_end i d e
 
 -- Every row passes: the loop of `empty_after`
 pub every_row : ℕ → Bool
@@ -287,15 +284,16 @@ unfolding push_if every_row
 push_all [] acc = refl
 push_all (y ∷ ys) acc = push_all ys (y ∷ acc)
 
-module _ {t : Table} {h : Heads} {w₀ : List ℕ} {a b : ℕ} {ks ys : List ℕ} {w : List ℕ} {place cur left : ℕ}
-    (i : TurnInv t h every_row w₀ a b ks ys w place cur left) {r : Bool} (d : r ≡ more t.count left cur) where
-  pub empty_again : {w' : List ℕ} {nxt : ℕ} → r ≡ true → nxt ≡ link t w cur → Unlinked t h w w' a b place cur
-      → TurnInv t h every_row w₀ a b ks ys w' place nxt (left - 1)
+module _ {t : Table} {h : Heads} {w₀ : List ℕ} {a b : ℕ} {ks ys : List ℕ} {w : List ℕ} {place : ℕ}
+    {s s' : Cursor} (i : TurnInv t h every_row w₀ a b ks ys w place s) where
+  pub empty_again : {w' : List ℕ} {cur : ℕ} → Met t w s cur s' → Unlinked t h w w' a b place cur
+      → TurnInv t h every_row w₀ a b ks ys w' place s'
   unfolding every_row
-  empty_again e en u = turn_hit i d e en refl u
+  empty_again m u = turn_hit i m refl u
 
-  pub empty_end : r ≡ false → (t.count - left ≡ length ys) × Changed t h w₀ w a b ks (reverse_aux ys (rows_of t h w₀ b))
-  empty_end e = (
-    omega (arith, i.met, ap length (turn_none i d e)),
-    rw (drop_all ys, append-nil ks, push_all ys (rows_of t h w₀ b)) at (turn_end i d e),
+  pub empty_end : Halted t w s s'
+      → (t.count - s'.left ≡ length ys) × Changed t h w₀ w a b ks (reverse_aux ys (rows_of t h w₀ b))
+  empty_end m = (
+    omega (arith, i.met, ap length (turn_none i m), ap (λ (x : Cursor). x.left) m.stays),
+    rw (drop_all ys, append-nil ks, push_all ys (rows_of t h w₀ b)) at (turn_end i m),
   )

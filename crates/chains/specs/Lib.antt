@@ -3,5 +3,7 @@
 pub mod Lists
 pub mod Walk
 pub mod Table
+pub mod Cursor
 pub mod Partition
 pub mod Change
+pub mod Walker

@@ -1,6 +1,7 @@
 -- Every row of a table is on exactly one chain, once; what the check finds out of one chain, and what a walk along it
 -- keeps that may stop anywhere. Rests on Table.
-use Rattle.std.specs.Prelude.{ℕ, suc, ◌+◌, ◌-◌, ◌≤◌, ◌<◌, ◌≡◌, ◌⊎◌, Bool, true, false, ◌&&◌, List, length, get_or, eqb}
+use Rattle.std.specs.Prelude.{ℕ, suc, ◌+◌, ◌≤◌, ◌<◌, ◌≡◌, ◌⊎◌, Bool, true, false, ◌&&◌, List, length, get_or, eqb}
+use Rattle.std.specs.Prelude.{Option, MatchOption}
 use Rattle.chains.specs.declared.Table.{Table}
 use Rattle.chains.specs.declared.Heads.{Heads}
 use Rattle.chains.specs.declared.Cursor.{Cursor}
@@ -52,10 +53,10 @@ unfoldable pub Unmarked : Table → List ℕ → List ℕ → ℕ → ℕ → Ty
 Unmarked t w m head room =
     (ends (link t w) t.count room head ≡ false) ⊎ ((i : ℕ) × (2 ≤ get_or m i 0 + occ i (front t w room head)))
 
--- the check's answer for one chain: 0 if it cannot be marked, and else one more than the room left
-pub record MarkedChain (t : Table) (w m m' : List ℕ) (head room r : ℕ) : Type 0 where
-  pub refused : r ≡ 0 → Unmarked t w m head room
-  pub done : 1 ≤ r → Marked t w m m' head room (r - 1)
+-- the check's answer for one chain: the room left, or none if it cannot be marked
+abbrev pub MarkedChain : Table → List ℕ → List ℕ → List ℕ → ℕ → ℕ → Option ℕ → Type 0
+MarkedChain t w m m' head room r =
+    MatchOption r (Unmarked t w m head room) (λ left. Marked t w m m' head room left)
 
 -- a table that can be checked: it and its heads lie in the words, and there is a mark for each of its rows
 pub record CanCheck (t : Table) (h : Heads) (w : List ℕ) : Type 0 where

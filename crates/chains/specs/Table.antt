@@ -1,11 +1,9 @@
 -- A table of rows in a list of words, its chains, and the words at which they start.
 -- The chains of a table are numbered: 0 is the free chain, k + 1 the chain of owner k. Rests on Walk.
 use Rattle.std.specs.Prelude.{ℕ, zero, suc, ◌+◌, ◌*◌, ◌-◌, ◌≤◌, ◌<◌, max, Bool, true, false, cond, List, length, get_or}
-use Rattle.std.specs.Prelude.{ltb, eqb}
+use Rattle.std.specs.Prelude.{ltb, eqb, Option, None, Some}
 use Rattle.chains.specs.declared.Table.{Table}
 use Rattle.chains.specs.declared.Heads.{Heads}
-use Rattle.chains.specs.declared.Len.{Len}
-use Rattle.chains.specs.declared.Len.TheVariants.{Broken, Rows}
 use Rattle.chains.specs.Lists.{fold}
 use Rattle.chains.specs.Walk.{rows, ends}
 
@@ -39,8 +37,9 @@ ended t w h = ends (link t w) t.count t.count h
 unfoldable pub front : Table → List ℕ → ℕ → ℕ → List ℕ
 front t w f h = rows (link t w) t.count f h
 
-unfoldable pub len_of : Table → List ℕ → ℕ → Len
-len_of t w h = elim (ended t w h) [ true ↦ Rows (length (chain t w h)) | false ↦ Broken ]
+-- its length, if it ends
+unfoldable pub len_of : Table → List ℕ → ℕ → Option ℕ
+len_of t w h = elim (ended t w h) [ true ↦ Some (length (chain t w h)) | false ↦ None ]
 
 -- the place of chain k's head word, and the row that it names
 unfoldable pub head_cell : Heads → ℕ → ℕ

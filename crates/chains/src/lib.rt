@@ -13,13 +13,16 @@
 
 mod partition;
 mod queries;
+mod walk;
 
 ghost use Rattle.std.specs.Prelude.{◌≡◌, ◌+◌, ◌*◌, ◌<◌, ◌≤◌, get_or, set};
 ghost use Rattle.chains.specs.Walk.{IsRow, more};
+ghost use Rattle.chains.specs.Cursor.{start, Stepped};
 ghost use Rattle.chains.specs.Table.{Lies, HeadsLie, Laid, place, field, link, head_cell, head_of, after_cell};
 
 pub use partition::partitions_ok;
 pub use queries::{all_with, chain_length, find_place, first_with, largest};
+pub use walk::{Fields, Walk};
 
 // Where a table's rows lie: its first word, the width of a row, the link word's offset in a row, the number of rows.
 // Rows count from 1.
@@ -61,13 +64,6 @@ pub struct Cursors {
     pub a: Cursor,
     pub b: Cursor,
     pub c: Cursor,
-}
-
-// The number of rows on a chain, if it ends.
-#[derive(Clone, Copy)]
-pub enum Len {
-    Broken,
-    Rows(usize),
 }
 
 // A word as a number, and back.
@@ -180,4 +176,30 @@ pub fn more(n: usize, left: usize, i: usize) -> bool
         return false;
     }
     i <= n
+}
+
+impl Cursor {
+    // A walk from a chain's first row, which may meet every row of the table.
+    pub fn new(t: Table, head: usize) -> Cursor
+        ensures { result ≡ start t head }
+    {
+        Cursor {
+            row: head,
+            left: t.count,
+        }
+    }
+
+    // The next row of the walk, which then stands after it; none at the end of the chain or with no row left.
+    pub fn step(&mut self, w: &[u64], t: Table) -> Option<usize>
+        requires { Lies t w.now }
+        ensures { Stepped t w.now self.old result self.new }
+    {
+        let i = self.row;
+        if !more(t.count, self.left, i) {
+            return None;
+        }
+        self.row = next_of(w, t, i);
+        self.left -= 1;
+        Some(i)
+    }
 }

@@ -8,29 +8,27 @@ ghost use Rattle.chains.specs.Table.{HeadsLie};
 ghost use Rattle.chains.specs.Partition.{MARKS, partition, Clear, MarkedChain, CanCheck, CanMark, Advanced};
 ghost use Rattle.chains.specs.Partition.{free_start, Begun};
 
-use crate::{Cursor, Cursors, Heads, Table, Tables, head_of, more, next_of};
+use crate::{Cursor, Cursors, Heads, Table, Tables, head_of};
 
 // A mark for each row number from 0 on, so that a row is its own index: a table that is checked has fewer rows.
 const MARKS: usize = 4096;
 
-// Marks the chain from head. Replies one more than what it leaves of the room, or 0 if a row is marked already or the
-// chain does not end within the room.
-fn mark_chain(w: &[u64], t: Table, head: usize, room: usize, marks: &mut [u8; MARKS]) -> usize
-    requires { CanMark t w.now room marks.old }
-    ensures { MarkedChain t w.now marks.old marks.new head room result }
+// Marks the rows that a walk has still to meet, up to the chain's end. Replies what it leaves of the walk's room; none
+// if a row is marked already or the chain does not end within the room.
+fn mark_chain(w: &[u64], t: Table, mut walk: Cursor, marks: &mut [u8; MARKS]) -> Option<usize>
+    requires { CanMark t w.now walk.left marks.old }
+    ensures { MarkedChain t w.now marks.old marks.new walk.row walk.left result }
 {
-    let n = t.count;
-    let mut cur = head;
-    let mut left = room;
-    while more(n, left, cur) {
-        if marks[cur] != 0 {
-            return 0;
+    while let Some(row) = walk.step(w, t) {
+        if marks[row] != 0 {
+            return None;
         }
-        marks[cur] = 1;
-        cur = next_of(w, t, cur);
-        left -= 1;
+        marks[row] = 1;
     }
-    if cur == 0 { left + 1 } else { 0 }
+    if walk.row != 0 {
+        return None;
+    }
+    Some(walk.left)
 }
 
 // The walk of the free chain before its first step.
@@ -38,10 +36,7 @@ fn free_start(w: &[u64], t: Table, h: Heads) -> Cursor
     requires { HeadsLie h w.now }
     ensures { result ≡ free_start t h w.now }
 {
-    Cursor {
-        row: head_of(w, h, 0),
-        left: t.count,
-    }
+    Cursor::new(t, head_of(w, h, 0))
 }
 
 // One step of a walk that marks. Where none can be made, at the end of the chain, at a row that is marked already or
@@ -50,19 +45,15 @@ fn mark_step(w: &[u64], t: Table, s: Cursor, marks: &mut [u8; MARKS]) -> Cursor
     requires { CanMark t w.now s.left marks.old }
     ensures { Advanced t w.now marks.old s marks.new result }
 {
-    let i = s.row;
-    let left = s.left;
-    if !more(t.count, left, i) {
+    let mut next = s;
+    let Some(i) = next.step(w, t) else {
         return s;
-    }
+    };
     if marks[i] != 0 {
         return s;
     }
     marks[i] = 1;
-    Cursor {
-        row: next_of(w, t, i),
-        left: left - 1,
-    }
+    next
 }
 
 // How many rows the three walks may still meet: every step lowers it.
@@ -113,21 +104,19 @@ fn partition_from(w: &[u64], t: Table, h: Heads, s: Cursor, marks: &mut [u8; MAR
     requires { CanCheck t h w.now × Begun t h w.now marks.old s }
     ensures { result ≡ partition t h w.now }
 {
-    let free = mark_chain(w, t, s.row, s.left, marks);
-    if free == 0 {
+    let Some(free) = mark_chain(w, t, s, marks) else {
         return false;
-    }
-    let m = h.owners;
-    let mut room = free - 1;
-    let mut k = 1;
-    while k <= m {
-        let head = head_of(w, h, k);
-        let rest = mark_chain(w, t, head, room, marks);
-        if rest == 0 {
+    };
+    let mut room = free;
+    for k in 1..=h.owners {
+        let chain = Cursor {
+            row: head_of(w, h, k),
+            left: room,
+        };
+        let Some(rest) = mark_chain(w, t, chain, marks) else {
             return false;
-        }
-        room = rest - 1;
-        k += 1;
+        };
+        room = rest;
     }
     room == 0
 }

@@ -1,6 +1,6 @@
 -- Which words are no words of a table: neither a head of its chains nor a word of its rows. All by omega from the
 -- layout. Rests on specs.Layout of `tables` and Frames of `chains`.
-use Prim.Native.Nat.{ℕ, zero, suc, ◌+◌, ◌*◌, ◌-◌, ◌≤◌, ◌<◌}
+use Prim.Native.Nat.{ℕ, zero, suc, ◌+◌, ◌*◌, ◌≤◌, ◌<◌}
 use mathlib.Core.Path.{◌≡◌, sym}
 use mathlib.Core.List.{List}
 use native.Mathlib.Omega.{arith}

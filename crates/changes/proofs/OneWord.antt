@@ -1,10 +1,10 @@
 -- What a store to one word of a slot, or to a record's floor, makes of the store, and how two changes of one slot or
 -- record make one. Rests on Apart and Parts.
-use Prim.Native.Nat.{ℕ, zero, suc, ◌-◌, ◌<◌}
+use Prim.Native.Nat.{ℕ, zero, suc, ◌<◌}
 use mathlib.Core.Path.{◌≡◌, refl, sym, ap, ◌∙◌}
 use mathlib.Core.List.{List, []}
 use native.Mathlib.Omega.{arith}
-use lib.ListN.{length, get_or, set}
+use lib.ListN.{set}
 use lib.Seq.{get_or-set_other, set-set}
 use Rattle.chains.specs.Walk.{IsRow}
 use Rattle.chains.specs.Table.{field, place}

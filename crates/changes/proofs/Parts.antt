@@ -7,7 +7,6 @@ use mathlib.Core.Bool.{Bool, true}
 use mathlib.Core.List.{List, map}
 use native.Mathlib.Omega.{arith}
 use lib.Dec.{eqb, leb}
-use lib.ListN.{set}
 use Rattle.chains.specs.Lists.{all_of}
 use Rattle.chains.specs.Walk.{IsRow}
 use Rattle.chains.specs.Table.{field}
@@ -20,7 +19,7 @@ use Rattle.tables.specs.Layout.{slot_table, lock_table, lock_heads, version_tabl
 use Rattle.tables.specs.Layout.{access_heads, SLOT, S_STATE, S_GENERATION, S_ACCESS, S_POINT, L_LOW, L_HIGH}
 use Rattle.tables.specs.Layout.{L_MODE, L_RECORD, V_POINT, V_VALUE, V_SPARE, A_RECORD, A_FROM, A_WRITTEN, A_VALUE}
 use Rattle.tables.specs.Layout.{A_NEXT}
-use Rattle.tables.specs.Decode.{build, version_at, lock_at, access_at, version_rows, lock_rows, access_rows}
+use Rattle.tables.specs.Decode.{version_at, lock_at, access_at, version_rows, lock_rows, access_rows}
 use Rattle.tables.specs.Decode.{versions_of}
 use Rattle.tables.specs.Decode.{locks_of, accesses_of, floor_of, record_at, slot_at, records_of, edits_of, decode_at}
 use Rattle.tables.specs.Words.{Well, names_record, marked}

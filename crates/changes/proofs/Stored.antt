@@ -1,5 +1,6 @@
 -- A row that has been filled has the entry it was filled with, and its words are those of no other row. Rests on
 -- Entries of `chains`.
+use Rattle.std.specs.Prelude.{Some}
 use Prim.Native.Nat.{ℕ, ◌+◌, ◌*◌, ◌/◌, ◌%◌, ◌<◌}
 use mathlib.Core.Path.{◌≡◌, refl, ap, ◌∙◌}
 use mathlib.Core.Bool.{Bool, true, false}
@@ -13,7 +14,6 @@ use Rattle.chains.specs.Table.{field, place}
 use Rattle.chains.specs.Change.{Ready}
 use Rattle.chains.proofs.Cells.{field_same, field_other, lies}
 use Rattle.chains.proofs.Entries.{Filled, filled_put}
-use Rattle.types.specs.declared.Value.TheVariants.{Written}
 use Rattle.types.specs.declared.Lock.{Lock}
 use Rattle.types.specs.declared.Access.{Access}
 use Rattle.types.specs.declared.Counts.{Counts}
@@ -79,7 +79,7 @@ module _ {c : Counts} {w : List ℕ} (f : Fits c w) {i : ℕ} (q : IsRow c.locks
 -- Versions
 module _ {c : Counts} {w : List ℕ} (f : Fits c w) {i : ℕ} (q : IsRow c.versions i) (point value : ℕ) where
   pub version_stored_at : version_at c (version_stored c w i point value) i
-      ≡ record { point = point; value = Written value; spare = 0 }
+      ≡ record { point = point; value = Some value; spare = 0 }
   unfolding version_at version_stored version_table
   version_stored_at =
       let t = version_table c in

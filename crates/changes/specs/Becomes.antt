@@ -1,8 +1,7 @@
 -- What a change promises: the words after it are well formed and mean this store. Rests on the crate `tables`.
-use Rattle.std.specs.Prelude.{ℕ, ◌≡◌, List}
+use Rattle.std.specs.Prelude.{ℕ, ◌≡◌, List, Some}
 use Rattle.meaning.specs.Store.{Rec, Edit, Store, with_rec, with_edit, with_locks, rec_at, edit_at}
 use Rattle.types.specs.declared.Lock.{Lock}
-use Rattle.types.specs.declared.Value.TheVariants.{Written}
 use Rattle.types.specs.declared.Version.{Version}
 use Rattle.types.specs.declared.Access.{Access}
 use Rattle.types.specs.declared.Counts.{Counts}
@@ -18,7 +17,7 @@ pub record Becomes (c : Counts) (w : List ℕ) (s : Store) : Type 0 where
 
 -- the version that a commit at a point leaves of a written value
 abbrev pub version_of : ℕ → ℕ → Version
-version_of point value = record { point = point; value = Written value; spare = 0 }
+version_of point value = record { point = point; value = Some value; spare = 0 }
 
 -- a record and a slot with one part changed
 abbrev pub with_versions : Rec → List Version → Rec

@@ -4,21 +4,19 @@
 // on the crates `types`, `meaning`, `locks`, `chains`, `updates`, `tables` and `writes`.
 #![tactic(auto)]
 
-ghost use Rattle.std.specs.Prelude.{◌≡◌, true, not, suc, ◌≤◌, ◌<◌};
-ghost use Rattle.chains.specs.Walk.{IsRow};
-ghost use Rattle.chains.specs.Change.{Ready, Follows, Turned};
+ghost use Rattle.std.specs.Prelude.{◌≡◌, true, not, ◌≤◌, ◌<◌};
 ghost use Rattle.types.specs.Limits.{MAX_EDITS};
 ghost use Rattle.meaning.specs.Lists.{keep};
 ghost use Rattle.meaning.specs.Store.{rec_at, versions_used, locks_used};
 ghost use Rattle.meaning.specs.Points.{is_owned, add_lock, touches, joined_row, join_read, leave_settled, drop_owner};
 ghost use Rattle.meaning.specs.Ending.{insert};
-ghost use Rattle.tables.specs.Layout.{MODES, Fits, lock_table, lock_heads};
-ghost use Rattle.tables.specs.Decode.{lock_at, decode_at};
+ghost use Rattle.tables.specs.Layout.{MODES};
+ghost use Rattle.tables.specs.Decode.{decode_at};
 ghost use Rattle.tables.specs.Words.{Well};
 ghost use Rattle.changes.specs.Becomes.{Becomes, Beside, version_of, on_versions, on_locks};
-ghost use Rattle.changes.specs.Widened.{widened};
 
-use locks::{larger, smaller, touches};
+use chains::Cursor;
+use locks::touches;
 use types::{Counts, Lock, READ, SETTLED};
 
 // Locks.
@@ -33,68 +31,22 @@ pub fn add_lock(w: &mut [u64], c: Counts, r: usize, l: Lock)
     writes::put_lock(w, c, i, r, l);
 }
 
-// One turn along record r's locks, at row i after `place`: a row that is to go is sent to the free chain. Replies the
-// place for the next turn.
-pub fn unlink_lock(w: &mut [u64], c: Counts, r: usize, place: usize, i: usize, hit: bool) -> usize
-    requires { Fits c w.old × (r < c.records) × Ready (lock_table c) (lock_heads c) w.old (suc r) 0
-        × Follows (lock_table c) (lock_heads c) w.old (suc r) place i }
-    ensures { Turned (lock_table c) (lock_heads c) w.old w.new (suc r) 0 place i hit result }
-{
-    updates::unlink_turn(
-        w,
-        tables::lock_table(c),
-        tables::lock_heads(c),
-        r + 1,
-        0,
-        place,
-        i,
-        hit,
-    )
-}
-
-// Whether lock row i is of owner k.
-fn owned_by(w: &[u64], c: Counts, i: usize, k: u64) -> bool
-    requires { Fits c w.now × IsRow c.locks i }
-    ensures { result ≡ is_owned k (lock_at c w.now i) }
-{
-    let l = tables::lock_at(w, c, i);
-    l.owner == k
-}
-
 // The locks of owner k on record r go.
 pub fn drop_owner(w: &mut [u64], c: Counts, r: usize, k: u64)
     requires { Well c w.old × (r < c.records) }
     ensures { Becomes c w.new (on_locks (decode_at c w.old) r (drop_owner k)) }
 {
-    let n = c.locks;
+    let t = tables::lock_table(c);
+    let h = tables::lock_heads(c);
     let mut place = 0;
-    let mut cur = tables::first_lock(w, c, r);
-    let mut left = n;
-    while chains::more(n, left, cur) {
-        let nxt = tables::next_lock(w, c, cur);
-        let hit = owned_by(w, c, cur, k);
-        place = unlink_lock(w, c, r, place, cur, hit);
-        cur = nxt;
-        left -= 1;
+    let mut walk = Cursor::new(t, tables::first_lock(w, c, r));
+    while let Some(i) = walk.step(w, t) {
+        let l = tables::lock_at(w, c, i);
+        place = updates::unlink_turn(w, t, h, r + 1, 0, place, i, l.owner == k);
     }
 }
 
 // Settled locks.
-
-// The row with the points of l too, if l is taken in.
-fn widened(row: Lock, hit: bool, l: Lock) -> Lock
-    ensures { result ≡ widened row hit l }
-{
-    if !hit {
-        return row;
-    }
-    Lock {
-        low: smaller(row.low, l.low),
-        high: larger(row.high, l.high),
-        mode: row.mode,
-        owner: row.owner,
-    }
-}
 
 // The settled reads of record r that overlap or adjoin low..high go. Replies the row that they and low..high are
 // together.
@@ -104,24 +56,27 @@ fn drop_touching(w: &mut [u64], c: Counts, r: usize, low: u64, high: u64) -> Loc
         (on_locks (decode_at c w.old) r (keep (λ l. not (touches low high l))))
         × (result ≡ joined_row low high (rec_at (decode_at c w.old) r).locks) }
 {
-    let n = c.locks;
     let mut row = Lock {
         low,
         high,
         mode: READ,
         owner: SETTLED,
     };
+    let t = tables::lock_table(c);
+    let h = tables::lock_heads(c);
     let mut place = 0;
-    let mut cur = tables::first_lock(w, c, r);
-    let mut left = n;
-    while chains::more(n, left, cur) {
-        let nxt = tables::next_lock(w, c, cur);
-        let l = tables::lock_at(w, c, cur);
+    let mut walk = Cursor::new(t, tables::first_lock(w, c, r));
+    while let Some(i) = walk.step(w, t) {
+        let l = tables::lock_at(w, c, i);
         let hit = touches(low, high, l);
-        row = widened(row, hit, l);
-        place = unlink_lock(w, c, r, place, cur, hit);
-        cur = nxt;
-        left -= 1;
+        if hit {
+            row = Lock {
+                low: row.low.min(l.low),
+                high: row.high.max(l.high),
+                ..row
+            };
+        }
+        place = updates::unlink_turn(w, t, h, r + 1, 0, place, i, hit);
     }
     row
 }

@@ -5,347 +5,267 @@
 #![tactic(auto)]
 
 use std::io;
-use types::{
-    AbortReply, BeginReply, CommitReply, Counts, Extent, Finish, FormatReply, Handle, LockReply,
-    Pick, PurgeReply, ReadReply, Refusal, SettleReply, WriteReply,
-};
+use types::{Counts, Extent, Finish, Handle, Pick, Point, Refusal};
 
 const ROUNDS: u64 = 3000;
 
-// The tally has a place for each refusal, by its number, and for each kind of grant.
-const BEGUN: usize = 17;
+// The words of the store 4 3 4 8 8.
+const WORDS: usize = 128;
 
-const WRITTEN: usize = 18;
+// What is counted of the granted calls.
+#[derive(Clone, Copy)]
+enum Grant {
+    Begun,
+    Written,
+    Locked,
+    Read,
+    Committed,
+    NoPoint,
+    Aborted,
+    Settled,
+    VersionsPurged,
+    LocksPurged,
+}
 
-const LOCKED: usize = 19;
+// What is printed before the count of each.
+const GRANTS: [&str; 10] = [
+    "begun",
+    "written",
+    "locked",
+    "read",
+    "committed",
+    "nopoint",
+    "aborted",
+    "settled",
+    "versions purged",
+    "locks purged",
+];
 
-const READS: usize = 20;
+// The counts of the grants, and those of the refusals, by their numbers.
+#[derive(Clone, Copy, Default)]
+struct Tally {
+    granted: [u64; 10],
+    refused: [u64; 17],
+}
 
-const COMMITTED: usize = 21;
-
-const NO_POINT: usize = 22;
-
-const ABORTED: usize = 23;
-
-const SETTLED: usize = 24;
-
-const PURGED_VERSIONS: usize = 25;
-
-const PURGED_LOCKS: usize = 26;
-
-// Sums that stop far above any count or point of this program.
-fn plus(a: u64, b: u64) -> u64 {
-    if 1000000000 < a {
-        return a;
+impl Tally {
+    fn add(&mut self, grant: Grant, n: u64) {
+        let count = &mut self.granted[grant as usize];
+        *count = count.saturating_add(n);
     }
-    if 1000000000 < b {
-        return a;
+
+    fn refuse(&mut self, r: Refusal) {
+        let count = &mut self.refused[r.number() as usize];
+        *count = count.saturating_add(1);
     }
-    a + b
-}
 
-fn add(tally: &mut [u64; 32], i: usize, n: u64) {
-    if i < 32 {
-        tally[i] = plus(tally[i], n);
-    }
-}
-
-fn refuse(tally: &mut [u64; 32], r: Refusal) {
-    let n = types::refusal_number(r);
-    add(tally, n as usize, 1);
-}
-
-// Each call, counted.
-
-fn begin(words: &mut [u64; 128], tally: &mut [u64; 32]) -> Handle {
-    let reply = store::begin(words);
-    match reply {
-        BeginReply::Edit(h) => {
-            add(tally, BEGUN, 1);
-            h
-        }
-        BeginReply::Refused(r) => {
-            refuse(tally, r);
-            types::handle_of_word(0)
-        }
-    }
-}
-
-fn write(words: &mut [u64; 128], tally: &mut [u64; 32], h: Handle, rec: u64) {
-    let reply = store::write(words, h, rec, 7);
-    match reply {
-        WriteReply::Done => add(tally, WRITTEN, 1),
-        WriteReply::Refused(r) => refuse(tally, r),
-    }
-}
-
-fn lock(words: &mut [u64; 128], tally: &mut [u64; 32], h: Handle, rec: u64, p: u64) {
-    let point = types::point_of_word(p);
-    let reply = store::lock(words, h, rec, point, point, Extent::All);
-    match reply {
-        LockReply::Locked(_, _) => add(tally, LOCKED, 1),
-        LockReply::Refused(r) => refuse(tally, r),
-    }
-}
-
-fn read(words: &mut [u64; 128], tally: &mut [u64; 32], h: Handle, rec: u64, m: u64) {
-    let reply = store::read(words, h, rec, types::point_of_word(m), Extent::All);
-    match reply {
-        ReadReply::Read(_, _, _) => add(tally, READS, 1),
-        ReadReply::Own(_) => add(tally, READS, 1),
-        ReadReply::Again(_, _) => add(tally, READS, 1),
-        ReadReply::Refused(r) => refuse(tally, r),
-    }
-}
-
-fn commit(words: &mut [u64; 128], tally: &mut [u64; 32], h: Handle, pick: Pick, finish: Finish) {
-    let reply = store::commit(words, h, pick, finish);
-    match reply {
-        CommitReply::Commit(_) => add(tally, COMMITTED, 1),
-        CommitReply::NoPoint => add(tally, NO_POINT, 1),
-        CommitReply::Refused(r) => refuse(tally, r),
-    }
-}
-
-fn abort(words: &mut [u64; 128], tally: &mut [u64; 32], h: Handle, finish: Finish) {
-    let reply = store::abort(words, h, finish);
-    match reply {
-        AbortReply::Done => add(tally, ABORTED, 1),
-        AbortReply::Refused(r) => refuse(tally, r),
-    }
-}
-
-fn settle(words: &mut [u64; 128], tally: &mut [u64; 32], h: Handle) {
-    let reply = store::settle(words, h);
-    match reply {
-        SettleReply::Done => add(tally, SETTLED, 1),
-        SettleReply::Refused(r) => refuse(tally, r),
-    }
-}
-
-fn purge(words: &mut [u64; 128], tally: &mut [u64; 32], rec: u64, b: u64) {
-    let reply = store::purge(words, rec, types::point_of_word(b));
-    match reply {
-        PurgeReply::Purged(versions, locks) => {
-            add(tally, PURGED_VERSIONS, versions);
-            add(tally, PURGED_LOCKS, locks);
-        }
-        PurgeReply::Refused(r) => refuse(tally, r),
-    }
-}
-
-// The store has 4 records, 3 edits, 4 versions, 8 locks and 8 accesses. Between rounds every slot, lock row and access
-// row is free; of the version rows one is in use, since record 0 keeps the version at its floor.
-
-// Write-locks two points of a record, one row for each.
-fn lock_two(words: &mut [u64; 128], tally: &mut [u64; 32], h: Handle, rec: u64, p: u64) {
-    lock(words, tally, h, rec, p);
-    lock(words, tally, h, rec, plus(p, 1));
-}
-
-fn lock_six(words: &mut [u64; 128], tally: &mut [u64; 32], h: Handle, rec: u64, p: u64) {
-    lock_two(words, tally, h, rec, p);
-    lock_two(words, tally, h, rec, plus(p, 2));
-    lock_two(words, tally, h, rec, plus(p, 4));
-}
-
-fn write_records(words: &mut [u64; 128], tally: &mut [u64; 32], h: Handle) {
-    write(words, tally, h, 0);
-    write(words, tally, h, 1);
-    write(words, tally, h, 2);
-    write(words, tally, h, 3);
-}
-
-fn read_records(words: &mut [u64; 128], tally: &mut [u64; 32], h: Handle, m: u64) {
-    read(words, tally, h, 0, m);
-    read(words, tally, h, 1, m);
-    read(words, tally, h, 2, m);
-    read(words, tally, h, 3, m);
-}
-
-// Edit a writes 4 records and edit b reads 4, which takes the 8 access rows and 4 of the 8 lock rows. Edit c finds no
-// access row: 4 times 10. What needs no new row is still granted: 3 calls.
-fn fill_accesses(
-    words: &mut [u64; 128],
-    tally: &mut [u64; 32],
-    a: Handle,
-    b: Handle,
-    c: Handle,
-    t: u64,
-) {
-    write_records(words, tally, a);
-    read_records(words, tally, b, t);
-    write(words, tally, c, 0);
-    write(words, tally, c, 3);
-    read(words, tally, c, 1, t);
-    read(words, tally, c, 2, t);
-    write(words, tally, a, 0);
-    read(words, tally, a, 1, t);
-    read(words, tally, b, 2, t);
-}
-
-// Five begins: 3 granted, 2 times 13. The accesses; then six locks of a, of which 4 are granted, 2 times 11, and one of
-// c: 11.
-fn fill_slots(words: &mut [u64; 128], tally: &mut [u64; 32], t: u64) {
-    let a = begin(words, tally);
-    let b = begin(words, tally);
-    let c = begin(words, tally);
-    begin(words, tally);
-    begin(words, tally);
-    fill_accesses(words, tally, a, b, c, t);
-    lock_six(words, tally, a, 0, plus(t, 1));
-    lock(words, tally, c, 1, plus(t, 1));
-    abort(words, tally, a, Finish::Settle);
-    abort(words, tally, b, Finish::Keep);
-    settle(words, tally, b);
-    commit(words, tally, c, Pick::Earliest, Finish::Keep);
-    settle(words, tally, c);
-}
-
-// Locks while access rows are free. Ten locks of edit a: 8 granted, 2 times 11. The read of edit b finds an access row
-// but no lock row: 11. Edit a has written a record that it has no lock on: its commit finds no point and frees all that
-// it had.
-fn fill_locks(words: &mut [u64; 128], tally: &mut [u64; 32], t: u64) {
-    let a = begin(words, tally);
-    let b = begin(words, tally);
-    lock_six(words, tally, a, 1, t);
-    lock_two(words, tally, a, 1, plus(t, 6));
-    lock_two(words, tally, a, 1, plus(t, 8));
-    read(words, tally, b, 2, t);
-    write(words, tally, b, 2);
-    write(words, tally, a, 3);
-    commit(words, tally, a, Pick::Earliest, Finish::Settle);
-    abort(words, tally, b, Finish::Settle);
-}
-
-// An edit that reads record 0 up to t, writes it and asks to commit at t. Committed, it leaves a version, a settled
-// write lock and a settled read lock, which joins that of the commit before it.
-fn write_at(words: &mut [u64; 128], tally: &mut [u64; 32], t: u64) -> Handle {
-    let h = begin(words, tally);
-    read(words, tally, h, 0, t);
-    lock(words, tally, h, 0, t);
-    write(words, tally, h, 0);
-    commit(
-        words,
-        tally,
-        h,
-        Pick::Named(types::point_of_word(t)),
-        Finish::Settle,
-    );
-    h
-}
-
-// An edit that writes two records and asks to commit.
-fn write_two(words: &mut [u64; 128], tally: &mut [u64; 32], t: u64) -> Handle {
-    let h = begin(words, tally);
-    lock(words, tally, h, 0, t);
-    lock(words, tally, h, 1, t);
-    write(words, tally, h, 0);
-    write(words, tally, h, 1);
-    commit(words, tally, h, Pick::Latest, Finish::Settle);
-    h
-}
-
-// Versions: 3 rows are free. Two commits take two; the commit that needs two rows is refused by 12, one that needs one
-// is granted; the next is refused by 12. The purge frees 3 version rows and 4 lock rows: three writes, and one row for
-// the three reads, which adjoin.
-fn fill_versions(words: &mut [u64; 128], tally: &mut [u64; 32], t: u64) {
-    write_at(words, tally, plus(t, 1));
-    write_at(words, tally, plus(t, 2));
-    let two = write_two(words, tally, plus(t, 3));
-    abort(words, tally, two, Finish::Keep);
-    settle(words, tally, two);
-    write_at(words, tally, plus(t, 3));
-    let last = write_at(words, tally, plus(t, 4));
-    abort(words, tally, last, Finish::Settle);
-    purge(words, tally, 0, plus(t, 4));
-}
-
-fn round(words: &mut [u64; 128], tally: &mut [u64; 32], t: u64) {
-    fill_slots(words, tally, t);
-    fill_locks(words, tally, t);
-    fill_versions(words, tally, t);
-}
-
-// Sixteen points for each round.
-fn rounds(words: &mut [u64; 128], tally: &mut [u64; 32], t: u64, n: u64) {
-    let mut p = t;
-    let mut i = 0;
-    while i < n {
-        p = plus(p, 16);
-        round(words, tally, p);
-        i += 1;
-    }
-}
-
-// What was counted.
-
-fn print_grants(rt: &impl Print, tally: &[u64; 32], i: usize, text: &[u8]) -> io::Result<()> {
-    if i < 32 {
-        rt.write_all(text)?;
-        rt.write_all(b" ")?;
-        print!(rt; "{}", tally[i])?;
-        rt.write_all(b"\n")?;
-    }
-    Ok(())
-}
-
-fn print_refusal(rt: &impl Print, tally: &[u64; 32], i: usize) -> io::Result<()> {
-    if i < 32 {
-        if 0 < tally[i] {
-            rt.write_all(b"no ")?;
-            print!(rt; "{}", i as u64)?;
-            rt.write_all(b" ")?;
-            print!(rt; "{}", tally[i])?;
-            rt.write_all(b"\n")?;
+    // Counts the reply of a call, and hands on what it gave.
+    fn count<T>(&mut self, grant: Grant, reply: Result<T, Refusal>) -> Option<T> {
+        match reply {
+            Ok(given) => {
+                self.add(grant, 1);
+                Some(given)
+            }
+            Err(r) => {
+                self.refuse(r);
+                None
+            }
         }
     }
-    Ok(())
-}
 
-fn print_refusals(rt: &impl Print, tally: &[u64; 32]) -> io::Result<()> {
-    print_refusal(rt, tally, 1)?;
-    print_refusal(rt, tally, 2)?;
-    print_refusal(rt, tally, 3)?;
-    print_refusal(rt, tally, 4)?;
-    print_refusal(rt, tally, 5)?;
-    print_refusal(rt, tally, 6)?;
-    print_refusal(rt, tally, 7)?;
-    print_refusal(rt, tally, 8)?;
-    print_refusal(rt, tally, 9)?;
-    print_refusal(rt, tally, 10)?;
-    print_refusal(rt, tally, 11)?;
-    print_refusal(rt, tally, 12)?;
-    print_refusal(rt, tally, 13)?;
-    print_refusal(rt, tally, 14)?;
-    print_refusal(rt, tally, 15)?;
-    print_refusal(rt, tally, 16)
-}
-
-fn print_tally(rt: &impl Print, tally: &[u64; 32]) -> io::Result<()> {
-    print_grants(rt, tally, BEGUN, b"begun")?;
-    print_grants(rt, tally, WRITTEN, b"written")?;
-    print_grants(rt, tally, LOCKED, b"locked")?;
-    print_grants(rt, tally, READS, b"read")?;
-    print_grants(rt, tally, COMMITTED, b"committed")?;
-    print_grants(rt, tally, NO_POINT, b"nopoint")?;
-    print_grants(rt, tally, ABORTED, b"aborted")?;
-    print_grants(rt, tally, SETTLED, b"settled")?;
-    print_grants(rt, tally, PURGED_VERSIONS, b"versions purged")?;
-    print_grants(rt, tally, PURGED_LOCKS, b"locks purged")?;
-    print_refusals(rt, tally)
-}
-
-fn print_verdict(rt: &impl Print, words: &[u64; 128]) -> io::Result<()> {
-    if soundness::check(words) {
-        rt.write_all(b"sound\n")?;
-    } else {
-        rt.write_all(b"not sound\n")?;
+    fn print(&self, rt: &impl Print) -> io::Result<()> {
+        for (text, n) in GRANTS.iter().zip(self.granted.iter()) {
+            println!(rt; "{text} {n}")?;
+        }
+        for (number, n) in self.refused.iter().enumerate() {
+            if *n > 0 {
+                println!(rt; "no {number} {n}")?;
+            }
+        }
+        Ok(())
     }
-    Ok(())
 }
 
-fn lay_out(rt: &impl Print, words: &mut [u64; 128]) -> io::Result<()> {
+// A store of 4 records, 3 edits, 4 versions, 8 locks and 8 accesses, what its calls gave, and the point from which the
+// next round goes on. Between rounds every slot, lock row and access row is free; of the version rows one is in use,
+// since record 0 keeps the version at its floor.
+#[derive(Drop)]
+struct Churn {
+    words: [u64; WORDS],
+    tally: Tally,
+    point: u64,
+}
+
+impl Churn {
+    // Each call, counted.
+
+    fn begin(&mut self) -> Handle {
+        let given = self
+            .tally
+            .count(Grant::Begun, store::begin(&mut self.words));
+        given.unwrap_or(Handle::from(0))
+    }
+
+    fn write(&mut self, h: Handle, rec: u64) {
+        let reply = store::write(&mut self.words, h, rec, 7);
+        self.tally.count(Grant::Written, reply);
+    }
+
+    fn lock(&mut self, h: Handle, rec: u64, p: u64) {
+        let at = Point::from(p);
+        let reply = store::lock(&mut self.words, h, rec, at, at, Extent::All);
+        self.tally.count(Grant::Locked, reply);
+    }
+
+    fn read(&mut self, h: Handle, rec: u64, m: u64) {
+        let reply = store::read(&mut self.words, h, rec, Point::from(m), Extent::All);
+        self.tally.count(Grant::Read, reply);
+    }
+
+    fn commit(&mut self, h: Handle, pick: Pick, finish: Finish) {
+        let reply = store::commit(&mut self.words, h, pick, finish);
+        let grant = match reply {
+            Ok(None) => Grant::NoPoint,
+            _ => Grant::Committed,
+        };
+        self.tally.count(grant, reply);
+    }
+
+    fn abort(&mut self, h: Handle, finish: Finish) {
+        let reply = store::abort(&mut self.words, h, finish);
+        self.tally.count(Grant::Aborted, reply);
+    }
+
+    fn settle(&mut self, h: Handle) {
+        let reply = store::settle(&mut self.words, h);
+        self.tally.count(Grant::Settled, reply);
+    }
+
+    fn purge(&mut self, rec: u64, b: u64) {
+        match store::purge(&mut self.words, rec, Point::from(b)) {
+            Ok(freed) => {
+                self.tally.add(Grant::VersionsPurged, freed.versions);
+                self.tally.add(Grant::LocksPurged, freed.locks);
+            }
+            Err(r) => self.tally.refuse(r),
+        }
+    }
+
+    // Write-locks n points of a record, one row for each.
+    fn lock_points(&mut self, h: Handle, rec: u64, first: u64, n: u64) {
+        for k in 0..n {
+            self.lock(h, rec, first.saturating_add(k));
+        }
+    }
+
+    // Edit a writes 4 records and edit b reads 4, which takes the 8 access rows and 4 of the 8 lock rows. Edit c finds
+    // no access row: 4 times 10. What needs no new row is still granted: 3 calls.
+    fn fill_accesses(&mut self, a: Handle, b: Handle, c: Handle) {
+        let t = self.point;
+        for rec in 0..4 {
+            self.write(a, rec);
+        }
+        for rec in 0..4 {
+            self.read(b, rec, t);
+        }
+        self.write(c, 0);
+        self.write(c, 3);
+        self.read(c, 1, t);
+        self.read(c, 2, t);
+        self.write(a, 0);
+        self.read(a, 1, t);
+        self.read(b, 2, t);
+    }
+
+    // Five begins: 3 granted, 2 times 13. The accesses; then six locks of a, of which 4 are granted, 2 times 11, and
+    // one of c: 11.
+    fn fill_slots(&mut self) {
+        let t = self.point;
+        let a = self.begin();
+        let b = self.begin();
+        let c = self.begin();
+        self.begin();
+        self.begin();
+        self.fill_accesses(a, b, c);
+        self.lock_points(a, 0, t.saturating_add(1), 6);
+        self.lock(c, 1, t.saturating_add(1));
+        self.abort(a, Finish::Settle);
+        self.abort(b, Finish::Keep);
+        self.settle(b);
+        self.commit(c, Pick::Earliest, Finish::Keep);
+        self.settle(c);
+    }
+
+    // Locks while access rows are free. Ten locks of edit a: 8 granted, 2 times 11. The read of edit b finds an access
+    // row but no lock row: 11. Edit a has written a record that it has no lock on: its commit finds no point and frees
+    // all that it had.
+    fn fill_locks(&mut self) {
+        let t = self.point;
+        let a = self.begin();
+        let b = self.begin();
+        self.lock_points(a, 1, t, 10);
+        self.read(b, 2, t);
+        self.write(b, 2);
+        self.write(a, 3);
+        self.commit(a, Pick::Earliest, Finish::Settle);
+        self.abort(b, Finish::Settle);
+    }
+
+    // An edit that reads record 0 up to t, writes it and asks to commit at t. Committed, it leaves a version, a settled
+    // write lock and a settled read lock, which joins that of the commit before it.
+    fn write_at(&mut self, t: u64) -> Handle {
+        let h = self.begin();
+        self.read(h, 0, t);
+        self.lock(h, 0, t);
+        self.write(h, 0);
+        self.commit(h, Pick::Named(Point::from(t)), Finish::Settle);
+        h
+    }
+
+    // An edit that writes two records and asks to commit.
+    fn write_two(&mut self, t: u64) -> Handle {
+        let h = self.begin();
+        self.lock(h, 0, t);
+        self.lock(h, 1, t);
+        self.write(h, 0);
+        self.write(h, 1);
+        self.commit(h, Pick::Latest, Finish::Settle);
+        h
+    }
+
+    // Versions: 3 rows are free. Two commits take two; the commit that needs two rows is refused by 12, one that needs
+    // one is granted; the next is refused by 12. The purge frees 3 version rows and 4 lock rows: three writes, and one
+    // row for the three reads, which adjoin.
+    fn fill_versions(&mut self) {
+        let t = self.point;
+        self.write_at(t.saturating_add(1));
+        self.write_at(t.saturating_add(2));
+        let two = self.write_two(t.saturating_add(3));
+        self.abort(two, Finish::Keep);
+        self.settle(two);
+        self.write_at(t.saturating_add(3));
+        let last = self.write_at(t.saturating_add(4));
+        self.abort(last, Finish::Settle);
+        self.purge(0, t.saturating_add(4));
+    }
+
+    // Runs n rounds, of sixteen points each, and prints their counts and the verdict.
+    fn run(&mut self, rt: &impl Print, n: u64) -> io::Result<()> {
+        self.tally = Tally::default();
+        for _ in 0..n {
+            self.point = self.point.saturating_add(16);
+            self.fill_slots();
+            self.fill_locks();
+            self.fill_versions();
+        }
+        self.tally.print(rt)?;
+        let sound = soundness::check(&self.words);
+        println!(rt; "{}", if sound { "sound" } else { "not sound" })
+    }
+}
+
+fn main(rt: HostRuntime) -> io::Result<()> {
+    let mut words = [0u64; WORDS];
     let counts = Counts {
         records: 4,
         edits: 3,
@@ -353,31 +273,21 @@ fn lay_out(rt: &impl Print, words: &mut [u64; 128]) -> io::Result<()> {
         locks: 8,
         accesses: 8,
     };
-    let reply = format::format(words, counts);
-    match reply {
-        FormatReply::Done => rt.write_all(b"store 4 3 4 8 8\n")?,
-        FormatReply::Refused(_) => rt.write_all(b"no store\n")?,
+    match format::format(&mut words, counts) {
+        Ok(()) => println!(&rt; "store 4 3 4 8 8")?,
+        Err(_) => println!(&rt; "no store")?,
+    }
+    let mut c = Churn {
+        words,
+        tally: Tally::default(),
+        point: 1,
     };
-    Ok(())
-}
-
-// Runs n rounds from point t on, and prints their counts and the verdict.
-fn run(rt: &impl Print, words: &mut [u64; 128], text: &[u8], t: u64, n: u64) -> io::Result<()> {
-    let mut tally = [0u64; 32];
-    rounds(words, &mut tally, t, n);
-    rt.write_all(text)?;
-    print_tally(rt, &tally)?;
-    print_verdict(rt, words)
-}
-
-fn main(rt: HostRuntime) -> io::Result<()> {
-    let mut words = [0u64; 128];
-    lay_out(&rt, &mut words)?;
-    let mut first = [0u64; 32];
-    write_at(&mut words, &mut first, 1);
-    purge(&mut words, &mut first, 0, 1);
-    rt.write_all(b"-- a version at point 1, which becomes the floor\n")?;
-    print_tally(&rt, &first)?;
-    run(&rt, &mut words, b"-- one round\n", 1, 1)?;
-    run(&rt, &mut words, b"-- 3000 rounds\n", 17, ROUNDS)
+    c.write_at(1);
+    c.purge(0, 1);
+    println!(&rt; "-- a version at point 1, which becomes the floor")?;
+    c.tally.print(&rt)?;
+    println!(&rt; "-- one round")?;
+    c.run(&rt, 1)?;
+    println!(&rt; "-- 3000 rounds")?;
+    c.run(&rt, ROUNDS)
 }

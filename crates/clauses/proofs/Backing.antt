@@ -81,11 +81,11 @@ module _ (es : List Edit) (r p : ℕ) {l m : Lock} (e : l ≡ m) where
     backs_owned z o d =
         rw (sym e) (and_on (eq-eqb l.mode WRITE h) (and_on (sym eb ∙ z) (or_on (ne_eqb l.owner SETTLED o) d)))
 
-module _ (es : List Edit) (r : ℕ) (x : Rec) {v u : Version} {floor : ℕ} (ev : v ≡ u) (ef : floor ≡ x.floor) where
-  pub backed_old : v.point ≤ floor → true ≡ is_backed es r x u
+module _ (es : List Edit) (r : ℕ) (x : Rec) (v : Version) {floor : ℕ} (ef : floor ≡ x.floor) where
+  pub backed_old : v.point ≤ floor → true ≡ is_backed es r x v
   unfolding is_backed
-  backed_old h = rw (sym ev) (or_yes _ (le-leb v.point x.floor (omega arith)))
+  backed_old h = or_yes _ (le-leb v.point x.floor (omega arith))
 
-  pub backed_new : {q : Bool} → floor < v.point → q ≡ any (backs es r v.point) x.locks → q ≡ is_backed es r x u
+  pub backed_new : {q : Bool} → floor < v.point → q ≡ any (backs es r v.point) x.locks → q ≡ is_backed es r x v
   unfolding is_backed
-  backed_new h d = rw (sym ev) (or_on (lt-leb v.point x.floor (omega arith)) d)
+  backed_new h d = or_on (lt-leb v.point x.floor (omega arith)) d

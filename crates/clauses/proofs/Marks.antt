@@ -1,20 +1,23 @@
--- The loops that mark lock rows, and the rows ahead of a loop, which are rows of its chain. Rests on Marking and Slots.
-use Prim.Native.Nat.{ℕ, zero, suc, ◌+◌, ◌-◌, ◌≤◌, ◌<◌}
+-- The loops that mark lock rows, and the rows ahead of a loop, which are rows of its chain. Rests on Marking, on Slots
+-- and on Walks of `chains`.
+use Prim.Native.Nat.{ℕ, zero, suc, ◌+◌, ◌≤◌, ◌<◌}
 use mathlib.Core.Path.{◌≡◌, refl, sym, ap, ◌∙◌}
 use mathlib.Core.Bool.{Bool, true, false}
 use mathlib.Core.List.{List, [], ◌∷◌, map}
 use native.Mathlib.Omega.{arith}
+use native.Mathlib.Decide.{ℕ_discrete}
 use native.Mathlib.Numerals.{add-one}
 use lib.ListN.{length, get_or, set, replicate, length-replicate}
 use lib.Dec.{eqb}
 use borrow.Author.Tests.{lt-ltb, le-ltb}
 use Rattle.chains.specs.Lists.{occ}
-use Rattle.chains.specs.Walk.{IsRow, more, rows}
+use Rattle.chains.specs.declared.Table.{Table}
+use Rattle.chains.specs.Walk.{among, IsRow, rows}
+use Rattle.chains.specs.Table.{link, chain, head_of, rows_of}
 use Rattle.chains.proofs.Bounded.{all_at}
-use Rattle.chains.proofs.Loops.{Walk, walk_again, walk_end}
-use Rattle.chains.proofs.Occurs.{occ_here, occ_there}
+use Rattle.chains.proofs.Occurs.{occ_nil, occ_other, occ_here, occ_there}
 use Rattle.chains.proofs.Parts.{zeros}
-use Rattle.chains.proofs.Walks.{step}
+use Rattle.chains.proofs.Walks.{among_out}
 use Rattle.meaning.specs.Sound.{state_listed, generation_listed, point_listed, names_existing, names_once}
 use Rattle.meaning.specs.Sound.{reads_present}
 use Rattle.meaning.specs.Sound.{reads_locked, point_common, free_idle, sound_edit}
@@ -23,32 +26,58 @@ use Rattle.types.specs.declared.Lock.{Lock}
 use Rattle.types.specs.declared.Access.{Access}
 use Rattle.types.specs.declared.Counts.{Counts}
 use Rattle.meaning.proofs.Lists.{every_at}
-use Rattle.tables.specs.Layout.{Fits}
-use Rattle.tables.specs.Decode.{lock_at, slot_at, records_of, lock_rows}
+use Rattle.tables.specs.Layout.{Fits, lock_table, lock_heads}
+use Rattle.tables.specs.Decode.{lock_at, record_at, slot_at, records_of, locks_of, lock_rows}
 use Rattle.tables.specs.Words.{locks_parted}
 use Rattle.clauses.specs.Clauses.{slots_sound}
 use Rattle.clauses.specs.Marks.{MARKS, own_mark, mark_own, mark_access, mark_accesses, mark_slots, Writers}
 use Rattle.clauses.proofs.Slots.{slots_all}
 use Rattle.clauses.proofs.Marking.{writers}
 
--- the rows ahead are rows of the chain
-pub record Ahead (nx : ℕ → ℕ) (n : ℕ) (all : List ℕ) (h f : ℕ) : Type 0 where
-  pub within : (x : ℕ) → 1 ≤ occ x (rows nx n f h) → 1 ≤ occ x all
+-- a row met is a row of the table
+rows_row : (nx : ℕ → ℕ) (n f h x : ℕ) → 1 ≤ occ x (rows nx n f h) → IsRow n x
+unfolding rows
+rows_row nx n zero h x o = absurd (omega (arith, occ_nil x))
+rows_row nx n (suc f) h x o = go (among n h) refl o (rows_row nx n f (nx h) x)
+  where
+    here : Dec (x ≡ h) → among n h ≡ true → 1 ≤ occ x (h ∷ rows nx n f (nx h))
+        → (1 ≤ occ x (rows nx n f (nx h)) → IsRow n x) → IsRow n x
+    here (yes e) a o ih = rw e (among_out n h a)
+    here (no e) a o ih = ih (omega (arith, occ_other x h (rows nx n f (nx h)) e))
 
-pub ahead_start : {nx : ℕ → ℕ} {n : ℕ} {all : List ℕ} {h f : ℕ} → Walk nx n (λ rs. rs) all h f → Ahead nx n all h f
-ahead_start v = record { within = λ x o. omega (arith, ap (occ x) v.same) }
+    go : (b : Bool) → among n h ≡ b → 1 ≤ occ x (elim b [ true ↦ h ∷ rows nx n f (nx h) | false ↦ [] ])
+        → (1 ≤ occ x (rows nx n f (nx h)) → IsRow n x) → IsRow n x
+    go true a o ih = here (ℕ_discrete x h) a o ih
+    go false a o ih = absurd (omega (arith, occ_nil x))
 
-module _ {nx : ℕ → ℕ} {n : ℕ} {all : List ℕ} {h f : ℕ} (v : Ahead nx n all h f) {q : Bool} (d : q ≡ more n f h)
-    (e : q ≡ true) where
-  pub ahead_here : 1 ≤ occ h all
-  ahead_here = v.within h (omega (arith, ap (occ h) (step nx n f h d e).row, occ_here h (rows nx n (f - 1) (nx h))))
+module _ (c : Counts) (w : List ℕ) (r : ℕ) where
+  pub lock_row : (i : ℕ) → 1 ≤ occ i (lock_rows c w r) → IsRow c.locks i
+  unfolding lock_rows rows_of chain lock_table
+  lock_row i o = rows_row (link (lock_table c) w) c.locks c.locks (head_of (lock_heads c) w (suc r)) i o
 
-  pub ahead_on : {h' : ℕ} → h' ≡ nx h → Ahead nx n all h' (f - 1)
-  ahead_on p =
-      rw p (record {
-        within = λ x o. v.within x
-            (omega (arith, ap (occ x) (step nx n f h d e).row, occ_there x h (rows nx n (f - 1) (nx h))));
-      })
+  -- what a walk along record r's locks is to meet
+  pub lock_walk : {t : Table} {h : ℕ} {rs : List ℕ} → rs ≡ chain t w h → t ≡ lock_table c
+      → h ≡ head_of (lock_heads c) w (suc r) → rs ≡ lock_rows c w r
+  unfolding lock_rows rows_of
+  lock_walk e et eh = e ∙ rw (et, eh) refl
+
+  pub locks_listed : map (lock_at c w) (lock_rows c w r) ≡ (record_at c w r).locks
+  unfolding record_at locks_of
+  locks_listed = refl
+
+-- the rows rs, still to come, are rows of the chain
+pub record Ahead (all rs : List ℕ) : Type 0 where
+  pub within : (x : ℕ) → 1 ≤ occ x rs → 1 ≤ occ x all
+
+pub ahead_start : {all rs : List ℕ} → rs ≡ all → Ahead all rs
+ahead_start e = record { within = λ x o. omega (arith, ap (occ x) e) }
+
+module _ {all rs rest : List ℕ} {i : ℕ} (v : Ahead all rs) (e : rs ≡ i ∷ rest) where
+  pub ahead_here : 1 ≤ occ i all
+  ahead_here = v.within i (omega (arith, ap (occ i) e, occ_here i rest))
+
+  pub ahead_on : Ahead all rest
+  ahead_on = record { within = λ x o. v.within x (omega (arith, ap (occ x) e, occ_there x i rest)) }
 
 module _ (c : Counts) (w : List ℕ) (k : ℕ) (m : List ℕ) where
   -- one lock row
@@ -61,16 +90,13 @@ module _ (c : Counts) (w : List ℕ) (k : ℕ) (m : List ℕ) where
   unfolding mark_own
   own_nil = refl
 
-  pub own_on_lem : {nx : ℕ → ℕ} {n : ℕ} {answer : List ℕ} {h f : ℕ} → Walk nx n (λ rs. mark_own c w k m rs) answer h f
-      → {q : Bool} → q ≡ more n f h → q ≡ true
-      → {x h' : ℕ} → x ≡ own_mark c w k (get_or m h 0) h → h' ≡ nx h
-      → Walk nx n (λ rs. mark_own c w k (set m h x) rs) answer h' (f - 1)
-  own_on_lem {nx} {n} {answer} {h} {f} i d e {x} ex p =
-      walk_again i d (λ rs. mark_own c w k (set m h x) rs) e (own_cons h x (rows nx n (f - 1) (nx h)) ex) p
+  module _ {rs answer : List ℕ} (i : mark_own c w k m rs ≡ answer) where
+    pub own_on_lem : {h x : ℕ} {rest : List ℕ} → rs ≡ h ∷ rest → x ≡ own_mark c w k (get_or m h 0) h
+        → mark_own c w k (set m h x) rest ≡ answer
+    own_on_lem {h} {x} {rest} e ex = sym (ap (mark_own c w k m) e ∙ own_cons h x rest ex) ∙ i
 
-  pub own_done : {nx : ℕ → ℕ} {n : ℕ} {answer : List ℕ} {h f : ℕ} → Walk nx n (λ rs. mark_own c w k m rs) answer h f
-      → {q : Bool} → q ≡ more n f h → q ≡ false → m ≡ answer
-  own_done i d e = walk_end i d e own_nil
+    pub own_done : rs ≡ [] → m ≡ answer
+    own_done e = sym (ap (mark_own c w k m) e ∙ own_nil) ∙ i
 
   -- one access
   pub access_unwritten : (a : Access) → a.written ≡ false → m ≡ mark_access c w k m a
@@ -90,23 +116,18 @@ module _ (c : Counts) (w : List ℕ) (k : ℕ) (m : List ℕ) where
   unfolding mark_accesses
   accesses_nil = refl
 
-  accesses_cons : {m' : List ℕ} {a : Access} (u : Access) (xs : List Access) → a ≡ u → m' ≡ mark_access c w k m a
-      → mark_accesses c w k m (u ∷ xs) ≡ mark_accesses c w k m' xs
+  accesses_cons : {m' : List ℕ} (a : Access) (xs : List Access) → m' ≡ mark_access c w k m a
+      → mark_accesses c w k m (a ∷ xs) ≡ mark_accesses c w k m' xs
   unfolding mark_accesses
-  accesses_cons u xs e o = sym (ap (λ y. mark_accesses c w k y xs) (o ∙ ap (mark_access c w k m) e))
+  accesses_cons a xs o = sym (ap (λ y. mark_accesses c w k y xs) o)
 
-  pub accesses_on : (g : ℕ → Access) {nx : ℕ → ℕ} {n : ℕ} {answer : List ℕ} {h f : ℕ}
-      → Walk nx n (λ rs. mark_accesses c w k m (map g rs)) answer h f → {q : Bool} → q ≡ more n f h → q ≡ true
-      → {m' : List ℕ} {a : Access} {h' : ℕ} → a ≡ g h → m' ≡ mark_access c w k m a → h' ≡ nx h
-      → Walk nx n (λ rs. mark_accesses c w k m' (map g rs)) answer h' (f - 1)
-  accesses_on g {nx} {n} {answer} {h} {f} i d e {m'} ea o p =
-      walk_again i d (λ rs. mark_accesses c w k m' (map g rs)) e
-      (accesses_cons (g h) (map g (rows nx n (f - 1) (nx h))) ea o) p
+  module _ {xs : List Access} {answer : List ℕ} (i : mark_accesses c w k m xs ≡ answer) where
+    pub accesses_on : {m' : List ℕ} {a : Access} {rest : List Access} → xs ≡ a ∷ rest → m' ≡ mark_access c w k m a
+        → mark_accesses c w k m' rest ≡ answer
+    accesses_on {a = a} {rest} e o = sym (ap (mark_accesses c w k m) e ∙ accesses_cons a rest o) ∙ i
 
-  pub accesses_done : (g : ℕ → Access) {nx : ℕ → ℕ} {n : ℕ} {answer : List ℕ} {h f : ℕ}
-      → Walk nx n (λ rs. mark_accesses c w k m (map g rs)) answer h f → {q : Bool} → q ≡ more n f h → q ≡ false
-      → m ≡ answer
-  accesses_done g i d e = walk_end i d e accesses_nil
+    pub accesses_done : xs ≡ [] → m ≡ answer
+    accesses_done e = sym (ap (mark_accesses c w k m) e ∙ accesses_nil) ∙ i
 
 -- all slots
 module _ (c : Counts) (w m₀ : List ℕ) where

@@ -1,13 +1,10 @@
--- The loop over a record's locks, which keeps what a pass keeps. Rests on Steps, on Loops of `chains` and on Sweep of
--- the crate `sweeps`.
-use Prim.Native.Nat.{ℕ, ◌-◌, ◌≤◌, ◌<◌}
+-- The loop over a record's locks, which keeps what a pass keeps. Rests on Steps and on Sweep of the crate `sweeps`.
+use Prim.Native.Nat.{ℕ, ◌≤◌, ◌<◌}
 use mathlib.Core.Path.{◌≡◌, refl, sym, ap, ◌∙◌}
 use mathlib.Core.Bool.{Bool, true, false, ◌&&◌}
-use mathlib.Core.List.{List, [], ◌∷◌, map}
+use mathlib.Core.List.{List, [], ◌∷◌}
 use lib.Dec.{leb, ltb}
 use borrow.Author.Tests.{leb-true, ltb-true}
-use Rattle.chains.specs.Walk.{more, rows}
-use Rattle.chains.proofs.Loops.{Walk, walk_again, walk_out, walk_end}
 use Rattle.types.specs.declared.Lock.{Lock}
 use Rattle.types.specs.Limits.{LAST}
 use Rattle.meaning.specs.Store.{Edit}
@@ -17,37 +14,31 @@ use Rattle.sweeps.specs.Sweep.{passed, passing, swept_now}
 use Rattle.clauses.specs.Clauses.{span_lies, mode_listed, owner_used, lock_sound, lock_now}
 use Rattle.clauses.proofs.Steps.{and_no, and_on}
 
--- l is the lock of row h as it was read, b whether it passes
+-- the locks ls are still to come; l is the next, b whether it passes
 module _ (now : Swept → Lock → Bool) (s : Swept) where
-  pass_cons : (u : Lock) (us : List Lock) {l : Lock} {t : Swept} {b : Bool} → l ≡ u → b ≡ now s l → b ≡ true
-      → t ≡ passed s l → passing now s (u ∷ us) ≡ passing now t us
-  unfolding passing
-  pass_cons u us e d z f =
-      sym (and_on (ap (now s) (sym e) ∙ sym d ∙ z) (ap (λ x. passing now x us) (f ∙ ap (passed s) e)))
+  module _ {l : Lock} (ls : List Lock) {b : Bool} (d : b ≡ now s l) where
+    pass_cons : {t : Swept} → b ≡ true → t ≡ passed s l → passing now s (l ∷ ls) ≡ passing now t ls
+    unfolding passing
+    pass_cons z f = sym (and_on (sym d ∙ z) (ap (λ x. passing now x ls) f))
 
-  pass_stop : (u : Lock) (us : List Lock) {l : Lock} {b : Bool} → l ≡ u → b ≡ now s l → b ≡ false
-      → passing now s (u ∷ us) ≡ false
-  unfolding passing
-  pass_stop u us e d z = sym (and_no (passing now (passed s u) us) (ap (now s) (sym e) ∙ sym d ∙ z))
+    pass_stop : b ≡ false → passing now s (l ∷ ls) ≡ false
+    unfolding passing
+    pass_stop z = sym (and_no (passing now (passed s l) ls) (sym d ∙ z))
 
   pass_nil : passing now s [] ≡ true
   unfolding passing
   pass_nil = refl
 
-  module _ (g : ℕ → Lock) {nx : ℕ → ℕ} {n : ℕ} {answer : Bool} {h f : ℕ} {r : Bool} where
-    pub pass_on : {h' : ℕ} {l : Lock} (t : Swept) {b : Bool} → Walk nx n (λ rs. passing now s (map g rs)) answer h f
-        → r ≡ more n f h → r ≡ true → l ≡ g h → b ≡ now s l → b ≡ true → t ≡ passed s l → h' ≡ nx h
-        → Walk nx n (λ rs. passing now t (map g rs)) answer h' (f - 1)
-    pass_on t i d e el eb z et q =
-        walk_again i d (λ rs. passing now t (map g rs)) e
-        (pass_cons (g h) (map g (rows nx n (f - 1) (nx h))) el eb z et) q
+  module _ {ls : List Lock} {answer : Bool} (i : passing now s ls ≡ answer) where
+    pub pass_done : ls ≡ [] → true ≡ answer
+    pass_done e = sym (ap (passing now s) e ∙ pass_nil) ∙ i
 
-    pub pass_out : {l : Lock} {b : Bool} → Walk nx n (λ rs. passing now s (map g rs)) answer h f → r ≡ more n f h
-        → r ≡ true → l ≡ g h → b ≡ now s l → b ≡ false → false ≡ answer
-    pass_out i d e el eb z = walk_out i d e (pass_stop (g h) (map g (rows nx n (f - 1) (nx h))) el eb z)
+    module _ {l : Lock} {rest : List Lock} {b : Bool} (e : ls ≡ l ∷ rest) (d : b ≡ now s l) where
+      pub pass_on : (t : Swept) → b ≡ true → t ≡ passed s l → passing now t rest ≡ answer
+      pass_on t z f = sym (ap (passing now s) e ∙ pass_cons rest d z f) ∙ i
 
-    pub pass_done : Walk nx n (λ rs. passing now s (map g rs)) answer h f → r ≡ more n f h → r ≡ false → true ≡ answer
-    pass_done i d e = walk_end i d e pass_nil
+      pub pass_out : b ≡ false → false ≡ answer
+      pass_out z = sym (ap (passing now s) e ∙ pass_stop rest d z) ∙ i
 
 -- where a lock that is sound by itself lies
 pub lock_lies : (es : List Edit) (floor : ℕ) (l : Lock) → lock_sound es floor l ≡ true

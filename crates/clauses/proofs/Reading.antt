@@ -1,10 +1,9 @@
 -- A record read, as the code tests it: its version, its read lock. Rests on Steps.
-use Prim.Native.Nat.{ℕ, suc, ◌-◌, ◌<◌}
+use Prim.Native.Nat.{ℕ, ◌<◌}
 use mathlib.Core.Path.{◌≡◌, sym, ap, ◌∙◌}
 use mathlib.Core.Bool.{Bool, true, false, not}
 use mathlib.Core.List.{List}
 use native.Mathlib.Omega.{arith}
-use native.Mathlib.Decide.{ℕ_discrete}
 use lib.Dec.{eqb}
 use borrow.Author.Tests.{eq-eqb, ne_eqb, lt-ltb, le-ltb}
 use Rattle.meaning.specs.Lists.{any}
@@ -16,16 +15,6 @@ use Rattle.tables.specs.Decode.{record_at, records_of}
 use Rattle.tables.proofs.Decoded.{rec_of_lem}
 use Rattle.clauses.specs.Clauses.{stands_before, read_sound}
 use Rattle.clauses.proofs.Steps.{and_no, and_on, or_yes, or_on}
-
-pub stands_zero : (from p : ℕ) → from ≡ 0 → false ≡ eqb (suc p) from
-stands_zero from p e = sym (ne_eqb (suc p) from (λ z. omega arith))
-
-pub stands_at : (from p : ℕ) → (from ≡ 0 → ⊥) → eqb p (from - 1) ≡ eqb (suc p) from
-stands_at from p h = go (ℕ_discrete p (from - 1))
-  where
-    go : Dec (p ≡ from - 1) → eqb p (from - 1) ≡ eqb (suc p) from
-    go (yes q) = eq-eqb p (from - 1) q ∙ sym (eq-eqb (suc p) from (omega arith))
-    go (no q) = ne_eqb p (from - 1) q ∙ sym (ne_eqb (suc p) from (λ z. q (omega arith)))
 
 module _ (x : Rec) (from : ℕ) {b : Bool} (e : b ≡ any (stands_before from) x.versions) where
   pub present_found : b ≡ true → true ≡ is_present x from

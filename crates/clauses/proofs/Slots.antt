@@ -1,30 +1,26 @@
 -- All records and all slots, as loops over their numbers; a free slot without accesses. Rests on Steps, on Records and
 -- on Builds of the crate `tables`.
-use Prim.Native.Nat.{ℕ, suc, ◌+◌, ◌-◌, ◌≤◌, ◌<◌}
-use mathlib.Core.Path.{◌≡◌, refl, sym, ap, ◌∙◌}
-use mathlib.Core.Bool.{Bool, true, false, not}
-use mathlib.Core.List.{List, map}
+use Prim.Native.Nat.{ℕ, suc, ◌+◌, ◌-◌, ◌<◌}
+use mathlib.Core.Path.{◌≡◌, sym, ap, ◌∙◌}
+use mathlib.Core.Bool.{Bool, true, not}
+use mathlib.Core.List.{List}
 use native.Mathlib.Omega.{arith}
 use lib.ListN.{length, replicate, length-replicate}
 use lib.Dec.{eqb}
-use borrow.Author.Tests.{eq-eqb, ne_eqb}
+use borrow.Author.Tests.{eq-eqb, ne_eqb, not-false, not-true}
+use Rattle.std.specs.Prelude.{Option, None, Some}
+use Rattle.std.specs.Option.{is_some}
+use Rattle.std.specs.Iterator.{YieldsFirst}
 use Rattle.chains.specs.Lists.{all_to}
-use Rattle.chains.specs.Walk.{more, rows}
-use Rattle.chains.specs.Table.{link, head_of}
 use Rattle.chains.proofs.Bounded.{all_ext, all_at, all_all}
 use Rattle.chains.proofs.Parts.{zeros}
-use Rattle.chains.proofs.Walks.{step, stop}
 use Rattle.types.specs.Limits.{MAX_RECORDS, FREE}
 use Rattle.meaning.specs.Lists.{pairwise}
 use Rattle.meaning.specs.Points.{no_later}
 use Rattle.meaning.specs.Sound.{free_idle, sound_rec, sound_edit}
 use Rattle.types.specs.declared.Counts.{Counts}
-use Rattle.meaning.proofs.Lists.{test}
-use mathlib.Core.Logic.{◌⊎◌, inl, inr}
-use Rattle.tables.specs.Layout.{access_table, access_heads}
 use Rattle.tables.specs.Decode.{record_at, slot_at, records_of, edits_of}
 use Rattle.tables.proofs.Builds.{all_from_build}
-use Rattle.tables.proofs.Loops.{accesses_start}
 use Rattle.clauses.specs.Clauses.{Stamps, records_sound, slots_sound, locks_pass, all_pass}
 use Rattle.clauses.proofs.Records.{locks_rise_lem, rec_passes}
 use Rattle.clauses.proofs.Steps.{or_yes, or_on}
@@ -62,28 +58,23 @@ module _ (c : Counts) (w : List ℕ) where
       (λ j l. let e : suc j ≡ 1 + j = omega arith in ap (λ i. sound_edit (records_of c w) i (slot_at c w (suc j))) e)
       ∙ sym (all_from_build c.edits 1 (λ i. slot_at c w (suc i)) (sound_edit (records_of c w)))
 
--- a walk with fuel meets no row exactly if it does not start
-none_met : {A : Type 0} (g : ℕ → A) (nx : ℕ → ℕ) (n f h : ℕ) → not (more n f h) ≡ eqb (length (map g (rows nx n f h))) 0
-none_met g nx n f h = go (test (more n f h))
-  where
-    go : (more n f h ≡ true) ⊎ (more n f h ≡ false) → not (more n f h) ≡ eqb (length (map g (rows nx n f h))) 0
-    go (inl e) =
-        ap not e ∙ sym (ne_eqb (suc (length (map g (rows nx n (f - 1) (nx h))))) 0 (λ z. omega arith))
-        ∙ ap (λ rs. eqb (length (map g rs)) 0) (sym (step nx n f h refl e).row)
-    go (inr e) = ap not e ∙ ap (λ rs. eqb (length (map g rs)) 0) (sym (stop nx n f h refl e).row)
+-- an iterator gives nothing exactly if nothing was left
+pub none_left : {S A : Type 0} (rest : S → List A) (s t : S) {q : Bool} (r : Option A) → YieldsFirst rest s r t
+    → is_some r ≡ not q → q ≡ eqb (length (rest s)) 0
+none_left rest s t {q} None y e = not-false q (sym e) ∙ ap (λ xs. eqb (length xs) 0) (sym y.0)
+none_left rest s t {q} (Some x) y e =
+    not-true q (sym e) ∙ sym (ne_eqb (suc (length (rest t))) 0 (λ z. omega arith))
+    ∙ ap (λ xs. eqb (length xs) 0) (sym y)
 
 module _ (c : Counts) (w : List ℕ) (k : ℕ) where
   pub idle_used : {s : ℕ} → s ≡ (slot_at c w k).state → (s ≡ FREE → ⊥) → true ≡ free_idle (slot_at c w k)
   unfolding free_idle
   idle_used e h = or_yes _ (ap not (ne_eqb (slot_at c w k).state FREE (λ z. h (e ∙ z))))
 
-  pub idle_free : {s head : ℕ} {q : Bool} → 1 ≤ c.accesses → s ≡ (slot_at c w k).state → s ≡ FREE
-      → head ≡ head_of (access_heads c) w k → q ≡ more c.accesses c.accesses head → not q ≡ free_idle (slot_at c w k)
+  pub idle_free : {s : ℕ} {q : Bool} → s ≡ (slot_at c w k).state → s ≡ FREE
+      → q ≡ eqb (length (slot_at c w k).accesses) 0 → q ≡ free_idle (slot_at c w k)
   unfolding free_idle
-  idle_free {s} {head} l e h p d =
-      or_on (ap not (eq-eqb (slot_at c w k).state FREE (sym e ∙ h)))
-      (ap not d ∙ none_met _ (link (access_table c) w) c.accesses c.accesses head
-      ∙ (accesses_start c w k (λ rs. eqb (length rs) 0) p).same)
+  idle_free e h d = or_on (ap not (eq-eqb (slot_at c w k).state FREE (sym e ∙ h))) d
 
 -- stamps: those of the slots before the next one, and none
 pub stamps_before : {k : ℕ} {m : List ℕ} → Stamps k m → Stamps (k + 1 - 1) m

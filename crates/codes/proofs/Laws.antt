@@ -12,7 +12,6 @@ use Rattle.meaning.specs.Store.{Store, rec_at}
 use Rattle.types.specs.Replies.{Reply, ok, edit, locked, read, own, again, commit, nopoint, purged, at, point}
 use Rattle.types.specs.Replies.{refusing, refused}
 use Rattle.meaning.specs.Outcomes.{handle_at}
-use Rattle.meaning.specs.Causes.{edits}
 use Rattle.meaning.specs.Calls.{act}
 use Rattle.meaning.specs.Pointwise.{LowestHolder}
 use Rattle.meaning.specs.Order.{Refuses, concerns, HeldByLowest}

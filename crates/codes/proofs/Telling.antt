@@ -1,4 +1,4 @@
--- A reply is told by the case that it is: the number and the values of that case. Rests on Codes.
+-- The reply that is told is the one promised, and what its numbers name. Rests on Codes.
 use Prim.Native.Nat.{ℕ}
 use mathlib.Core.Path.{◌≡◌, sym, ap}
 use mathlib.Core.List.{List}
@@ -6,12 +6,7 @@ use Rattle.types.specs.Replies.{Reply}
 use Rattle.types.specs.Numbers.{pointing}
 use Rattle.types.specs.declared.Point.{Point}
 use Rattle.types.specs.declared.Pick.TheVariants.{Named}
-use Rattle.codes.specs.Codes.{code_of, numbers_of, Tells, Answers, named}
-
--- the answer x is the case y, and the numbers tell that case
-pub telling : {A : Type 0} (of : A → Reply) {x y : A} {n : ℕ} {held left : List ℕ} → x ≡ y → n ≡ code_of (of y)
-    → left ≡ numbers_of (of y) held → Tells (of x) n held left
-telling of e c v = rw e (record { number = c; values = v })
+use Rattle.codes.specs.Codes.{Tells, Answers, named}
 
 -- the reply told is the reply promised
 pub answered : {Promise : Reply → Type 0} {r : Reply} {n : ℕ} {held left : List ℕ} → Tells r n held left → Promise r

@@ -1,5 +1,5 @@
 -- What a C caller hears of a reply: one number, and the numbers that it lends. Rests on the replies of `types`.
-use Rattle.std.specs.Prelude.{ℕ, zero, suc, ◌+◌, ◌*◌, ◌%◌, ◌≡◌, List, [], ◌∷◌}
+use Rattle.std.specs.Prelude.{ℕ, zero, suc, ◌+◌, ◌*◌, ◌%◌, ◌≡◌, List, [], ◌∷◌, Some, None}
 use Rattle.types.specs.Limits.{GENERATIONS, SLOTS}
 use Rattle.types.specs.Replies.{Reply, ok, edit, locked, read, own, again, commit, nopoint, purged, at, point}
 use Rattle.types.specs.Replies.{refusing}
@@ -10,8 +10,7 @@ use Rattle.types.specs.declared.Finish.TheVariants.{Settle, Keep}
 use Rattle.types.specs.declared.Pick.{Pick}
 use Rattle.types.specs.declared.Pick.TheVariants.{Named}
 use Rattle.types.specs.declared.Counts.{Counts}
-use Rattle.types.specs.declared.Value.{Value}
-use Rattle.types.specs.declared.Value.TheVariants.{Never, Written}
+use Rattle.types.specs.Values.{Value}
 
 -- a handle is below 65,536 × 64; a refusal's number is below 32
 abbrev pub HANDLES : ℕ
@@ -46,12 +45,12 @@ code_of (refusing n more) = code_with n more
 
 -- a value as two numbers: 1 and its bits, or 0 and 0 if never written
 abbrev pub mark_of : Value → ℕ
-mark_of Never = 0
-mark_of (Written x) = 1
+mark_of None = 0
+mark_of (Some x) = 1
 
 abbrev pub bits_of : Value → ℕ
-bits_of Never = 0
-bits_of (Written x) = x
+bits_of None = 0
+bits_of (Some x) = x
 
 -- which of its three replies a granted Read has
 abbrev pub NEW : ℕ

@@ -36,26 +36,20 @@ pub fn refusal(r: Refusal) -> u64
     ensures { result ≡ code_of (of_refusal r) }
 {
     if let Refusal::Held(h) = r {
-        return types::word_of_handle(h) % HANDLES * CODES + types::refusal_number(r);
+        return u64::from(h) % HANDLES * CODES + r.number();
     }
-    types::refusal_number(r)
+    r.number()
 }
 
 // A value as two numbers: whether it was ever written, and its bits.
 pub fn mark(v: Value) -> u64
     ensures { result ≡ mark_of v }
 {
-    match v {
-        Value::Never => 0,
-        Value::Written(_) => 1,
-    }
+    v.is_some() as u64
 }
 
 pub fn bits(v: Value) -> u64
     ensures { result ≡ bits_of v }
 {
-    match v {
-        Value::Never => 0,
-        Value::Written(x) => x,
-    }
+    v.unwrap_or(0)
 }

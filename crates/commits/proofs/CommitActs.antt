@@ -1,5 +1,6 @@
 -- Commit meets its contract: what the searches ask for, and one law for each return. Rests on Ended, CommitExits and
 -- Acting of `calls`.
+use Rattle.std.specs.Prelude.{Result, Err}
 use Prim.Native.Nat.{ℕ, ◌≤◌, ◌<◌}
 use mathlib.Core.Path.{◌≡◌, refl, sym, ◌∙◌}
 use mathlib.Core.Bool.{Bool, true, false}
@@ -17,7 +18,10 @@ use Rattle.types.specs.declared.Finish.{Finish}
 use Rattle.meaning.specs.Store.{Store, edit_at}
 use Rattle.types.specs.Numbers.{slot_of}
 use Rattle.meaning.specs.Points.{in_common, earliest, latest}
-use Rattle.types.specs.Replies.{Reply, commit, nopoint, refusing}
+use Rattle.types.specs.Replies.{Reply, commit, nopoint, refusing, of_refusal}
+use Rattle.types.specs.declared.Refusal.{Refusal}
+use Rattle.types.specs.declared.Refusal.TheVariants.{BadPoint}
+use Rattle.calls.specs.Checks.{open_slot}
 use Rattle.meaning.specs.Outcomes.{Outcome, replies, knows, is_open, version_room}
 use Rattle.meaning.specs.Ending.{finished, committed, aborted, good_pick, commit_open, committing}
 use Rattle.meaning.specs.Sound.{names_existing}
@@ -135,19 +139,16 @@ module _ (w : List ℕ) (c : Counts) (P : sound_words (lent w) ≡ true) (E : c 
   abbrev call : Store → Outcome
   call = committing h pick f
 
-  pub commit_refused : knows (decode_at c w) h ≡ false → Acts call (lent w) (lent w) (refusing 2 [])
-  commit_refused e =
-      acts_refused call (commit_keeps h pick f) w c P E 2 (CommitExits.commit_no_edit (decode_at c w) h pick f e)
+  pub commit_refused : {q : Result ℕ Refusal} {x : Refusal} → q ≡ open_slot (decode_at c w) h → q ≡ Err x
+      → Acts call (lent w) (lent w) (of_refusal x)
+  commit_refused {q} {x} m e =
+      acts_refused call (commit_keeps h pick f) w c P E x (CommitExits.commit_closed (decode_at c w) h pick f m e)
 
   module _ (known : knows (decode_at c w) h ≡ true) where
-    pub commit_too_late : is_open (decode_at c w) h ≡ false → Acts call (lent w) (lent w) (refusing 3 [])
-    commit_too_late e =
-        acts_refused call (commit_keeps h pick f) w c P E 3 (CommitExits.commit_ended (decode_at c w) h pick f known e)
-
     pub commit_bad_point : is_open (decode_at c w) h ≡ true → good_pick pick ≡ false
         → Acts call (lent w) (lent w) (refusing 6 [])
     commit_bad_point e g =
-        acts_refused call (commit_keeps h pick f) w c P E 6
+        acts_refused call (commit_keeps h pick f) w c P E BadPoint
         (CommitExits.commit_bad_pick (decode_at c w) h pick f known e g)
 
     pub commit_acts : is_open (decode_at c w) h ≡ true → good_pick pick ≡ true → (k : ℕ) → k ≡ slot_of h

@@ -1,6 +1,7 @@
 -- The ways that Commit ends, one law for each return of the code. The code asks for the earliest point, the latest, or
 -- whether a named one is common: LAST + 1, 0 and a named point that is common say whether the common set is empty.
 -- Rests on Verdicts of `calls` and the laws of `meaning`.
+use Rattle.std.specs.Prelude.{Result, Err}
 use Prim.Native.Nat.{ℕ, suc, ◌≤◌, ◌<◌}
 use native.Mathlib.Omega.{arith}
 use mathlib.Core.Path.{◌≡◌, refl, ◌∙◌}
@@ -12,7 +13,8 @@ use Rattle.types.specs.Limits.{LAST}
 use Rattle.meaning.specs.Store.{Store, edit_at}
 use Rattle.types.specs.Numbers.{slot_of}
 use Rattle.meaning.specs.Points.{in_common, earliest, latest}
-use Rattle.types.specs.Replies.{commit, nopoint, refusing}
+use Rattle.types.specs.Replies.{commit, nopoint, refusing, of_refusal}
+use Rattle.types.specs.declared.Refusal.{Refusal}
 use Rattle.meaning.specs.Outcomes.{Outcome, replies, Verdict, pass, needs, knows, is_open, version_room}
 use Rattle.meaning.specs.Ending.{finished, committed, aborted, good_pick, no_common, commit_verdict, commit_open}
 use Rattle.meaning.specs.Ending.{commit_open_by}
@@ -23,7 +25,9 @@ use Rattle.types.specs.declared.Pick.{Pick}
 use Rattle.types.specs.declared.Pick.TheVariants.{Earliest, Latest, Named}
 use Rattle.types.specs.declared.Finish.{Finish}
 use Rattle.meaning.proofs.Laws.{common_set_is, earliest_is_least, latest_is_greatest}
-use Rattle.calls.proofs.Verdicts.{needs_fails, needs_holds, no_edit_lem, edit_ended, edit_open}
+use Rattle.calls.proofs.Verdicts.{needs_fails, needs_holds, edit_open}
+use Rattle.calls.specs.Checks.{open_slot}
+use Rattle.calls.proofs.Checks.{open_refused}
 use Rattle.endings.specs.Parts.{commit_at}
 
 module _ (s : Store) (h : ℕ) (pick : Pick) (f : Finish) where
@@ -33,13 +37,10 @@ module _ (s : Store) (h : ℕ) (pick : Pick) (f : Finish) where
   abbrev picked : Verdict
   picked = needs (good_pick pick) 6 pass
 
-  pub commit_no_edit : knows s h ≡ false → committing h pick f s ≡ replies s (refusing 2 [])
+  pub commit_closed : {q : Result ℕ Refusal} {x : Refusal} → q ≡ open_slot s h → q ≡ Err x
+      → committing h pick f s ≡ replies s (of_refusal x)
   unfolding committing_by commit_checks
-  commit_no_edit e = no_edit_lem s rest h picked e
-
-  pub commit_ended : knows s h ≡ true → is_open s h ≡ false → committing h pick f s ≡ replies s (refusing 3 [])
-  unfolding committing_by commit_checks
-  commit_ended e g = edit_ended s rest h picked e g
+  commit_closed m e = open_refused s h m picked rest e
 
   pub commit_bad_pick : knows s h ≡ true → is_open s h ≡ true → good_pick pick ≡ false
       → committing h pick f s ≡ replies s (refusing 6 [])

@@ -22,7 +22,8 @@ ghost use Rattle.types.specs.declared.Pick.TheVariants.{Earliest, Latest, Named}
 ghost use Rattle.endings.specs.Parts.{commit_at};
 ghost use Rattle.endings.specs.Steps.{changed, along, saved_rec, SaveNeed};
 
-use types::{COMMITTED, CommitReply, Counts, Finish, Handle, LAST, Pick, Point, Refusal};
+use chains::Cursor;
+use types::{COMMITTED, Counts, Finish, Handle, LAST, Pick, Point, Refusal};
 
 // The version that access row i makes at t.
 fn save_row(w: &mut [u64], c: Counts, i: usize, t: u64)
@@ -43,43 +44,58 @@ fn save_versions(w: &mut [u64], c: Counts, k: usize, t: u64)
     ensures { Becomes c w.new
         (along (saved_rec t) (edit_at (decode_at c w.old) k).accesses (decode_at c w.old)) }
 {
-    let n = c.accesses;
-    let mut cur = tables::first_access(w, c, k);
-    let mut left = n;
-    while chains::more(n, left, cur) {
-        let nxt = tables::next_access(w, c, cur);
-        save_row(w, c, cur, t);
-        cur = nxt;
-        left -= 1;
+    let table = tables::access_table(c);
+    let mut walk = Cursor::new(table, tables::first_access(w, c, k));
+    while let Some(i) = walk.step(w, table) {
+        save_row(w, c, i, t);
     }
 }
 
-fn no_point(w: &mut [u64], c: Counts, k: usize, finish: Finish, ix: &[u16]) -> CommitReply
+fn no_point(
+    w: &mut [u64],
+    c: Counts,
+    k: usize,
+    finish: Finish,
+    ix: &[u16],
+) -> Result<Option<Point>, Refusal>
     requires { Ready c w.old × ((edit_at (decode_at c w.old) k).state ≡ OPEN) × Indexed (decode_at c w.old) ix.now }
     ensures { Makes c (replies (finished finish (aborted (decode_at c w.old) k) k) nopoint) w.old
         w.new (of_commit result) }
 {
     endings::end_aborted(w, c, k, finish, ix);
-    CommitReply::NoPoint
+    Ok(None)
 }
 
 // At the point t of the common set. Nothing is saved where a version row is missing.
-fn commit_at(w: &mut [u64], c: Counts, k: usize, t: u64, finish: Finish, ix: &[u16]) -> CommitReply
+fn commit_at(
+    w: &mut [u64],
+    c: Counts,
+    k: usize,
+    t: u64,
+    finish: Finish,
+    ix: &[u16],
+) -> Result<Option<Point>, Refusal>
     requires { Ready c w.old × ((edit_at (decode_at c w.old) k).state ≡ OPEN)
         × (in_common (decode_at c w.old).records k (edit_at (decode_at c w.old) k) t ≡ true)
         × Indexed (decode_at c w.old) ix.now }
     ensures { Makes c (commit_at (decode_at c w.old) k t finish) w.old w.new (of_commit result) }
 {
     if !lookups::version_room(w, c, k) {
-        return CommitReply::Refused(Refusal::NoVersionRow);
+        return Err(Refusal::NoVersionRow);
     }
     save_versions(w, c, k, t);
     slots::set_state(w, c, k, COMMITTED, t);
     endings::finish_slot(w, c, k, finish, ix);
-    CommitReply::Commit(types::point_of_word(t))
+    Ok(Some(Point::from(t)))
 }
 
-fn commit_earliest(w: &mut [u64], c: Counts, k: usize, finish: Finish, ix: &[u16]) -> CommitReply
+fn commit_earliest(
+    w: &mut [u64],
+    c: Counts,
+    k: usize,
+    finish: Finish,
+    ix: &[u16],
+) -> Result<Option<Point>, Refusal>
     requires { Ready c w.old × ((edit_at (decode_at c w.old) k).state ≡ OPEN) × Indexed (decode_at c w.old) ix.now }
     ensures { Makes c (commit_open (decode_at c w.old) k Earliest finish) w.old w.new
         (of_commit result) }
@@ -91,7 +107,13 @@ fn commit_earliest(w: &mut [u64], c: Counts, k: usize, finish: Finish, ix: &[u16
     commit_at(w, c, k, t, finish, ix)
 }
 
-fn commit_latest(w: &mut [u64], c: Counts, k: usize, finish: Finish, ix: &[u16]) -> CommitReply
+fn commit_latest(
+    w: &mut [u64],
+    c: Counts,
+    k: usize,
+    finish: Finish,
+    ix: &[u16],
+) -> Result<Option<Point>, Refusal>
     requires { Ready c w.old × ((edit_at (decode_at c w.old) k).state ≡ OPEN) × Indexed (decode_at c w.old) ix.now }
     ensures { Makes c (commit_open (decode_at c w.old) k Latest finish) w.old w.new (of_commit result) }
 {
@@ -109,12 +131,12 @@ fn commit_named(
     p: Point,
     finish: Finish,
     ix: &[u16],
-) -> CommitReply
+) -> Result<Option<Point>, Refusal>
     requires { Ready c w.old × ((edit_at (decode_at c w.old) k).state ≡ OPEN) × Indexed (decode_at c w.old) ix.now }
     ensures { Makes c (commit_open (decode_at c w.old) k (Named p) finish) w.old w.new
         (of_commit result) }
 {
-    let x = types::word_of_point(p);
+    let x = u64::from(p);
     if common::in_common(w, c, k, x) {
         return commit_at(w, c, k, x, finish, ix);
     }
@@ -122,7 +144,7 @@ fn commit_named(
     if LAST < t {
         return no_point(w, c, k, finish, ix);
     }
-    CommitReply::Refused(Refusal::NotCommon)
+    Err(Refusal::NotCommon)
 }
 
 fn commit_open(
@@ -132,7 +154,7 @@ fn commit_open(
     pick: Pick,
     finish: Finish,
     ix: &[u16],
-) -> CommitReply
+) -> Result<Option<Point>, Refusal>
     requires { Ready c w.old × ((edit_at (decode_at c w.old) k).state ≡ OPEN) × Indexed (decode_at c w.old) ix.now }
     ensures { Makes c (commit_open (decode_at c w.old) k pick finish) w.old w.new (of_commit result) }
 {
@@ -146,7 +168,7 @@ fn commit_open(
 fn is_point(p: Point) -> bool
     ensures { result ≡ is_point p.0 }
 {
-    let x = types::word_of_point(p);
+    let x = u64::from(p);
     if x < 1 {
         return false;
     }
@@ -163,19 +185,20 @@ fn good_pick(pick: Pick) -> bool
     }
 }
 
-pub fn commit(w: &mut [u64], h: Handle, pick: Pick, finish: Finish, ix: &[u16]) -> CommitReply
+pub fn commit(
+    w: &mut [u64],
+    h: Handle,
+    pick: Pick,
+    finish: Finish,
+    ix: &[u16],
+) -> Result<Option<Point>, Refusal>
     requires { (sound_words (lent w.old) ≡ true) × Indexed (decode (lent w.old)) ix.now }
     ensures { Acts (committing h.0 pick finish) (lent w.old) (lent w.new) (of_commit result) }
 {
     let c = tables::counts_of(w);
-    if !lookups::known(w, c, h) {
-        return CommitReply::Refused(Refusal::NoEdit);
-    }
-    if !lookups::is_open(w, c, h) {
-        return CommitReply::Refused(Refusal::EditEnded);
-    }
+    let k = calls::open_slot(w, c, h)?;
     if !good_pick(pick) {
-        return CommitReply::Refused(Refusal::BadPoint);
+        return Err(Refusal::BadPoint);
     }
-    commit_open(w, c, calls::slot(h), pick, finish, ix)
+    commit_open(w, c, k, pick, finish, ix)
 }

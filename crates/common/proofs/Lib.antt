@@ -1,7 +1,7 @@
--- Laws of the common set: what an access allows (Reach), the set and its ends (Common, Fronts, Lifts, Sinks). Rests on
+-- Laws of the common set: what an access allows (Reach), the set and its ends (Common, Fronts, Lifts, Ends). Rests on
 -- the laws of `lookups` and `blocking`.
 pub mod Common
 pub mod Fronts
 pub mod Lifts
-pub mod Sinks
+pub mod Ends
 pub mod Reach

@@ -1,32 +1,25 @@
--- The search for the earliest point, access by access: one pass over the first accesses, passes until none moves the
--- point, one access more. Rests on Common, Fronts and on CommonEnds of the crate `meaning`.
-use Prim.Native.Nat.{ℕ, suc, ◌+◌, ◌-◌, ◌≤◌, ◌<◌}
-use mathlib.Core.Path.{◌≡◌, refl, sym, ap, subst}
+-- The search for the nearest point, access by access: one pass over the first accesses, passes until none moves the
+-- point, one access more. `allow x` says which accesses allow the point at distance x. Rests on Common and Fronts.
+use Prim.Native.Nat.{ℕ, suc, ◌+◌, ◌≤◌, ◌<◌}
+use mathlib.Core.Path.{◌≡◌, refl, sym, ap, subst, ◌∙◌}
 use mathlib.Core.Logic.{◌⊎◌, inl, inr}
 use mathlib.Core.Bool.{Bool, true, false}
-use mathlib.Core.List.{List, [], ◌∷◌, map}
+use mathlib.Core.List.{List, [], ◌∷◌}
 use native.Mathlib.Omega.{arith}
-use lib.Dec.{leb, ltb}
-use borrow.Author.Tests.{leb-true, leb-false, ltb-true, ltb-false}
-use Rattle.chains.specs.Walk.{more, rows}
-use Rattle.chains.specs.Table.{link, front, head_of}
-use Rattle.chains.proofs.Walks.{row_of, step, stop}
+use lib.Dec.{ltb}
+use lib.ListN.{take, drop}
+use borrow.Author.Tests.{ltb-true, ltb-false}
 use Rattle.types.specs.Limits.{LAST}
 use Rattle.meaning.specs.Lists.{all}
-use Rattle.meaning.specs.Points.{allows, earliest}
-use Rattle.meaning.specs.Store.{Rec, Edit}
-use Rattle.meaning.specs.Pointwise.{LeastCommon, EmptyCommonSet}
+use Rattle.meaning.specs.Sound.{names_existing}
 use Rattle.types.specs.declared.Access.{Access}
 use Rattle.types.specs.declared.Counts.{Counts}
 use Rattle.meaning.proofs.Lists.{and_in, and_left, and_right, test}
-use Rattle.meaning.proofs.CommonSet.{common_out, common_in, common_set_is}
-use Rattle.meaning.proofs.CommonEnds.{earliest_is_least}
-use Rattle.tables.specs.Layout.{access_table, access_heads}
-use Rattle.tables.specs.Decode.{access_at, slot_at, records_of}
+use Rattle.tables.specs.Decode.{slot_at, records_of}
 use Rattle.common.specs.Commit.{LeastFrom, Lifted, first_accesses, Next}
-use Rattle.common.proofs.Common.{Named}
-use Rattle.common.proofs.Fronts.{either_side, MetAccesses, met_start, met_on, first_none, next_front, next_last}
-use Rattle.common.proofs.Fronts.{next_both, accesses_all, front_of_all}
+use Rattle.common.proofs.Common.{Named, named_all, named_on}
+use Rattle.common.proofs.Fronts.{either_side, taken, none_taken, next_front, next_last, next_both, left_after}
+use Rattle.common.proofs.Fronts.{access_counted, next_access, accesses_all, front_of_all}
 
 -- One pass: q so far, with the accesses xs of which those in rest are still to be asked
 pub record Raising (allow : ℕ → Access → Bool) (xs rest : List Access) (p q : ℕ) : Type 0 where
@@ -37,14 +30,14 @@ pub record Raising (allow : ℕ → Access → Bool) (xs rest : List Access) (p 
   pub still : q ≡ p → q ≤ LAST → all (allow q) rest ≡ true → all (allow q) xs ≡ true
 
 module _ {allow : ℕ → Access → Bool} {xs : List Access} {p : ℕ} where
-  raising_start : p ≤ suc LAST → Raising allow xs xs p p
-  raising_start h = record {
+  pub raise_start : {left : List Access} → p ≤ suc LAST → left ≡ xs → Raising allow xs left p p
+  raise_start h s = rw s (record {
     from = omega arith;
     top = h;
     ahead = λ x e. e;
     passed = λ x f g. absurd (omega arith);
     still = λ e l r. r;
-  }
+  })
 
   raising_on : {a : Access} {rest : List Access} {q y : ℕ} → Raising allow xs (a ∷ rest) p q
       → LeastFrom (λ x. allow x a) q y → Raising allow xs rest p y
@@ -65,70 +58,23 @@ module _ {allow : ℕ → Access → Bool} {xs : List Access} {p : ℕ} where
       go x f g e (inl t) = i.passed x f (ltb-true x q t) e
       go x f g e (inr t) = b.least x (ltb-false x q t) g (and_left (allow x a) (all (allow x) rest) (i.ahead x e))
 
-  raising_done : {q : ℕ} → Raising allow xs [] p q → Lifted (λ x. all (allow x) xs) p q
-  raising_done i = record { from = i.from; top = i.top; passed = i.passed; still = λ e l. i.still e l refl }
+  -- as the code walks: of what is left, the next n
+  pub raise_on : (n m : ℕ) {a : Access} {left rest : List Access} {q y : ℕ} → Raising allow xs (take n left) p q
+      → left ≡ a ∷ rest → m + 1 ≡ n → LeastFrom (λ x. allow x a) q y → Raising allow xs (take m rest) p y
+  raise_on n m {q = q} i e s b = raising_on (subst (λ ys. Raising allow xs ys p q) (taken n m e s) i) b
 
--- as the code walks
-module _ (allow : ℕ → Access → Bool) (c : Counts) (w : List ℕ) where
-  pub record Raise (k j p q cur left : ℕ) : Type 0 where
-    pub turn : Raising allow (first_accesses c w k j)
-        (map (access_at c w) (rows (link (access_table c) w) c.accesses left cur)) p q
-
-  pub raise_start : {head : ℕ} (k j p : ℕ) → p ≤ suc LAST → head ≡ head_of (access_heads c) w k → Raise k j p p head j
-  unfolding first_accesses front access_table
-  raise_start k j p h e = rw e (record { turn = raising_start h })
-
-  module _ {k j p q cur left : ℕ} {r : Bool} (i : Raise k j p q cur left) (d : r ≡ more c.accesses left cur) where
-    pub raise_on : {a : Access} {y next : ℕ} → r ≡ true → a ≡ access_at c w cur → LeastFrom (λ x. allow x a) q y
-        → next ≡ link (access_table c) w cur
-        → Raise k j p y next (left - 1)
-    raise_on e x b z =
-        rw z (record {
-          turn = raising_on (rw
-              (ap (map (access_at c w)) (step (link (access_table c) w) c.accesses left cur d e).row) at i.turn)
-              (rw x at b);
-        })
-
-    pub raise_done : r ≡ false → Lifted (λ x. all (allow x) (first_accesses c w k j)) p q
-    raise_done e =
-        raising_done
-        (rw (ap (map (access_at c w)) (stop (link (access_table c) w) c.accesses left cur d e).row) at i.turn)
+  pub raise_done : {left : List Access} {q : ℕ} (n : ℕ) → Raising allow xs (take n left) p q → (0 < n → left ≡ [])
+      → Lifted (λ x. all (allow x) xs) p q
+  raise_done {left} {q} n i e = done (subst (λ ys. Raising allow xs ys p q) (none_taken n e) i)
+    where
+      done : Raising allow xs [] p q → Lifted (λ x. all (allow x) xs) p q
+      done i = record { from = i.from; top = i.top; passed = i.passed; still = λ e l. i.still e l refl }
 
 -- Passes until none moves the point
 pub record Lifting (set : ℕ → Bool) (p q : ℕ) : Type 0 where
   pub from : p ≤ q
   pub top : q ≤ suc LAST
   pub passed : (x : ℕ) → p ≤ x → x < q → set x ≡ true → ⊥
-
-module _ {set : ℕ → Bool} {p : ℕ} where
-  pub lift_start : p ≤ suc LAST → Lifting set p p
-  lift_start h = record { from = omega arith; top = h; passed = λ x f g. absurd (omega arith) }
-
-  module _ {q : ℕ} (i : Lifting set p q) where
-    pub lift_on : {y : ℕ} → Lifted set q y → Lifting set p y
-    lift_on {y} b = record {
-      from = omega (arith, i.from, b.from);
-      top = b.top;
-      passed = λ x f g e. go x f g e (test (ltb x q));
-    }
-      where
-        go : (x : ℕ) → p ≤ x → x < y → set x ≡ true → (ltb x q ≡ true) ⊎ (ltb x q ≡ false) → ⊥
-        go x f g e (inl t) = i.passed x f (ltb-true x q t) e
-        go x f g e (inr t) = b.passed x (ltb-false x q t) g e
-
-    pub lift_moves : {y : ℕ} → Lifted set q y → (y ≡ q → ⊥) → q < y
-    lift_moves {y} b n = go (test (ltb q y))
-      where
-        go : (ltb q y ≡ true) ⊎ (ltb q y ≡ false) → q < y
-        go (inl t) = ltb-true q y t
-        go (inr t) = absurd (n (omega (arith, ltb-false q y t, b.from)))
-
-    pub lift_stop : {y : ℕ} → Lifted set q y → y ≡ q → LeastFrom set p q
-    lift_stop {y} b e =
-        record { from = i.from; top = i.top; inside = λ l. rw e at (b.still e (omega arith)); least = i.passed }
-
-    pub lift_end : LAST < q → LeastFrom set p q
-    lift_end h = record { from = i.from; top = i.top; inside = λ l. absurd (omega arith); least = i.passed }
 
 -- The search goes on from q, with no point of the set passed on the way there
 least_after : {set : ℕ → Bool} {p q y : ℕ} → p ≤ q → ((x : ℕ) → p ≤ x → x < q → set x ≡ true → ⊥) → LeastFrom set q y
@@ -179,90 +125,67 @@ module _ (allow : ℕ → Access → Bool) {c : Counts} {w : List ℕ} {k j : �
     pub next_moved : {z : ℕ} → LeastFrom (λ x. all (allow x) ys) y z → LeastFrom (λ x. all (allow x) ys) 1 z
     next_moved t = next_more (least_after r.from (λ x f g u. r.passed x f g (next_front c w k (allow x) s u)) t)
 
--- The least point that all accesses allow is the earliest
-pub is_earliest : (rs : List Rec) (k : ℕ) (e : Edit) {p : ℕ} → LeastFrom (λ x. all (allows rs k x) e.accesses) 1 p
-    → p ≡ earliest rs k e
-is_earliest rs k e {p} i = go (earliest_is_least rs k e) (test (leb p LAST))
-  where
-    least_of : LeastCommon rs k e (earliest rs k e) → p ≡ earliest rs k e
-    least_of w =
-        let m = common_out rs k e (earliest rs k e) ((common_set_is rs k e (earliest rs k e)).1 w.common) in
-        let f : p ≤ earliest rs k e = below m.least m.each (test (leb p (earliest rs k e))) in
-        let n =
-        common_in rs k e p
-        (record { least = i.from; last = omega (arith, m.last); each = i.inside (omega (arith, m.last)) }) in
-        omega (arith, w.least p ((common_set_is rs k e p).0 n))
-      where
-        below : 1 ≤ earliest rs k e → all (allows rs k (earliest rs k e)) e.accesses ≡ true
-            → (leb p (earliest rs k e) ≡ true) ⊎ (leb p (earliest rs k e) ≡ false)
-            → p ≤ earliest rs k e
-        below l t (inl u) = leb-true p (earliest rs k e) u
-        below l t (inr u) = absurd (i.least (earliest rs k e) l (leb-false p (earliest rs k e) u) t)
-
-    go : LeastCommon rs k e (earliest rs k e) ⊎ ((earliest rs k e ≡ suc LAST) × EmptyCommonSet rs k e)
-        → (leb p LAST ≡ true) ⊎ (leb p LAST ≡ false)
-        → p ≡ earliest rs k e
-    go (inl w) t = least_of w
-    go (inr w) (inl t) =
-        let l = leb-true p LAST t in
-        absurd (w.1 p
-        ((common_set_is rs k e p).0 (common_in rs k e p (record { least = i.from; last = l; each = i.inside l }))))
-    go (inr w) (inr t) = omega (arith, i.top, leb-false p LAST t, w.0)
-
--- The search over the accesses of slot k
-pub record Seeking (c : Counts) (w : List ℕ) (k p j cur left : ℕ) : Type 0 where
-  pub sum : j + left ≡ c.accesses
-  pub met : MetAccesses c w k j cur
+-- The search over the accesses of slot k: p so far, the first j asked, left those still to be asked
+pub record Seeking (allow : ℕ → Access → Bool) (c : Counts) (w : List ℕ) (k p j : ℕ) (left : List Access) : Type 0 where
+  pub ahead : drop j (slot_at c w k).accesses ≡ left
   pub low : p ≤ LAST
-  pub best : LeastFrom (λ x. all (allows (records_of c w) k x) (first_accesses c w k j)) 1 p
-  pub named : Named c w cur left
+  pub best : LeastFrom (λ x. all (allow x) (first_accesses c w k j)) 1 p
+  pub named : Named c w left
 
-module _ (c : Counts) (w : List ℕ) (k : ℕ) where
-  pub seek_start : {head : ℕ} → head ≡ head_of (access_heads c) w k → Named c w head c.accesses
-      → Seeking c w k 1 0 head c.accesses
-  seek_start {head} e n =
-      record {
-        sum = omega arith;
-        met = rw e (met_start (head_of (access_heads c) w k));
+module _ (allow : ℕ → Access → Bool) (c : Counts) (w : List ℕ) (k : ℕ) where
+  pub seek_start : {n : ℕ} {left : List Access} → n ≡ 0 → left ≡ (slot_at c w k).accesses
+      → names_existing (records_of c w) (slot_at c w k) ≡ true → Seeking allow c w k 1 n left
+  unfolding first_accesses
+  seek_start z e n =
+      rw (z, e) (record {
+        ahead = refl;
         low = omega arith;
         best =
             record {
               from = omega arith;
               top = omega arith;
-              inside = λ l. rw (first_none c w k) refl;
+              inside = λ l. refl;
               least = λ x f g. absurd (omega arith);
             };
-        named = n;
+        named = named_all c w k n;
+      })
+
+  -- no point is left: the rest cannot bring one back
+  pub seek_out : {q : ℕ} (j : ℕ)
+      → LeastFrom (λ x. all (allow x) (first_accesses c w k j)) 1 q → LAST < q
+      → LeastFrom (λ x. all (allow x) (slot_at c w k).accesses) 1 q
+  seek_out j b l =
+      record {
+        from = b.from;
+        top = b.top;
+        inside = λ g. absurd (omega arith);
+        least = λ x g h t. b.least x g h (front_of_all c w k (allow x) j t);
       }
 
-  module _ {p j cur left : ℕ} (i : Seeking c w k p j cur left) {r : Bool} (d : r ≡ more c.accesses left cur) where
-    pub seek_on : {q next : ℕ} → r ≡ true → 1 ≤ left
-        → LeastFrom (λ x. all (allows (records_of c w) k x) (first_accesses c w k (j + 1))) 1 q → q ≤ LAST
-        → next ≡ link (access_table c) w cur → Named c w next (left - 1) → Seeking c w k q (j + 1) next (left - 1)
-    seek_on e f b l z n =
+  -- a is the next access, the one after the first n
+  module _ {p n : ℕ} {left : List Access} (i : Seeking allow c w k p n left) where
+    pub seek_next : {j : ℕ} {a : Access} {rest : List Access} → left ≡ a ∷ rest → j ≡ n
+        → (j < c.accesses) × Next c w k j a
+        × LeastFrom (λ x. all (allow x) (first_accesses c w k j)) 1 p
+    seek_next {j} e s =
+        let ahead = ap (λ m. drop m (slot_at c w k).accesses) s ∙ i.ahead ∙ e in (
+          access_counted c w k j ahead,
+          next_access c w k j ahead,
+          subst (λ m. LeastFrom (λ x. all (allow x) (first_accesses c w k m)) 1 p) (sym s) i.best,
+        )
+
+    pub seek_on : {q j m : ℕ} {a : Access} {rest : List Access} → left ≡ a ∷ rest → j ≡ n → m ≡ n + 1
+        → LeastFrom (λ x. all (allow x) (first_accesses c w k (j + 1))) 1 q → q ≤ LAST
+        → Seeking allow c w k q m rest
+    seek_on {q} e s t b l =
         record {
-          sum = omega (arith, i.sum);
-          met = met_on i.met (row_of c.accesses left cur d e) z;
+          ahead = ap (λ m. drop m (slot_at c w k).accesses) t ∙ left_after c w k n (i.ahead ∙ e);
           low = l;
-          best = b;
-          named = n;
+          best =
+              subst (λ m. LeastFrom (λ x. all (allow x) (first_accesses c w k m)) 1 q)
+              (ap (λ m. m + 1) s ∙ sym t) b;
+          named = named_on c w i.named e;
         }
 
-    -- no point is left: the rest cannot bring one back
-    pub seek_out : {q : ℕ} → r ≡ true → 1 ≤ left
-        → LeastFrom (λ x. all (allows (records_of c w) k x) (first_accesses c w k (j + 1))) 1 q → LAST < q
-        → q ≡ earliest (records_of c w) k (slot_at c w k)
-    seek_out {q} e f b l =
-        is_earliest (records_of c w) k (slot_at c w k) (record {
-          from = b.from;
-          top = b.top;
-          inside = λ g. absurd (omega arith);
-          least =
-              λ x g h t. b.least x g h
-              (front_of_all c w k (allows (records_of c w) k x) (left - 1)
-              (met_on i.met (row_of c.accesses left cur d e) refl) (omega (arith, i.sum)) t);
-        })
-
-    pub seek_done : r ≡ false → p ≡ earliest (records_of c w) k (slot_at c w k)
-    seek_done e =
-        is_earliest (records_of c w) k (slot_at c w k) (rw (accesses_all c w k left i.met i.sum d e) i.best)
+    pub seek_done : left ≡ [] → LeastFrom (λ x. all (allow x) (slot_at c w k).accesses) 1 p
+    seek_done e = rw (accesses_all c w k n (i.ahead ∙ e)) i.best

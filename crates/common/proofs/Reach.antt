@@ -181,6 +181,22 @@ module _ (ls : List Lock) (a : Access) where
       go true e = w.upto e
       go false e = omega arith
 
+pub read_end_top : (ls : List Lock) (a : Access) → read_end ls a ≤ suc LAST
+unfolding read_end
+read_end_top ls a = go (has_read a)
+  where
+    go : (b : Bool) → cond b (first_free ls a.from LAST) (suc LAST) ≤ suc LAST
+    go true = first_free_top ls a.from LAST
+    go false = omega arith
+
+pub read_end_pos : (ls : List Lock) (a : Access) → a.from ≤ LAST → 1 ≤ read_end ls a
+unfolding read_end
+read_end_pos ls a l = go (has_read a) refl
+  where
+    go : (b : Bool) → has_read a ≡ b → 1 ≤ cond b (first_free ls a.from LAST) (suc LAST)
+    go true e = omega (arith, ltb-true 0 a.from e, first_free_low ls a.from LAST (omega arith))
+    go false e = omega arith
+
 -- written to or not: the point that up_from leads to is allowed as written, and none before it
 module _ (ls : List Lock) (a : Access) (low : ℕ) {q : ℕ} (d : q ≡ up_from ls a low) where
   up_low : low ≤ suc LAST → low ≤ q
@@ -226,35 +242,13 @@ module _ (ls : List Lock) (a : Access) (high : ℕ) {q : ℕ} (d : q ≡ down_fr
       go true e y = last_under_greatest (writes ls) high x (omega arith) h (w.written e)
       go false e y = omega arith
 
--- where a is written, the code asks the locks; else it stays
+-- where a is written, the code asks the locks
 module _ (ls : List Lock) (a : Access) where
-  pub up_stays : (low : ℕ) → a.written ≡ false → low ≡ up_from ls a low
-  up_stays low e = go a.written e
-    where
-      go : (b : Bool) → b ≡ false → low ≡ cond b (first_under (writes ls) low) low
-      go true x = absurd (not_both refl x)
-      go false x = refl
-
   pub up_asks : (low : ℕ) {q : ℕ} → a.written ≡ true → q ≡ first_under (writes ls) low → q ≡ up_from ls a low
-  up_asks low {q} e d = go a.written e
-    where
-      go : (b : Bool) → b ≡ true → q ≡ cond b (first_under (writes ls) low) low
-      go true x = d
-      go false x = absurd (not_both x refl)
-
-  pub down_stays : (high : ℕ) → a.written ≡ false → high ≡ down_from ls a high
-  down_stays high e = go a.written e
-    where
-      go : (b : Bool) → b ≡ false → high ≡ cond b (last_under (writes ls) high) high
-      go true x = absurd (not_both refl x)
-      go false x = refl
+  up_asks low e d = rw e d
 
   pub down_asks : (high : ℕ) {q : ℕ} → a.written ≡ true → q ≡ last_under (writes ls) high → q ≡ down_from ls a high
-  down_asks high {q} e d = go a.written e
-    where
-      go : (b : Bool) → b ≡ true → q ≡ cond b (last_under (writes ls) high) high
-      go true x = d
-      go false x = absurd (not_both x refl)
+  down_asks high e d = rw e d
 
 -- one access
 module _ (rs : List Rec) (k p : ℕ) (a : Access) where
@@ -281,12 +275,13 @@ module _ (rs : List Rec) (k p : ℕ) (a : Access) where
       none : (x : ℕ) → p ≤ x → x < q → allows rs k x a ≡ true → ⊥
       none x f g e = let w = parts e in up_none (own_on rs k a) a low u x (omega (arith, w.from)) g w
 
-      pub next_hit : q < end → end ≤ suc LAST → LeastFrom (λ x. allows rs k x a) p q
-      next_hit h t =
+      pub next_hit : q < end → LeastFrom (λ x. allows rs k x a) p q
+      next_hit h =
+          let t = read_end_top (own_on rs k a) a in
           let lower = up_low (own_on rs k a) a low u (omega arith) in
           record {
             from = omega arith;
-            top = omega arith;
+            top = omega (arith, d);
             inside = λ g. allowed (record {
               written = up_written (own_on rs k a) a low u g;
               from = omega arith;
@@ -315,14 +310,19 @@ module _ (rs : List Rec) (k p : ℕ) (a : Access) where
 
   module _ (last : p ≤ LAST) (late : a.from ≤ p) {end high q : ℕ} (d : end ≡ read_end (own_on rs k a) a)
       (m : high ≡ min p (end - 1)) (u : q ≡ down_from (own_on rs k a) a high) where
-    gone : 1 ≤ end → (x : ℕ) → q < x → x ≤ p → allows rs k x a ≡ true → ⊥
-    gone s x f g e =
+    some : 1 ≤ end
+    some = omega (arith, d, read_end_pos (own_on rs k a) a (omega arith))
+
+    gone : (x : ℕ) → q < x → x ≤ p → allows rs k x a ≡ true → ⊥
+    gone x f g e =
         let w = parts e in
+        let s = some in
         let b = end_by (own_on rs k a) a {x = x} (omega arith) w in
         down_none (own_on rs k a) a high u x f (omega arith) w
 
-    pub before_hit : 1 ≤ end → a.from ≤ q → GreatestTo (λ x. allows rs k x a) p q
-    before_hit s h =
+    pub before_hit : a.from ≤ q → GreatestTo (λ x. allows rs k x a) p q
+    before_hit h =
+        let s = some in
         let upper = down_high (own_on rs k a) a high u in
         record {
           upto = omega arith;
@@ -331,29 +331,13 @@ module _ (rs : List Rec) (k p : ℕ) (a : Access) where
             from = h;
             upto = let l : q < end = omega arith in end_in (own_on rs k a) a (rw d at l);
           });
-          greatest = gone s;
+          greatest = gone;
         }
 
-    pub before_miss : 1 ≤ end → q < a.from → GreatestTo (λ x. allows rs k x a) p 0
-    before_miss s h =
+    pub before_miss : q < a.from → GreatestTo (λ x. allows rs k x a) p 0
+    before_miss h =
         record {
           upto = omega arith;
           inside = λ g. absurd (omega arith);
-          greatest = λ x f g e. let w = parts e in gone s x (omega (arith, w.from)) g e;
+          greatest = λ x f g e. let w = parts e in gone x (omega (arith, w.from)) g e;
         }
-
-pub read_end_top : (ls : List Lock) (a : Access) → read_end ls a ≤ suc LAST
-unfolding read_end
-read_end_top ls a = go (has_read a)
-  where
-    go : (b : Bool) → cond b (first_free ls a.from LAST) (suc LAST) ≤ suc LAST
-    go true = first_free_top ls a.from LAST
-    go false = omega arith
-
-pub read_end_pos : (ls : List Lock) (a : Access) → a.from ≤ LAST → 1 ≤ read_end ls a
-unfolding read_end
-read_end_pos ls a l = go (has_read a) refl
-  where
-    go : (b : Bool) → has_read a ≡ b → 1 ≤ cond b (first_free ls a.from LAST) (suc LAST)
-    go true e = omega (arith, ltb-true 0 a.from e, first_free_low ls a.from LAST (omega arith))
-    go false e = omega arith

@@ -2,17 +2,15 @@
 -- below it, and the steps that lead there. A set of points is given by its test. Rests on Search and on Decode of the
 -- crate `tables`.
 use Rattle.std.specs.Prelude.{ℕ, suc, ◌+◌, ◌≤◌, ◌<◌, min, max, ◌≡◌, Bool, true, cond, ◌&&◌, List, [], ◌∷◌, ◌++◌, map}
-use Rattle.std.specs.Prelude.{leb}
-use Rattle.chains.specs.Table.{front, head_of}
+use Rattle.std.specs.Prelude.{leb, take}
 use Rattle.types.specs.Limits.{LAST}
 use Rattle.meaning.specs.Lists.{keep, least, greatest}
-use Rattle.meaning.specs.Points.{first_free, writes}
-use Rattle.meaning.specs.Store.{has_read}
+use Rattle.meaning.specs.Points.{first_free, writes, allows}
+use Rattle.meaning.specs.Store.{Rec, has_read}
 use Rattle.types.specs.declared.Lock.{Lock}
 use Rattle.types.specs.declared.Access.{Access}
 use Rattle.types.specs.declared.Counts.{Counts}
-use Rattle.tables.specs.Layout.{access_table, access_heads}
-use Rattle.tables.specs.Decode.{access_at}
+use Rattle.tables.specs.Decode.{slot_at}
 use Rattle.blocking.specs.Search.{owns_write}
 
 -- q is the least point of the set at or above p, or LAST + 1 where there is none
@@ -34,11 +32,6 @@ pub record GreatestTo (set : ℕ → Bool) (p q : ℕ) : Type 0 where
   pub upto : q ≤ p
   pub inside : 1 ≤ q → set q ≡ true
   pub greatest : (x : ℕ) → q < x → x ≤ p → set x ≡ true → ⊥
-
-pub record Lowered (set : ℕ → Bool) (p q : ℕ) : Type 0 where
-  pub upto : q ≤ p
-  pub passed : (x : ℕ) → q < x → x ≤ p → set x ≡ true → ⊥
-  pub still : q ≡ p → 1 ≤ q → set q ≡ true
 
 -- the first point after `from` that is under no own lock, or LAST + 1 where nothing was read
 unfoldable pub read_end : List Lock → Access → ℕ
@@ -72,9 +65,13 @@ up_from ls a low = cond a.written (first_under (writes ls) low) low
 abbrev pub down_from : List Lock → Access → ℕ → ℕ
 down_from ls a high = cond a.written (last_under (writes ls) high) high
 
+-- whether an access allows the point at a distance
+abbrev pub allows_at : (ℕ → ℕ) → List Rec → ℕ → ℕ → Access → Bool
+allows_at point rs k d a = allows rs k (point d) a
+
 -- the first j accesses of slot k, and: a is the next one
 unfoldable pub first_accesses : Counts → List ℕ → ℕ → ℕ → List Access
-first_accesses c w k j = map (access_at c w) (front (access_table c) w j (head_of (access_heads c) w k))
+first_accesses c w k j = take j (slot_at c w k).accesses
 
 pub record Next (c : Counts) (w : List ℕ) (k j : ℕ) (a : Access) : Type 0 where
   pub joined : first_accesses c w k (j + 1) ≡ first_accesses c w k j ++ (a ∷ [])

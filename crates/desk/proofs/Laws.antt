@@ -13,7 +13,7 @@ use borrow.Author.Tests.{le-leb, lt-leb, ltb-false}
 use Rattle.types.specs.Limits.{LAST}
 use Rattle.types.specs.Values.{Val}
 use Rattle.types.specs.Replies.{Reply, ok, edit, read, own, again, commit, nopoint, refusing, refused}
-use Rattle.types.specs.declared.Value.{Value}
+use Rattle.types.specs.Values.{Value}
 use Rattle.types.specs.declared.Extent.TheVariants.{Part}
 use Rattle.types.specs.declared.Finish.TheVariants.{Settle}
 use Rattle.types.specs.declared.Pick.TheVariants.{Named}

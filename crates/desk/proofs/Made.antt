@@ -12,7 +12,7 @@ use Rattle.types.specs.declared.Call.TheVariants as C
 use Rattle.types.specs.declared.Extent.TheVariants.{Part}
 use Rattle.types.specs.declared.Finish.TheVariants.{Settle}
 use Rattle.types.specs.declared.Pick.TheVariants.{Named}
-use Rattle.types.specs.declared.Value.{Value}
+use Rattle.types.specs.Values.{Value}
 use Rattle.meaning.specs.Calls.{act, act_by}
 use Rattle.meaning.specs.Contract.{Does}
 use Rattle.meaning.proofs.After.{lock_grants_or_refuses}

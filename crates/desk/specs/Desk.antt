@@ -1,6 +1,6 @@
 -- The planning desk (M-101): opening, read, write and commit, each as a program of calls of the store. The program is
 -- the definition: what a call answers and leaves is `play` of it (Programs of `layers`). Rests on Programs and Cases.
-use Rattle.std.specs.Prelude.{ℕ, suc, ◌+◌, ◌-◌, min, max, ◌≡◌, Bool, cond, ◌&&◌, List, [], leb, ltb}
+use Rattle.std.specs.Prelude.{ℕ, suc, ◌+◌, ◌-◌, min, max, ◌≡◌, Bool, cond, ◌&&◌, List, [], leb, ltb, Option, Some, None}
 use Rattle.types.specs.Limits.{LAST}
 use Rattle.types.specs.Values.{Val}
 use Rattle.types.specs.Replies.{Reply, refusing, refused, of_refusal}
@@ -15,8 +15,6 @@ use Rattle.layers.specs.Programs.{Program, answer, ask, look, Look, shown, slot,
 use Rattle.desk.specs.Replies.{Opening, opened, declined, emptied, After, says}
 use Rattle.desk.specs.Cases.{on_edit, on_locked, on_read, ends_edit, says_one}
 use Rattle.desk.specs.declared.Session.{Session}
-use Rattle.desk.specs.declared.Rest.{Rest}
-use Rattle.desk.specs.declared.Rest.TheVariants.{Left, Empty}
 
 -- Sessions.
 
@@ -47,8 +45,8 @@ abbrev pub within : Session → ℕ → ℕ → Session
 within s low high = between s (max s.low.0 low) (min s.high.0 high)
 
 -- the same as the code has it: nothing, or a session
-unfoldable pub cut_to : Session → ℕ → ℕ → Rest
-cut_to s low high = cond (ended (within s low high)) Empty (Left (within s low high))
+unfoldable pub cut_to : Session → ℕ → ℕ → Option Session
+cut_to s low high = cond (ended (within s low high)) None (Some (within s low high))
 
 -- "Commit names the earliest or the latest point of the interval left, by a setting"
 unfoldable pub named : Session → Point

@@ -1,7 +1,6 @@
 -- Sessions of the desk, computed: one that reads, writes and commits, one that a version empties, one that commits at
 -- its latest point. Rests on Desk.
-use Rattle.std.specs.Prelude.{ℕ, ◌≡◌, Bool, true, false, List, [], ◌∷◌}
-use Rattle.types.specs.declared.Value.TheVariants.{Never}
+use Rattle.std.specs.Prelude.{ℕ, ◌≡◌, Bool, true, false, List, [], ◌∷◌, None}
 use Rattle.types.specs.Replies as R
 use Rattle.meaning.specs.Store.{Store, fresh}
 use Rattle.layers.specs.Programs.{play}
@@ -41,7 +40,7 @@ calls = read 0 ∷ write 0 501 ∷ read 0 ∷ commit ∷ commit ∷ []
 abbrev pub PlainSession : Type 0
 PlainSession =
     Runs 4 4 false start calls 65
-    (told (R.read 0 8 Never) ∷ told R.ok ∷ told (R.own 501) ∷ told (R.commit 4) ∷ told (R.refusing 3 []) ∷ [])
+    (told (R.read 0 8 None) ∷ told R.ok ∷ told (R.own 501) ∷ told (R.commit 4) ∷ told (R.refusing 3 []) ∷ [])
 
 -- 4 alone opened after that: the version at 4 cuts the read to 3
 abbrev pub EmptiedSession : Type 0
@@ -53,4 +52,4 @@ EmptiedSession =
 abbrev pub LatestSession : Type 0
 LatestSession =
     Runs 4 4 true start calls 65
-    (told (R.read 0 8 Never) ∷ told R.ok ∷ told (R.own 501) ∷ told (R.commit 8) ∷ told (R.refusing 3 []) ∷ [])
+    (told (R.read 0 8 None) ∷ told R.ok ∷ told (R.own 501) ∷ told (R.commit 8) ∷ told (R.refusing 3 []) ∷ [])

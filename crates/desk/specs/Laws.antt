@@ -7,7 +7,7 @@ use Rattle.types.specs.Replies.{Reply, ok, edit, locked, read, own, again, commi
 use Rattle.types.specs.declared.Extent.TheVariants.{Part}
 use Rattle.types.specs.declared.Finish.TheVariants.{Settle}
 use Rattle.types.specs.declared.Pick.TheVariants.{Named}
-use Rattle.types.specs.declared.Value.{Value}
+use Rattle.types.specs.Values.{Value}
 use Rattle.meaning.specs.Store.{Store}
 use Rattle.meaning.specs.Outcomes.{Outcome, knows}
 use Rattle.meaning.specs.Edits.{beginning, writing}

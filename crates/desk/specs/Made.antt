@@ -10,7 +10,7 @@ use Rattle.types.specs.declared.Call.TheVariants as C
 use Rattle.types.specs.declared.Extent.TheVariants.{Part}
 use Rattle.types.specs.declared.Finish.TheVariants.{Settle}
 use Rattle.types.specs.declared.Pick.TheVariants.{Named}
-use Rattle.types.specs.declared.Value.{Value}
+use Rattle.types.specs.Values.{Value}
 use Rattle.layers.specs.Serial.{Layer}
 use Rattle.desk.specs.Replies.{Opening, opened, declined, Report, told, emptied, After}
 use Rattle.desk.specs.Desk.{ended, named, desk_open, DeskCall, read, write, commit, program}

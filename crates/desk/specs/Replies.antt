@@ -1,13 +1,11 @@
 -- What a desk is told, and which of it each case of the code's answers is. Rests on Replies of `types`.
-use Rattle.types.specs.Replies.{Reply, of_refusal, of_read, of_write, of_commit}
+use Rattle.std.specs.Prelude.{Option, Some, None, Result, Ok, Err}
+use Rattle.types.specs.Replies.{Reply, of_refusal, of_found, of_done, of_commit}
+use Rattle.types.specs.declared.Found.{Found}
+use Rattle.types.specs.declared.Point.{Point}
+use Rattle.types.specs.declared.Refusal.{Refusal}
 use Rattle.desk.specs.declared.Session.{Session}
-use Rattle.desk.specs.declared.OpenReply.{OpenReply}
-use Rattle.desk.specs.declared.OpenReply.TheVariants as Op
-use Rattle.desk.specs.declared.ReadReport.{ReadReport}
-use Rattle.desk.specs.declared.ReadReport.TheVariants as Rp
-use Rattle.desk.specs.declared.ReadStep.{ReadStep}
-use Rattle.desk.specs.declared.WriteStep.{WriteStep}
-use Rattle.desk.specs.declared.CommitStep.{CommitStep}
+use Rattle.desk.specs.declared.Step.{Step}
 
 -- what opening answers: the session, or the store's refusal
 pub data Opening : Type 0 where
@@ -28,23 +26,25 @@ pub record After : Type 0 where
 abbrev pub says : Session → Reply → After
 says s q = record { session = s; report = told q }
 
-abbrev pub of_open : OpenReply → Opening
-of_open (Op.Opened s) = opened s
-of_open (Op.Refused r) = declined (of_refusal r)
+abbrev pub of_open : Result Session Refusal → Opening
+of_open (Ok s) = opened s
+of_open (Err r) = declined (of_refusal r)
 
-abbrev pub of_report : ReadReport → Report
-of_report (Rp.Told r) = told (of_read r)
-of_report Rp.Emptied = emptied
+-- of a read: None is that nothing of the interval is left
+abbrev pub of_report : Result (Option Found) Refusal → Report
+of_report (Ok (Some f)) = told (of_found f)
+of_report (Ok None) = emptied
+of_report (Err r) = told (of_refusal r)
 
-abbrev pub reports : Session → ReadReport → After
+abbrev pub reports : Session → Result (Option Found) Refusal → After
 reports s r = record { session = s; report = of_report r }
 
 -- the answers of the functions by value
-abbrev pub of_read_step : ReadStep → After
-of_read_step r = reports r.session r.report
+abbrev pub of_read_step : Step (Result (Option Found) Refusal) → After
+of_read_step r = reports r.session r.reply
 
-abbrev pub of_write_step : WriteStep → After
-of_write_step r = says r.session (of_write r.reply)
+abbrev pub of_write_step : Step (Result (Unit {0}) Refusal) → After
+of_write_step r = says r.session (of_done r.reply)
 
-abbrev pub of_commit_step : CommitStep → After
+abbrev pub of_commit_step : Step (Result (Option Point) Refusal) → After
 of_commit_step r = says r.session (of_commit r.reply)

@@ -1,257 +1,173 @@
 // A call of the desk, or of the store, made and printed: what it told, the interval left after it and whether any word
-// of the store moved. `lending` lends the call its session. Rests on `desk` and `store` and, for the text of calls and
-// replies, on `lines`, `rendering` and `console`.
+// of the store moved. `lending` lends the call its session. Rests on `desk` and, for the text of calls and replies, on
+// `answers`, `rendering` and `console`.
+use answers::answer;
 use console::print_line;
-use desk::{CommitStep, OpenReply, ReadReport, ReadStep, Session, WriteStep};
-use fields::Parsed;
-use replies::Line;
+use desk::Session;
+use rendering::line_of_answer;
 use std::io;
-use types::BeginReply;
+use types::{Granted, Handle, Point, Refusal};
 
 // Every store here has as many words, whatever its counts.
 pub const WORDS: usize = 118;
 
 // The highest number that a word holds.
-pub const HIGHEST: u64 = 18446744073709551615;
+pub const HIGHEST: u64 = u64::MAX;
 
-// The text of intervals.
-
-// The interval; the session has ended if it is empty.
-fn print_interval(rt: &impl Print, s: Session) -> io::Result<()> {
-    let low = s.low;
-    let high = s.high;
-    let a = types::word_of_point(low);
-    let b = types::word_of_point(high);
-    rt.write_all(b"; ")?;
-    print!(rt; "{a}")?;
-    rt.write_all(b"..")?;
-    print!(rt; "{b}")?;
-    if b < a {
-        rt.write_all(b" ended")?;
-    }
-    Ok(())
-}
-
-// What no call may change: nothing is printed if it stayed.
-fn print_changed(rt: &impl Print, s: Session, after: Session) -> io::Result<()> {
-    let old = s.handle;
-    let new = after.handle;
-    if types::word_of_handle(old) != types::word_of_handle(new) {
-        rt.write_all(b"; another handle")?;
-    }
-    if s.width != after.width {
-        rt.write_all(b"; another width")?;
-    }
-    if s.latest != after.latest {
-        rt.write_all(b"; another setting")?;
-    }
-    Ok(())
-}
-
-fn print_session(rt: &impl Print, s: Session, after: Session) -> io::Result<()> {
-    print_interval(rt, after)?;
-    print_changed(rt, s, after)
-}
-
-// Whether a word of the store moved.
-fn print_moved(rt: &impl Print, a: &[u64; WORDS], b: &[u64; WORDS]) -> io::Result<()> {
-    if console::moved(a, b) {
-        rt.write_all(b"; words moved\n")?;
-    } else {
-        rt.write_all(b"; no word moved\n")?;
-    }
-    Ok(())
-}
-
-// Each call of the desk: the call, and what it told.
-
-pub fn print_open(rt: &impl Print, t: u64, width: u64, latest: bool) -> io::Result<()> {
-    rt.write_all(b"open ")?;
-    print!(rt; "{t}")?;
-    rt.write_all(b" ")?;
-    print!(rt; "{width}")?;
-    if latest {
-        rt.write_all(b" latest: ")?;
-    } else {
-        rt.write_all(b" earliest: ")?;
-    }
-    Ok(())
-}
-
-pub fn print_call(rt: &impl Print, s: Session, text: &[u8]) -> io::Result<()> {
-    let handle = s.handle;
-    print!(rt; "{}", types::word_of_handle(handle))?;
-    rt.write_all(text)
-}
-
-pub fn print_read(rt: &impl Print, s: Session, rec: u64) -> io::Result<()> {
-    print_call(rt, s, b" read ")?;
-    print!(rt; "{rec}")?;
-    rt.write_all(b": ")
-}
-
-pub fn print_write(rt: &impl Print, s: Session, rec: u64, value: u64) -> io::Result<()> {
-    print_call(rt, s, b" write ")?;
-    print!(rt; "{rec}")?;
-    rt.write_all(b" ")?;
-    print!(rt; "{value}")?;
-    rt.write_all(b": ")
+// A store, and where what its calls do is printed. The empty slice is the one of no words.
+#[derive(Drop)]
+pub struct Stage<'a, R, const N: usize> {
+    pub rt: &'a R,
+    pub words: [u64; N],
 }
 
 // A session that no opening gave. Its width is never looked at.
 pub fn made(handle: u64, low: u64, high: u64, latest: bool) -> Session {
     Session {
-        handle: types::handle_of_word(handle),
-        low: types::point_of_word(low),
-        high: types::point_of_word(high),
+        handle: Handle::from(handle),
+        low: Point::from(low),
+        high: Point::from(high),
         width: HIGHEST,
         latest,
     }
 }
 
-// The session, with the width and the setting asked for; an ended one of no edit if there is none.
-pub fn told_open(
-    rt: &impl Print,
-    reply: OpenReply,
-    width: u64,
-    latest: bool,
-) -> io::Result<Session> {
-    match reply {
-        OpenReply::Opened(s) => {
-            let handle = s.handle;
-            let low = s.low;
-            let high = s.high;
-            print_line(rt, value_replies::line_of_begin(BeginReply::Edit(handle)))?;
-            print_session(
-                rt,
-                Session {
-                    handle,
-                    low,
-                    high,
-                    width,
-                    latest,
-                },
-                s,
-            )?;
-            Ok(s)
+impl<R: Print, const N: usize> Stage<'_, R, N> {
+    pub fn title(&self, text: &str) -> io::Result<()> {
+        println!(self.rt; "-- {text}")
+    }
+
+    pub fn say(&self, text: &str) -> io::Result<()> {
+        print!(self.rt; "{text}")
+    }
+
+    // A call of the store itself, or a Format.
+    pub fn step(&mut self, line: &str) -> io::Result<()> {
+        print!(self.rt; "{line}: ")?;
+        print_line(self.rt, answer(&mut self.words, N, line.as_bytes()).line)?;
+        println!(self.rt)
+    }
+
+    fn print_reply(&self, reply: Result<Granted, Refusal>) -> io::Result<()> {
+        print_line(self.rt, line_of_answer(reply))
+    }
+
+    // The interval left, which is empty once the session has ended, and what no call may change: nothing is printed if
+    // it stayed.
+    fn print_session(&self, s: Session, after: Session) -> io::Result<()> {
+        let low = u64::from(after.low);
+        let high = u64::from(after.high);
+        print!(self.rt; "; {low}..{high}")?;
+        if high < low {
+            print!(self.rt; " ended")?;
         }
-        OpenReply::Refused(no) => {
-            print_line(rt, replies::line_of_refusal(no))?;
-            Ok(made(0, 1, 0, false))
+        if s.handle != after.handle {
+            print!(self.rt; "; another handle")?;
+        }
+        if s.width != after.width {
+            print!(self.rt; "; another width")?;
+        }
+        if s.latest != after.latest {
+            print!(self.rt; "; another setting")?;
+        }
+        Ok(())
+    }
+
+    // Whether a word moved, and the end of the line; the empty slice has none that could.
+    fn print_moved(&self, before: &[u64; N]) -> io::Result<()> {
+        if N > 0 {
+            let moved = if console::moved(before, &self.words) {
+                "words moved"
+            } else {
+                "no word moved"
+            };
+            print!(self.rt; "; {moved}")?;
+        }
+        println!(self.rt)
+    }
+
+    // Each call of the desk answers the session after it.
+
+    // The session is that asked for; an ended one of no edit if there is none.
+    pub fn open(&mut self, t: u64, width: u64, latest: bool) -> io::Result<Session> {
+        let pick = if latest { "latest" } else { "earliest" };
+        print!(self.rt; "open {t} {width} {pick}: ")?;
+        let before = self.words;
+        let reply = desk::open(&mut self.words, Point::from(t), width, latest);
+        match reply {
+            Ok(s) => {
+                self.print_reply(Ok(Granted::Edit(s.handle)))?;
+                let asked = Session { width, latest, ..s };
+                self.print_session(asked, s)?;
+            }
+            Err(no) => self.print_reply(Err(no))?,
+        }
+        self.print_moved(&before)?;
+        Ok(reply.unwrap_or(made(0, 1, 0, false)))
+    }
+
+    pub fn read(&mut self, s: Session, rec: u64) -> io::Result<Session> {
+        print!(self.rt; "{} read {rec}: ", u64::from(s.handle))?;
+        let before = self.words;
+        let step = crate::lending::read(&mut self.words, s, rec);
+        match step.reply {
+            Ok(Some(found)) => self.print_reply(Ok(Granted::Read(found)))?,
+            Ok(None) => print!(self.rt; "emptied")?,
+            Err(no) => self.print_reply(Err(no))?,
+        }
+        self.print_session(s, step.session)?;
+        self.print_moved(&before)?;
+        Ok(step.session)
+    }
+
+    pub fn write(&mut self, s: Session, rec: u64, value: u64) -> io::Result<Session> {
+        print!(self.rt; "{} write {rec} {value}: ", u64::from(s.handle))?;
+        let before = self.words;
+        let step = crate::lending::write(&mut self.words, s, rec, value);
+        self.print_reply(step.reply.map(|_| Granted::Done))?;
+        self.print_session(s, step.session)?;
+        self.print_moved(&before)?;
+        Ok(step.session)
+    }
+
+    pub fn commit(&mut self, s: Session) -> io::Result<Session> {
+        print!(self.rt; "{} commit: ", u64::from(s.handle))?;
+        let before = self.words;
+        let step = crate::lending::commit(&mut self.words, s);
+        self.print_reply(step.reply.map(Granted::Commit))?;
+        self.print_session(s, step.session)?;
+        self.print_moved(&before)?;
+        Ok(step.session)
+    }
+
+    // Every call with a session that each refuses, and so leaves as it was.
+    pub fn try_three(&mut self, s: Session) -> io::Result<()> {
+        self.read(s, 0)?;
+        self.write(s, 0, 7)?;
+        self.commit(s)?;
+        Ok(())
+    }
+
+    // The same store again, for a call that shall not change this one.
+    pub fn copy(&self) -> Self {
+        Stage {
+            rt: self.rt,
+            words: self.words,
         }
     }
-}
 
-pub fn told_read(rt: &impl Print, s: Session, step: ReadStep) -> io::Result<Session> {
-    let report = step.report;
-    match report {
-        ReadReport::Told(r) => print_line(rt, value_replies::line_of_read(r))?,
-        ReadReport::Emptied => {
-            rt.write_all(b"emptied")?;
-        }
+    // Each call on a copy of the words of its own.
+    pub fn try_each(&self, s: Session) -> io::Result<()> {
+        self.copy().read(s, 0)?;
+        self.copy().write(s, 0, 7)?;
+        self.copy().commit(s)?;
+        Ok(())
     }
-    let after = step.session;
-    print_session(rt, s, after)?;
-    Ok(after)
-}
 
-pub fn told_write(rt: &impl Print, s: Session, step: WriteStep) -> io::Result<Session> {
-    let reply = step.reply;
-    print_line(rt, replies::line_of_write(reply))?;
-    let after = step.session;
-    print_session(rt, s, after)?;
-    Ok(after)
-}
-
-pub fn told_commit(rt: &impl Print, s: Session, step: CommitStep) -> io::Result<Session> {
-    let reply = step.reply;
-    print_line(rt, value_replies::line_of_commit(reply))?;
-    let after = step.session;
-    print_session(rt, s, after)?;
-    Ok(after)
-}
-
-// The calls on a store. Each answers the session after it.
-
-pub fn open(
-    rt: &impl Print,
-    words: &mut [u64; WORDS],
-    t: u64,
-    width: u64,
-    latest: bool,
-) -> io::Result<Session> {
-    print_open(rt, t, width, latest)?;
-    let before = *words;
-    let reply = desk::open(words, types::point_of_word(t), width, latest);
-    let s = told_open(rt, reply, width, latest)?;
-    print_moved(rt, &before, words)?;
-    Ok(s)
-}
-
-pub fn read(
-    rt: &impl Print,
-    words: &mut [u64; WORDS],
-    s: Session,
-    rec: u64,
-) -> io::Result<Session> {
-    print_read(rt, s, rec)?;
-    let before = *words;
-    let step = crate::lending::read(words, s, rec);
-    let after = told_read(rt, s, step)?;
-    print_moved(rt, &before, words)?;
-    Ok(after)
-}
-
-pub fn write(
-    rt: &impl Print,
-    words: &mut [u64; WORDS],
-    s: Session,
-    rec: u64,
-    value: u64,
-) -> io::Result<Session> {
-    print_write(rt, s, rec, value)?;
-    let before = *words;
-    let step = crate::lending::write(words, s, rec, value);
-    let after = told_write(rt, s, step)?;
-    print_moved(rt, &before, words)?;
-    Ok(after)
-}
-
-pub fn commit(rt: &impl Print, words: &mut [u64; WORDS], s: Session) -> io::Result<Session> {
-    print_call(rt, s, b" commit: ")?;
-    let before = *words;
-    let step = crate::lending::commit(words, s);
-    let after = told_commit(rt, s, step)?;
-    print_moved(rt, &before, words)?;
-    Ok(after)
-}
-
-// Every call with a session that each refuses, and so leaves as it was.
-pub fn try_three(rt: &impl Print, words: &mut [u64; WORDS], s: Session) -> io::Result<()> {
-    read(rt, words, s, 0)?;
-    write(rt, words, s, 0, 7)?;
-    commit(rt, words, s)?;
-    Ok(())
-}
-
-// A call of the store itself, or a Format.
-pub fn step(rt: &impl Print, words: &mut [u64; WORDS], line: &[u8]) -> io::Result<()> {
-    rt.write_all(line)?;
-    rt.write_all(b": ")?;
-    let parsed = lines::parse(line);
-    match parsed {
-        Parsed::Call(call) => print_line(
-            rt,
-            rendering::line_of_answer(store::perform(words, call)),
-        )?,
-        Parsed::Format(c) => print_line(rt, replies::line_of_format(store::format(words, c)))?,
-        Parsed::Malformed => print_line(rt, Line::Malformed)?,
+    pub fn try_opens(&self) -> io::Result<()> {
+        self.copy().open(4, 4, false)?;
+        self.copy().open(0, 4, false)?;
+        self.copy().open(4, HIGHEST, true)?;
+        Ok(())
     }
-    rt.write_all(b"\n")
-}
-
-pub fn title(rt: &impl Print, text: &[u8]) -> io::Result<()> {
-    rt.write_all(b"-- ")?;
-    rt.write_all(text)?;
-    rt.write_all(b"\n")
 }

@@ -4,28 +4,29 @@ ghost use Rattle.layers.specs.Serial.{Layer};
 ghost use Rattle.desk.specs.Desk.{desk_read, desk_write, desk_commit};
 ghost use Rattle.desk.specs.Replies.{of_read_step, of_write_step, of_commit_step};
 
-use desk::{CommitStep, ReadStep, Session, WriteStep};
+use desk::{Session, Step};
+use types::{Found, Point, Refusal};
 
-pub fn read(words: &mut [u64], s: Session, rec: u64) -> ReadStep
+pub fn read(words: &mut [u64], s: Session, rec: u64) -> Step<Result<Option<Found>, Refusal>>
     ensures { Layer (desk_read s rec) words.old words.new (of_read_step result) }
 {
     let mut t = s;
-    let report = desk::read(words, &mut t, rec);
-    ReadStep { session: t, report }
+    let reply = desk::read(words, &mut t, rec);
+    Step { session: t, reply }
 }
 
-pub fn write(words: &mut [u64], s: Session, rec: u64, value: u64) -> WriteStep
+pub fn write(words: &mut [u64], s: Session, rec: u64, value: u64) -> Step<Result<(), Refusal>>
     ensures { Layer (desk_write s rec value) words.old words.new (of_write_step result) }
 {
     let mut t = s;
     let reply = desk::write(words, &mut t, rec, value);
-    WriteStep { session: t, reply }
+    Step { session: t, reply }
 }
 
-pub fn commit(words: &mut [u64], s: Session) -> CommitStep
+pub fn commit(words: &mut [u64], s: Session) -> Step<Result<Option<Point>, Refusal>>
     ensures { Layer (desk_commit s) words.old words.new (of_commit_step result) }
 {
     let mut t = s;
     let reply = desk::commit(words, &mut t);
-    CommitStep { session: t, reply }
+    Step { session: t, reply }
 }

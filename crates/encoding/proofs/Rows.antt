@@ -1,68 +1,29 @@
--- Rows of replies: what is told of a reply (`Tells` of `codes`), with 0 held before, is its row; and a row put after
--- the rows before it. Rests on Encoding.
-use Prim.Native.Nat.{ℕ, zero, suc, ◌+◌, ◌*◌, ◌≤◌}
+-- Rows of replies: a row copied into its place, and a row put after the rows before it. Rests on Encoding.
+use Prim.Native.Nat.{ℕ, zero, suc, ◌+◌, ◌-◌, ◌*◌, ◌≤◌}
 use mathlib.Core.Path.{◌≡◌, refl, sym, ap, ◌∙◌}
 use mathlib.Core.List.{List, [], ◌∷◌, ◌++◌, append-nil, append_assoc}
 use native.Mathlib.Omega.{arith}
 use native.Mathlib.Numerals.{add-one}
 use native.Mathlib.Nat.{zero-mul, suc-mul}
-use lib.ListN.{length, set, take, drop, replicate, length-append}
-use lib.Seq.{sets, sets-eq, length-sets, take_at, drop-append-add, drop-drop}
-use Rattle.types.specs.Replies.{Reply, ok, edit, locked, read, own, again, commit, nopoint, purged, point, refusing}
-use Rattle.types.specs.Replies.{at as at·of}
-use Rattle.codes.specs.Codes.{code_of, numbers_of, Tells}
-use Rattle.types.specs.declared.Answer.{Answer}
-use Rattle.types.specs.Replies.{of_answer}
-use Rattle.encoding.specs.Encoding.{NUMBERS, padded, row_of, rows_of}
+use lib.ListN.{length, take, drop, length-append, length-drop}
+use lib.Seq.{sets, sets-eq, length-take-le, length-sets, take_at, drop-append-add, drop-drop}
+use borrow.Rule.Slice.PartMut.{put_mid}
+use Rattle.types.specs.Replies.{Reply}
+use Rattle.codes.specs.Codes.{numbers_of}
+use Rattle.encoding.specs.Encoding.{padded, row_of, rows_of}
 
--- zeros are what is added
-zeros : (n k : ℕ) → padded n (replicate k 0) ≡ padded n []
-zeros zero k = refl
-zeros (suc n) zero = refl
-zeros (suc n) (suc k) = ap (λ xs. 0 ∷ xs) (zeros n k)
-
-numbers : (n k : ℕ) (q : Reply) → padded n (numbers_of q (replicate k 0)) ≡ padded n (numbers_of q [])
-numbers n k ok = zeros n k
-numbers n k (edit h) = refl
-numbers n k (locked low high) = refl
-numbers n k (read tr end v) = refl
-numbers n k (own v) = refl
-numbers n k (again tr v) = refl
-numbers n k (commit p) = refl
-numbers n k nopoint = zeros n k
-numbers n k (purged vs ls) = refl
-numbers n k (at·of p v) = refl
-numbers n k (point p) = refl
-numbers n k (refusing m more) = zeros n k
-
--- a reply told on k zeros, with 0 after its numbers
-pub told_row : (n k : ℕ) {q : Reply} {code : ℕ} {left row : List ℕ} → Tells q code (replicate k 0) left
-    → row ≡ code ∷ padded n left → row ≡ row_of n q
-told_row n k {q} {code} {left} t e =
-    e ∙ ap (λ x. x ∷ padded n left) t.number
-    ∙ ap (λ xs. code_of q ∷ xs) (ap (padded n) t.values ∙ numbers n k q)
-
--- an answer that is a case, with the row of that case
-pub of_case : {a b : Answer} {row : List ℕ} → a ≡ b → row ≡ row_of NUMBERS (of_answer b)
-    → row ≡ row_of NUMBERS (of_answer a)
-of_case e r = r ∙ ap (λ x. row_of NUMBERS (of_answer x)) (sym e)
-
--- numbers stored one after the other, from at + k on
-abbrev pub stored_from : List ℕ → ℕ → ℕ → List ℕ → List ℕ
-stored_from w at k [] = w
-stored_from w at k (x ∷ xs) = stored_from (set w (at + k) x) at (suc k) xs
-
-stored_from_lem : (w : List ℕ) (at k : ℕ) (xs : List ℕ) → stored_from w at k xs ≡ sets w (at + k) xs
-stored_from_lem w at k [] = refl
-stored_from_lem w at k (x ∷ xs) =
-    let e : at + suc k ≡ suc (at + k) = omega arith in
-    stored_from_lem (set w (at + k) x) at (suc k) xs ∙ ap (λ i. sets (set w (at + k) x) i xs) e
-
--- the stores of a row of any width
-pub stores : (w : List ℕ) (at a : ℕ) (xs : List ℕ) → stored_from (set w at a) at 1 xs ≡ sets w at (a ∷ xs)
-stores w at a xs =
-    let e : at + 1 ≡ suc at = omega arith in
-    stored_from_lem (set w at a) at 1 xs ∙ ap (λ i. sets (set w at a) i xs) e
+-- a row copied into the place of as many words
+pub put_stored : (at k : ℕ) (area row : List ℕ) {ys : List ℕ} → ys ≡ row → length ys ≡ length (take k (drop at area))
+    → at + k ≤ length area → put_mid at k area ys ≡ sets area at row
+put_stored at k area row {ys} e w h =
+    let n : length (drop at area) ≡ length area - at = length-drop at area in
+    let l : length (take k (drop at area)) ≡ k = length-take-le k (drop at area) (omega (arith, n, h)) in
+    let room : at + length row ≤ length area = omega (arith, ap length e, w, l, h) in
+    ap (λ xs. take at area ++ (xs ++ drop k (drop at area))) e
+    ∙ ap (λ xs. take at area ++ (row ++ xs))
+    (drop-drop k at area ∙ ap (λ n. drop (at + n) area) (sym l ∙ sym w ∙ ap length e))
+    ∙ sym (append_assoc (take at area) row (drop (at + length row) area))
+    ∙ sym (sets-eq row area at room)
 
 -- how wide rows are
 padded_wide : (n : ℕ) (xs : List ℕ) → length (padded n xs) ≡ n

@@ -8,7 +8,6 @@ use Rattle.types.specs.declared.Pick.TheVariants.{Earliest, Latest}
 use Rattle.types.specs.declared.Call.{Call}
 use Rattle.types.specs.declared.Call.TheVariants as C
 use Rattle.codes.specs.Codes.{code_of, numbers_of, extent_of, finish_of, named}
-use Rattle.encoding.specs.declared.Row.{Row}
 
 -- a call is its kind and five numbers, a reply its code and as many
 abbrev pub NUMBERS : ℕ
@@ -74,7 +73,3 @@ row_of n q = code_of q ∷ padded n (numbers_of q [])
 abbrev pub rows_of : ℕ → List Reply → List ℕ
 rows_of n [] = []
 rows_of n (q ∷ qs) = row_of n q ++ rows_of n qs
-
--- the words of a row by value
-abbrev pub words_of : Row → List ℕ
-words_of r = r.code ∷ r.first ∷ r.second ∷ r.third ∷ r.fourth ∷ r.fifth ∷ []

@@ -1,5 +1,6 @@
 -- Abort and Settle meet their contracts: one law for each return, from what the code has asked and made on the way.
 -- Rests on EndExits and on Acting of `calls`.
+use Rattle.std.specs.Prelude.{Result, Err}
 use Prim.Native.Nat.{ℕ}
 use mathlib.Core.Path.{◌≡◌, refl}
 use mathlib.Core.Bool.{true, false}
@@ -9,7 +10,10 @@ use Rattle.types.specs.declared.Counts.{Counts}
 use Rattle.types.specs.declared.Finish.{Finish}
 use Rattle.meaning.specs.Store.{Store, edit_at, in_use}
 use Rattle.types.specs.Numbers.{slot_of}
-use Rattle.types.specs.Replies.{Reply, ok, refused, refusing}
+use Rattle.types.specs.Replies.{Reply, ok, refused, refusing, number, details, of_refusal}
+use Rattle.types.specs.declared.Refusal.{Refusal}
+use Rattle.types.specs.declared.Refusal.TheVariants.{NoEdit, EditOpen}
+use Rattle.calls.specs.Checks.{open_slot}
 use Rattle.meaning.specs.Outcomes.{Outcome, replies, knows, is_open}
 use Rattle.meaning.specs.Ending.{finished, aborted, settled, aborting, settling}
 use Rattle.meaning.specs.Sound.{sound_store}
@@ -26,10 +30,11 @@ use Rattle.endings.proofs.EndExits
 -- any call: a refusal, and a reply that is none
 module _ (call : Store → Outcome) (keeps : (s : Store) → sound_store s ≡ true → sound_store (call s).store ≡ true)
     (w : List ℕ) (c : Counts) (P : sound_words (lent w) ≡ true) (E : c ≡ counts_of w) where
-  pub acts_refused : (n : ℕ) → call (decode_at c w) ≡ replies (decode_at c w) (refusing n [])
-      → Acts call (lent w) (lent w) (refusing n [])
-  acts_refused n e =
-      acts call keeps c w w (refusing n []) P E (makes_refused c w (call (decode_at c w)) n [] (ready w P c E).well e)
+  pub acts_refused : (x : Refusal) → call (decode_at c w) ≡ replies (decode_at c w) (of_refusal x)
+      → Acts call (lent w) (lent w) (of_refusal x)
+  acts_refused x e =
+      acts call keeps c w w (of_refusal x) P E
+      (makes_refused c w (call (decode_at c w)) (number x) (details x) (ready w P c E).well e)
 
   pub acts_done : (w' : List ℕ) (s : Store) (r : Reply) → Becomes c w' s → call (decode_at c w) ≡ replies s r
       → refused r ≡ false → Acts call (lent w) (lent w') r
@@ -41,14 +46,16 @@ module _ (w : List ℕ) (c : Counts) (P : sound_words (lent w) ≡ true) (E : c 
   s = decode_at c w
 
   pub settle_refused : knows s h ≡ false → Acts (settling h) (lent w) (lent w) (refusing 2 [])
-  settle_refused e = acts_refused (settling h) (settle_keeps h) w c P E 2 (EndExits.settle_no_edit s h e)
+  settle_refused e = acts_refused (settling h) (settle_keeps h) w c P E NoEdit (EndExits.settle_no_edit s h e)
 
-  pub abort_refused : (f : Finish) → knows s h ≡ false → Acts (aborting h f) (lent w) (lent w) (refusing 2 [])
-  abort_refused f e = acts_refused (aborting h f) (abort_keeps h f) w c P E 2 (EndExits.abort_no_edit s h f e)
+  pub abort_refused : (f : Finish) {q : Result ℕ Refusal} {x : Refusal} → q ≡ open_slot s h → q ≡ Err x
+      → Acts (aborting h f) (lent w) (lent w) (of_refusal x)
+  abort_refused f {q} {x} m e = acts_refused (aborting h f) (abort_keeps h f) w c P E x
+      (EndExits.abort_closed s h f m e)
 
   module _ (known : knows s h ≡ true) where
     pub settle_still_open : is_open s h ≡ true → Acts (settling h) (lent w) (lent w) (refusing 4 [])
-    settle_still_open e = acts_refused (settling h) (settle_keeps h) w c P E 4 (EndExits.settle_open s h known e)
+    settle_still_open e = acts_refused (settling h) (settle_keeps h) w c P E EditOpen (EndExits.settle_open s h known e)
 
     pub settle_needs : (k : ℕ) → k ≡ slot_of h → Ready c w × (in_use s.edits k ≡ true)
     settle_needs k e = (ready w P c E, rw e (knows_out s h known).in_use_lem)
@@ -58,9 +65,6 @@ module _ (w : List ℕ) (c : Counts) (P : sound_words (lent w) ≡ true) (E : c 
     settle_acts e k q w' B =
         acts_done (settling h) (settle_keeps h) w c P E w' (settled s (slot_of h)) ok (rw q at B)
         (EndExits.settle_done s h known e) refl
-
-    pub abort_too_late : (f : Finish) → is_open s h ≡ false → Acts (aborting h f) (lent w) (lent w) (refusing 3 [])
-    abort_too_late f e = acts_refused (aborting h f) (abort_keeps h f) w c P E 3 (EndExits.abort_ended s h f known e)
 
     pub open_needs : is_open s h ≡ true → (k : ℕ) → k ≡ slot_of h → Ready c w × ((edit_at s k).state ≡ OPEN)
     open_needs e k q = (ready w P c E, rw q (is_open_out s h e))

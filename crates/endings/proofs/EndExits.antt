@@ -1,29 +1,30 @@
 -- The ways that Abort and Settle end, one law for each return of the code. Rests on Verdicts of `calls`.
+use Rattle.std.specs.Prelude.{Result, Err}
 use Prim.Native.Nat.{ℕ}
 use mathlib.Core.Path.{◌≡◌, ◌∙◌}
 use mathlib.Core.Bool.{true, false, not}
 use mathlib.Core.List.{[]}
 use Rattle.meaning.specs.Store.{Store}
 use Rattle.types.specs.Numbers.{slot_of}
-use Rattle.types.specs.Replies.{ok, refusing}
+use Rattle.types.specs.Replies.{ok, refusing, of_refusal}
+use Rattle.types.specs.declared.Refusal.{Refusal}
 use Rattle.meaning.specs.Outcomes.{Outcome, replies, Verdict, pass, needs, knows, is_open}
 use Rattle.meaning.specs.Ending.{finished, aborted, settled, abort_checks, aborting, aborting_by, settle_checks}
 use Rattle.meaning.specs.Ending.{settling}
 use Rattle.meaning.specs.Ending.{settling_by}
 use Rattle.types.specs.declared.Finish.{Finish}
-use Rattle.calls.proofs.Verdicts.{needs_fails, needs_holds, no_edit_lem, edit_ended, edit_open}
+use Rattle.calls.proofs.Verdicts.{needs_fails, needs_holds, edit_open}
+use Rattle.calls.specs.Checks.{open_slot}
+use Rattle.calls.proofs.Checks.{open_refused}
 
 module _ (s : Store) (h : ℕ) (f : Finish) where
   abbrev abort_end : Outcome
   abort_end = replies (finished f (aborted s (slot_of h)) (slot_of h)) ok
 
-  pub abort_no_edit : knows s h ≡ false → aborting h f s ≡ replies s (refusing 2 [])
+  pub abort_closed : {q : Result ℕ Refusal} {x : Refusal} → q ≡ open_slot s h → q ≡ Err x
+      → aborting h f s ≡ replies s (of_refusal x)
   unfolding aborting_by abort_checks
-  abort_no_edit e = no_edit_lem s abort_end h pass e
-
-  pub abort_ended : knows s h ≡ true → is_open s h ≡ false → aborting h f s ≡ replies s (refusing 3 [])
-  unfolding aborting_by abort_checks
-  abort_ended e g = edit_ended s abort_end h pass e g
+  abort_closed m e = open_refused s h m pass abort_end e
 
   pub abort_done : knows s h ≡ true → is_open s h ≡ true
       → aborting h f s ≡ replies (finished f (aborted s (slot_of h)) (slot_of h)) ok

@@ -8,7 +8,7 @@ ghost use Rattle.std.specs.Prelude.{◌≡◌, true, ◌∷◌, [], ◌+◌, ◌
 ghost use Rattle.chains.specs.Walk.{IsRow};
 ghost use Rattle.types.specs.Limits.{OPEN, COMMITTED};
 ghost use Rattle.meaning.specs.Store.{edit_at, in_use, locks_used};
-ghost use Rattle.types.specs.Replies.{of_abort, of_settle};
+ghost use Rattle.types.specs.Replies.{of_done};
 ghost use Rattle.meaning.specs.Ending.{finished, aborted, settled, aborting, settling};
 ghost use Rattle.meaning.specs.Points.{leave_settled};
 ghost use Rattle.tables.specs.Layout.{MODES};
@@ -20,9 +20,8 @@ ghost use Rattle.index.specs.Index.{Indexed};
 ghost use Rattle.endings.specs.Steps.{changed, along, left_rec, left_by, freed_all, mark, LeaveNeed};
 ghost use Rattle.endings.specs.Frees.{Freed};
 
-use types::{
-    ABORTED, AbortReply, COMMITTED, Counts, Finish, Handle, READ, Refusal, SettleReply, WRITE,
-};
+use chains::Cursor;
+use types::{ABORTED, COMMITTED, Counts, Finish, Handle, READ, Refusal, WRITE};
 
 // Settle.
 
@@ -55,14 +54,10 @@ fn leave_rows(w: &mut [u64], c: Counts, k: usize, t: u64)
     ensures { Becomes c w.new
         (along (left_rec t) (edit_at (decode_at c w.old) k).accesses (decode_at c w.old)) }
 {
-    let n = c.accesses;
-    let mut cur = tables::first_access(w, c, k);
-    let mut left = n;
-    while chains::more(n, left, cur) {
-        let nxt = tables::next_access(w, c, cur);
-        leave_row(w, c, cur, t);
-        cur = nxt;
-        left -= 1;
+    let table = tables::access_table(c);
+    let mut walk = Cursor::new(table, tables::first_access(w, c, k));
+    while let Some(i) = walk.step(w, table) {
+        leave_row(w, c, i, t);
     }
 }
 
@@ -83,11 +78,8 @@ fn free_locks(w: &mut [u64], c: Counts, k: usize, ix: &[u16])
     requires { Well c w.old × IsRow c.edits k × Indexed (decode_at c w.old) ix.now }
     ensures { Becomes c w.new (freed_all k (decode_at c w.old)) }
 {
-    let n = index::turns(ix, k, c.records);
-    let mut i = 0;
-    while i < n {
+    for i in 0..index::turns(ix, k, c.records) {
         free_turn(w, c, k, index::turn(ix, k, i), ix);
-        i += 1;
     }
 }
 
@@ -125,19 +117,17 @@ pub fn finish_slot(w: &mut [u64], c: Counts, k: usize, finish: Finish, ix: &[u16
     }
 }
 
-pub fn settle(w: &mut [u64], h: Handle, ix: &[u16]) -> SettleReply
+pub fn settle(w: &mut [u64], h: Handle, ix: &[u16]) -> Result<(), Refusal>
     requires { (sound_words (lent w.old) ≡ true) × Indexed (decode (lent w.old)) ix.now }
-    ensures { Acts (settling h.0) (lent w.old) (lent w.new) (of_settle result) }
+    ensures { Acts (settling h.0) (lent w.old) (lent w.new) (of_done result) }
 {
     let c = tables::counts_of(w);
-    if !lookups::known(w, c, h) {
-        return SettleReply::Refused(Refusal::NoEdit);
-    }
+    let k = calls::known_slot(w, c, h)?;
     if lookups::is_open(w, c, h) {
-        return SettleReply::Refused(Refusal::EditOpen);
+        return Err(Refusal::EditOpen);
     }
-    settle_slot(w, c, calls::slot(h), ix);
-    SettleReply::Done
+    settle_slot(w, c, k, ix);
+    Ok(())
 }
 
 // Abort, and Commit of an edit without a common point.
@@ -150,17 +140,12 @@ pub fn end_aborted(w: &mut [u64], c: Counts, k: usize, finish: Finish, ix: &[u16
     finish_slot(w, c, k, finish, ix);
 }
 
-pub fn abort(w: &mut [u64], h: Handle, finish: Finish, ix: &[u16]) -> AbortReply
+pub fn abort(w: &mut [u64], h: Handle, finish: Finish, ix: &[u16]) -> Result<(), Refusal>
     requires { (sound_words (lent w.old) ≡ true) × Indexed (decode (lent w.old)) ix.now }
-    ensures { Acts (aborting h.0 finish) (lent w.old) (lent w.new) (of_abort result) }
+    ensures { Acts (aborting h.0 finish) (lent w.old) (lent w.new) (of_done result) }
 {
     let c = tables::counts_of(w);
-    if !lookups::known(w, c, h) {
-        return AbortReply::Refused(Refusal::NoEdit);
-    }
-    if !lookups::is_open(w, c, h) {
-        return AbortReply::Refused(Refusal::EditEnded);
-    }
-    end_aborted(w, c, calls::slot(h), finish, ix);
-    AbortReply::Done
+    let k = calls::open_slot(w, c, h)?;
+    end_aborted(w, c, k, finish, ix);
+    Ok(())
 }

@@ -12,7 +12,7 @@ ghost use Rattle.store.specs.Promises.{Shows};
 ghost use Rattle.codes.specs.Codes.{Answers, extent_of, finish_of, named};
 ghost use Rattle.opened.specs.Opened.{Opened, OpensWith, Within};
 
-use types::{Pick, Refusal};
+use types::{Handle, Pick, Point, Refusal};
 
 // Opens a session: the words are checked, and the index is one that knows nothing yet.
 #[unsafe(no_mangle)]
@@ -48,8 +48,8 @@ pub extern "C" fn zohetiwa_in_write(
     ensures { Answers (Within (writing handle rec value)
         words.old words.new index.new) result [] [] }
 {
-    let reply = opened::write(words, index, types::handle_of_word(handle), rec, value);
-    verdicts::write(reply)
+    let reply = opened::write(words, index, Handle::from(handle), rec, value);
+    verdicts::done(reply)
 }
 
 #[unsafe(no_mangle)]
@@ -70,9 +70,9 @@ pub extern "C" fn zohetiwa_in_lock(
         (first.old ∷ last.old ∷ [])
         (first.new ∷ last.new ∷ []) }
 {
-    let h = types::handle_of_word(handle);
-    let from = types::point_of_word(low);
-    let to = types::point_of_word(high);
+    let h = Handle::from(handle);
+    let from = Point::from(low);
+    let to = Point::from(high);
     let reply = opened::lock(words, index, h, rec, from, to, codes::extent(part));
     telling::lock(reply, first, last)
 }
@@ -97,8 +97,8 @@ pub extern "C" fn zohetiwa_in_read(
         (kind.old ∷ tr.old ∷ end.old ∷ written.old ∷ value.old ∷ [])
         (kind.new ∷ tr.new ∷ end.new ∷ written.new ∷ value.new ∷ []) }
 {
-    let h = types::handle_of_word(handle);
-    let upto = types::point_of_word(m);
+    let h = Handle::from(handle);
+    let upto = Point::from(m);
     let reply = opened::read(words, index, h, rec, upto, codes::extent(part));
     telling::read(reply, kind, tr, end, written, value)
 }
@@ -120,7 +120,7 @@ pub extern "C" fn zohetiwa_in_commit_earliest(
     let reply = opened::commit(
         words,
         index,
-        types::handle_of_word(handle),
+        Handle::from(handle),
         Pick::Earliest,
         codes::finish(keep),
     );
@@ -144,7 +144,7 @@ pub extern "C" fn zohetiwa_in_commit_latest(
     let reply = opened::commit(
         words,
         index,
-        types::handle_of_word(handle),
+        Handle::from(handle),
         Pick::Latest,
         codes::finish(keep),
     );
@@ -166,8 +166,8 @@ pub extern "C" fn zohetiwa_in_commit_at(
         (point.old ∷ [])
         (point.new ∷ []) }
 {
-    let h = types::handle_of_word(handle);
-    let pick = Pick::Named(types::point_of_word(at));
+    let h = Handle::from(handle);
+    let pick = Pick::Named(Point::from(at));
     let reply = opened::commit(words, index, h, pick, codes::finish(keep));
     telling::commit(reply, point)
 }
@@ -183,13 +183,8 @@ pub extern "C" fn zohetiwa_in_abort(
     ensures { Answers (Within (aborting handle (finish_of keep))
         words.old words.new index.new) result [] [] }
 {
-    let reply = opened::abort(
-        words,
-        index,
-        types::handle_of_word(handle),
-        codes::finish(keep),
-    );
-    verdicts::abort(reply)
+    let reply = opened::abort(words, index, Handle::from(handle), codes::finish(keep));
+    verdicts::done(reply)
 }
 
 #[unsafe(no_mangle)]
@@ -198,8 +193,8 @@ pub extern "C" fn zohetiwa_in_settle(words: &mut [u64], index: &mut [u16], handl
     ensures { Answers (Within (settling handle)
         words.old words.new index.new) result [] [] }
 {
-    let reply = opened::settle(words, index, types::handle_of_word(handle));
-    verdicts::settle(reply)
+    let reply = opened::settle(words, index, Handle::from(handle));
+    verdicts::done(reply)
 }
 
 #[unsafe(no_mangle)]
@@ -216,7 +211,7 @@ pub extern "C" fn zohetiwa_in_purge(
         (versions.old ∷ locks.old ∷ [])
         (versions.new ∷ locks.new ∷ []) }
 {
-    let reply = opened::purge(words, index, rec, types::point_of_word(b));
+    let reply = opened::purge(words, index, rec, Point::from(b));
     telling::purge(reply, versions, locks)
 }
 
@@ -234,6 +229,6 @@ pub extern "C" fn zohetiwa_in_view(
         (point.old ∷ written.old ∷ value.old ∷ [])
         (point.new ∷ written.new ∷ value.new ∷ []) }
 {
-    let reply = opened::view(words, rec, types::point_of_word(p));
+    let reply = opened::view(words, rec, Point::from(p));
     telling::view(reply, point, written, value)
 }

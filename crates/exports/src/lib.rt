@@ -22,7 +22,7 @@ ghost use Rattle.sessions.specs.Sessions.{setting_of, session_of, Opens, Reports
 
 mod in_session;
 
-use types::{Counts, Pick};
+use types::{Counts, Handle, Pick, Point, Reading, Seat};
 
 // Point: the only call that needs no store.
 #[unsafe(no_mangle)]
@@ -31,7 +31,7 @@ pub extern "C" fn zohetiwa_point(clock: u64, seat: u64, point: &mut u64) -> u64
         (point.old ∷ [])
         (point.new ∷ []) }
 {
-    let reply = store::point(types::reading_of(clock), types::seat_of(seat));
+    let reply = store::point(Reading::from(clock), Seat::from(seat));
     telling::point(reply, point)
 }
 
@@ -52,14 +52,14 @@ pub extern "C" fn zohetiwa_format(
     let reply = store::format(
         words,
         Counts {
-            records: records,
-            edits: edits,
-            versions: versions,
-            locks: locks,
-            accesses: accesses,
+            records,
+            edits,
+            versions,
+            locks,
+            accesses,
         },
     );
-    verdicts::format(reply)
+    verdicts::done(reply)
 }
 
 // Begin: the handle of the edit.
@@ -78,8 +78,8 @@ pub extern "C" fn zohetiwa_begin(words: &mut [u64], handle: &mut u64) -> u64
 pub extern "C" fn zohetiwa_write(words: &mut [u64], handle: u64, rec: u64, value: u64) -> u64
     ensures { Answers (Does (writing handle rec value) words.old words.new) result [] [] }
 {
-    let reply = store::write(words, types::handle_of_word(handle), rec, value);
-    verdicts::write(reply)
+    let reply = store::write(words, Handle::from(handle), rec, value);
+    verdicts::done(reply)
 }
 
 // Lock: the first and the last point locked.
@@ -98,9 +98,9 @@ pub extern "C" fn zohetiwa_lock(
         (first.old ∷ last.old ∷ [])
         (first.new ∷ last.new ∷ []) }
 {
-    let h = types::handle_of_word(handle);
-    let from = types::point_of_word(low);
-    let to = types::point_of_word(high);
+    let h = Handle::from(handle);
+    let from = Point::from(low);
+    let to = Point::from(high);
     let reply = store::lock(words, h, rec, from, to, codes::extent(part));
     telling::lock(reply, first, last)
 }
@@ -124,8 +124,8 @@ pub extern "C" fn zohetiwa_read(
         (kind.old ∷ tr.old ∷ end.old ∷ written.old ∷ value.old ∷ [])
         (kind.new ∷ tr.new ∷ end.new ∷ written.new ∷ value.new ∷ []) }
 {
-    let h = types::handle_of_word(handle);
-    let upto = types::point_of_word(m);
+    let h = Handle::from(handle);
+    let upto = Point::from(m);
     let reply = store::read(words, h, rec, upto, codes::extent(part));
     telling::read(reply, kind, tr, end, written, value)
 }
@@ -144,7 +144,7 @@ pub extern "C" fn zohetiwa_commit_earliest(
 {
     let reply = store::commit(
         words,
-        types::handle_of_word(handle),
+        Handle::from(handle),
         Pick::Earliest,
         codes::finish(keep),
     );
@@ -164,7 +164,7 @@ pub extern "C" fn zohetiwa_commit_latest(
 {
     let reply = store::commit(
         words,
-        types::handle_of_word(handle),
+        Handle::from(handle),
         Pick::Latest,
         codes::finish(keep),
     );
@@ -183,8 +183,8 @@ pub extern "C" fn zohetiwa_commit_at(
         (point.old ∷ [])
         (point.new ∷ []) }
 {
-    let h = types::handle_of_word(handle);
-    let pick = Pick::Named(types::point_of_word(at));
+    let h = Handle::from(handle);
+    let pick = Pick::Named(Point::from(at));
     let reply = store::commit(words, h, pick, codes::finish(keep));
     telling::commit(reply, point)
 }
@@ -194,8 +194,8 @@ pub extern "C" fn zohetiwa_commit_at(
 pub extern "C" fn zohetiwa_abort(words: &mut [u64], handle: u64, keep: u64) -> u64
     ensures { Answers (Does (aborting handle (finish_of keep)) words.old words.new) result [] [] }
 {
-    let reply = store::abort(words, types::handle_of_word(handle), codes::finish(keep));
-    verdicts::abort(reply)
+    let reply = store::abort(words, Handle::from(handle), codes::finish(keep));
+    verdicts::done(reply)
 }
 
 // Settle: no further values.
@@ -203,8 +203,8 @@ pub extern "C" fn zohetiwa_abort(words: &mut [u64], handle: u64, keep: u64) -> u
 pub extern "C" fn zohetiwa_settle(words: &mut [u64], handle: u64) -> u64
     ensures { Answers (Does (settling handle) words.old words.new) result [] [] }
 {
-    let reply = store::settle(words, types::handle_of_word(handle));
-    verdicts::settle(reply)
+    let reply = store::settle(words, Handle::from(handle));
+    verdicts::done(reply)
 }
 
 // Purge: the version rows and the lock rows freed.
@@ -220,7 +220,7 @@ pub extern "C" fn zohetiwa_purge(
         (versions.old ∷ locks.old ∷ [])
         (versions.new ∷ locks.new ∷ []) }
 {
-    let reply = store::purge(words, rec, types::point_of_word(b));
+    let reply = store::purge(words, rec, Point::from(b));
     telling::purge(reply, versions, locks)
 }
 
@@ -238,7 +238,7 @@ pub extern "C" fn zohetiwa_view(
         (point.old ∷ written.old ∷ value.old ∷ [])
         (point.new ∷ written.new ∷ value.new ∷ []) }
 {
-    let reply = store::view(words, rec, types::point_of_word(p));
+    let reply = store::view(words, rec, Point::from(p));
     telling::view(reply, point, written, value)
 }
 
@@ -274,12 +274,7 @@ pub extern "C" fn zohetiwa_desk_open(
     ensures { Opens (Layer (desk_open t width (setting_of latest)) words.old words.new) result
         session.old session.new }
 {
-    let reply = desk::open(
-        words,
-        types::point_of_word(t),
-        width,
-        sessions::setting(latest),
-    );
+    let reply = desk::open(words, Point::from(t), width, sessions::setting(latest));
     sessions::open(reply, session)
 }
 

@@ -1,9 +1,16 @@
 -- A script line as fields, and what a field may be: a number, or one letter. "one call a line, numbers in decimal,
--- single spaces". Rests on the type Parsed of src/lib.rt.
-use Rattle.std.specs.Prelude.{ℕ, ◌+◌, ◌-◌, ◌*◌, Bool, true, false, cond, ◌&&◌, List, [], ◌∷◌, leb, eqb}
+-- single spaces". Rests on the type Command of src/lib.rt.
+use Rattle.std.specs.Prelude.{ℕ, ◌+◌, ◌-◌, ◌*◌, Bool, true, false, cond, ◌&&◌, List, [], ◌∷◌, leb, eqb, Option, None}
 use Rattle.texts.specs.Text.{SPACE, LARGEST}
-use Rattle.fields.specs.declared.Parsed.{Parsed}
-use Rattle.fields.specs.declared.Parsed.TheVariants.{Malformed}
+use Rattle.fields.specs.declared.Command.{Command}
+
+-- the command that a line is, if it is one
+abbrev pub Parsed : Type 0
+Parsed = Option Command
+
+-- what a line of another form is
+abbrev pub Malformed : Parsed
+Malformed = None
 
 -- the bytes before the first space, and the fields after it: two spaces in a row have an empty field between them
 unfoldable pub first : List ℕ → List ℕ

@@ -2,9 +2,7 @@
 -- commit: "E, L or point". Rests on Fields and the crate `types`.
 use Rattle.std.specs.Prelude.{ℕ, cond, List, eqb}
 use Prim.Native.Char.{code}
-use Rattle.fields.specs.Fields.{number, letter_or}
-use Rattle.fields.specs.declared.Parsed.{Parsed}
-use Rattle.fields.specs.declared.Parsed.TheVariants as P
+use Rattle.fields.specs.Fields.{Parsed, Malformed, number, letter_or}
 use Rattle.types.specs.declared.Handle.{Handle}
 use Rattle.types.specs.declared.Point.{Point}
 use Rattle.types.specs.declared.Extent.{Extent}
@@ -34,19 +32,19 @@ abbrev pub point : ℕ → Point
 point n = record { 0 = n }
 
 abbrev pub letter : Fields → (ℕ → Fields → Parsed) → Parsed
-letter fs next = letter_or fs P.Malformed next
+letter fs next = letter_or fs Malformed next
 
 -- the flag A or P
 unfoldable pub extent : Fields → ExtentNext → Parsed
 extent fs next =
     letter fs
-    (λ b rest. cond (eqb b (code "A")) (next X.All rest) (cond (eqb b (code "P")) (next X.Part rest) P.Malformed))
+    (λ b rest. cond (eqb b (code "A")) (next X.All rest) (cond (eqb b (code "P")) (next X.Part rest) Malformed))
 
 -- the flag S or K
 unfoldable pub finish : Fields → FinishNext → Parsed
 finish fs next =
     letter fs
-    (λ b rest. cond (eqb b (code "S")) (next F.Settle rest) (cond (eqb b (code "K")) (next F.Keep rest) P.Malformed))
+    (λ b rest. cond (eqb b (code "S")) (next F.Settle rest) (cond (eqb b (code "K")) (next F.Keep rest) Malformed))
 
 abbrev pub named : Fields → PickNext → Parsed
 named fs next = number fs (λ p rest. next (K.Named (point p)) rest)

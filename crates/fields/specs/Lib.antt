@@ -1,6 +1,6 @@
--- The fields of a script line, the kinds of field that calls have, where the code stands in a line, and laws. Rests on
+-- The fields of a script line, the kinds of field that calls have, what reading one promises, and laws. Rests on
 -- Text of the crate `texts`.
 pub mod Fields
 pub mod Kinds
-pub mod Cursor
+pub mod Reads
 pub mod Laws

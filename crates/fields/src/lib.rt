@@ -1,196 +1,163 @@
-// Fields of a line, read at a position: a number, one letter, a flag, a commit's point. Each says what follows from the
-// field it found, and where the next one begins. Each function is proved against specs/. Rests on the crates `types`
-// and `texts`.
+// The fields of a line, read one after another: a number, one letter, a flag, a commit's point. Each read says what
+// follows from the field that it found and from the fields after it; where the next field is of another kind, or none
+// is left, it gives `None`. Each function is proved against specs/. Rests on the crates `types` and `texts`.
 #![tactic(auto)]
 
-ghost use Rattle.std.specs.Prelude.{◌≡◌, List, ℕ, ◌+◌, ◌*◌, get_or, leb};
-ghost use Rattle.fields.specs.declared.Parsed.{Parsed};
-ghost use Rattle.texts.specs.Text.{LARGEST};
-ghost use Rattle.fields.specs.Fields.{number as number·of, letter_or};
+ghost use Rattle.std.specs.Prelude.{◌≡◌, ◌<◌, ◌∷◌, [], ℕ, List, length, Some, IfSome, MatchOption};
+ghost use Rattle.fields.specs.Fields.{Parsed, fields, number as number·of, letter_or, done as done·of};
 ghost use Rattle.fields.specs.Kinds.{ExtentNext, FinishNext, PickNext, extent as extent·of, finish as finish·of};
-ghost use Rattle.fields.specs.Kinds.{pick as pick·of, named as named·of};
-ghost use Rattle.fields.specs.Cursor.{left, after_number, after_letter, digit_of, ends_at, after_extent, after_finish};
-ghost use Rattle.fields.specs.Cursor.{after_pick};
+ghost use Rattle.fields.specs.Kinds.{pick as pick·of};
+ghost use Rattle.fields.specs.Reads.{after, after_letter, number_of, letter_of, is_space};
+ghost use Rattle.std.specs.List.{position_from};
 
+use std::marker::Model;
 use texts::SPACE;
-use types::{Call, Counts, Extent, Finish, Pick};
+use types::{Call, Counts, Extent, Finish, Pick, Point};
 
-const LARGEST: u64 = 18446744073709551615;
-
-// What a line is. The contract of each function that reads a field says which of these follows from the field.
+// What a line asks for. A malformed line asks for nothing: it is no command.
 #[derive(Clone, Copy)]
-pub enum Parsed {
+pub enum Command {
     Format(Counts),
     Call(Call),
-    Malformed,
 }
 
-// A number found, and where the next field begins.
-#[derive(Clone, Copy)]
-pub enum FoundNumber {
-    At(u64, usize),
-    Missing,
+// The fields of a line that are not read yet: those of the bytes after the last space that was passed, or none. After a
+// `None` the line is malformed, so no promise says which fields are left then.
+#[derive(Drop)]
+pub struct Fields<'a> {
+    rest: Option<&'a [u8]>,
 }
 
-// A field of one byte found, and where the next field begins.
-#[derive(Clone, Copy)]
-pub enum FoundLetter {
-    At(u8, usize),
-    Missing,
+impl<'a> Model for Fields<'a> {
+    ghost use Rattle.std.specs.Prelude.{ℕ, List};
+    ghost use Rattle.fields.specs.Reads.{fields_of_rest};
+
+    ghost Value = { List (List ℕ) };
+
+    ghost view = { λ f. fields_of_rest f.rest };
 }
 
-// A flag or a commit's point found, and where the next field begins.
-#[derive(Clone, Copy)]
-pub enum FoundExtent {
-    At(Extent, usize),
-    Missing,
-}
-
-#[derive(Clone, Copy)]
-pub enum FoundFinish {
-    At(Finish, usize),
-    Missing,
-}
-
-#[derive(Clone, Copy)]
-pub enum FoundPick {
-    At(Pick, usize),
-    Missing,
-}
-
-// The value of the digit at i, or 10 where there is none.
-fn digit(line: &[u8], i: usize) -> u64
-    ensures { result ≡ digit_of (get_or line.now i 0) }
+// Where the first space lies.
+fn first_space(bytes: &[u8]) -> Option<usize>
+    ensures value { result ≡ position_from is_space 0 bytes.now }
+    ensures inside { IfSome result (λ i. i < length bytes.now) }
 {
-    if line.len() <= i {
-        return 10;
-    }
-    let b = line[i];
-    if b < 48 {
-        return 10;
-    }
-    if 57 < b {
-        return 10;
-    }
-    b as u64 - 48
+    bytes.iter().position(|b| *b == SPACE)
 }
 
-// A field that reaches i ends there: the line does, or a space follows.
-fn ends(line: &[u8], i: usize) -> bool
-    ensures { result ≡ ends_at line.now i }
+// The number that a field is.
+#[tactic(auto, using(crate::proofs::Digits::number_steps))]
+fn number_in(field: &[u8]) -> Option<u64>
+    ensures { result ≡ number_of field.now }
 {
-    if line.len() <= i {
-        return true;
-    }
-    line[i] == SPACE
-}
-
-// A digit more keeps the number at most 2^64 - 1.
-fn room(n: u64, d: u64) -> bool
-    ensures { result ≡ leb (n * 10 + d) LARGEST }
-{
-    if LARGEST / 10 < n {
-        return false;
-    }
-    d <= LARGEST - n * 10
-}
-
-// The number that is the field at this position.
-pub fn number(line: &[u8], at: usize) -> FoundNumber
-    ensures { (next : ℕ → List (List ℕ) → Parsed)
-        → number·of (left line.now at) next ≡ after_number line.now result next }
-{
-    let mut d = digit(line, at);
-    if 9 < d {
-        return FoundNumber::Missing;
+    if field.is_empty() {
+        return None;
     }
     let mut n: u64 = 0;
-    let mut i = at;
-    while d < 10 {
-        if !room(n, d) {
-            return FoundNumber::Missing;
+    for b in field {
+        if !b.is_ascii_digit() {
+            return None;
         }
-        n = n * 10 + d;
-        i += 1;
-        d = digit(line, i);
+        n = n.checked_mul(10)?.checked_add(u64::from(*b - b'0'))?;
     }
-    if ends(line, i) {
-        FoundNumber::At(n, i + 1)
-    } else {
-        FoundNumber::Missing
+    Some(n)
+}
+
+// The one byte that a field is.
+fn letter_in(field: &[u8]) -> Option<u8>
+    ensures { result ≡ letter_of field.now }
+{
+    match field {
+        [b] => Some(*b),
+        _ => None,
     }
 }
 
-// The one byte that is the field at this position.
-pub fn letter(line: &[u8], at: usize) -> FoundLetter
-    ensures { (other : Parsed) (next : ℕ → List (List ℕ) → Parsed)
-        → letter_or (left line.now at) other next ≡ after_letter line.now result other next }
-{
-    if ends(line, at) {
-        return FoundLetter::Missing;
+impl<'a> Fields<'a> {
+    // All the fields of a line: an empty line has one, and it is empty.
+    pub fn new(line: &'a [u8]) -> Self
+        ensures { result ≡ fields line.now }
+    {
+        Fields { rest: Some(line) }
     }
-    let b = line[at];
-    if ends(line, at + 1) {
-        FoundLetter::At(b, at + 2)
-    } else {
-        FoundLetter::Missing
-    }
-}
 
-// The flag A or P at this position.
-pub fn extent(line: &[u8], at: usize) -> FoundExtent
-    ensures { (next : ExtentNext) → extent·of (left line.now at) next ≡ after_extent line.now result next }
-{
-    let FoundLetter::At(b, i) = letter(line, at) else {
-        return FoundExtent::Missing;
-    };
-    if b == b'A' {
-        return FoundExtent::At(Extent::All, i);
+    // The next field, whatever it is.
+    #[tactic(auto, using(crate::proofs::Cuts::cuts))]
+    fn field(&mut self) -> Option<&'a [u8]>
+        ensures { MatchOption result (self.old ≡ []) (λ f. self.old ≡ f.now ∷ self.new) }
+    {
+        let rest = self.rest?;
+        match first_space(rest) {
+            Some(i) => {
+                self.rest = Some(&rest[i + 1..]);
+                Some(&rest[..i])
+            }
+            None => {
+                self.rest = None;
+                Some(rest)
+            }
+        }
     }
-    if b == b'P' {
-        return FoundExtent::At(Extent::Part, i);
-    }
-    FoundExtent::Missing
-}
 
-// The flag S or K at this position.
-pub fn finish(line: &[u8], at: usize) -> FoundFinish
-    ensures { (next : FinishNext) → finish·of (left line.now at) next ≡ after_finish line.now result next }
-{
-    let FoundLetter::At(b, i) = letter(line, at) else {
-        return FoundFinish::Missing;
-    };
-    if b == b'S' {
-        return FoundFinish::At(Finish::Settle, i);
+    // The number that is the next field.
+    #[tactic(auto, unfolding(crate::specs::Fields::number))]
+    pub fn number(&mut self) -> Option<u64>
+        ensures { (next : ℕ → List (List ℕ) → Parsed) → number·of self.old next ≡ after result self.new next }
+    {
+        number_in(self.field()?)
     }
-    if b == b'K' {
-        return FoundFinish::At(Finish::Keep, i);
-    }
-    FoundFinish::Missing
-}
 
-// The named point of a commit at this position.
-fn named(line: &[u8], at: usize) -> FoundPick
-    ensures { (next : PickNext) → named·of (left line.now at) next ≡ after_pick line.now result next }
-{
-    let FoundNumber::At(n, i) = number(line, at) else {
-        return FoundPick::Missing;
-    };
-    FoundPick::At(Pick::Named(types::point_of_word(n)), i)
-}
+    // The one byte that is the next field.
+    #[tactic(auto, unfolding(crate::specs::Fields::letter_or))]
+    pub fn letter(&mut self) -> Option<u8>
+        ensures { (other : Parsed) (next : ℕ → List (List ℕ) → Parsed)
+            → letter_or self.old other next ≡ after_letter result self.new other next }
+    {
+        letter_in(self.field()?)
+    }
 
-// E, L or a named point at this position.
-pub fn pick(line: &[u8], at: usize) -> FoundPick
-    ensures { (next : PickNext) → pick·of (left line.now at) next ≡ after_pick line.now result next }
-{
-    let FoundLetter::At(b, i) = letter(line, at) else {
-        return named(line, at);
-    };
-    if b == b'E' {
-        return FoundPick::At(Pick::Earliest, i);
+    // The flag A or P.
+    #[tactic(auto, unfolding(crate::specs::Kinds::extent))]
+    pub fn extent(&mut self) -> Option<Extent>
+        ensures { (next : ExtentNext) → extent·of self.old next ≡ after result self.new next }
+    {
+        match self.letter()? {
+            b'A' => Some(Extent::All),
+            b'P' => Some(Extent::Part),
+            _ => None,
+        }
     }
-    if b == b'L' {
-        return FoundPick::At(Pick::Latest, i);
+
+    // The flag S or K.
+    #[tactic(auto, unfolding(crate::specs::Kinds::finish))]
+    pub fn finish(&mut self) -> Option<Finish>
+        ensures { (next : FinishNext) → finish·of self.old next ≡ after result self.new next }
+    {
+        match self.letter()? {
+            b'S' => Some(Finish::Settle),
+            b'K' => Some(Finish::Keep),
+            _ => None,
+        }
     }
-    named(line, at)
+
+    // E, L or a named point.
+    #[tactic(auto, unfolding(crate::specs::Kinds::pick, crate::specs::Fields::letter_or, crate::specs::Fields::number))]
+    pub fn pick(&mut self) -> Option<Pick>
+        ensures { (next : PickNext) → pick·of self.old next ≡ after result self.new next }
+    {
+        let field = self.field()?;
+        match letter_in(field) {
+            Some(b'E') => Some(Pick::Earliest),
+            Some(b'L') => Some(Pick::Latest),
+            _ => Some(Pick::Named(Point::from(number_in(field)?))),
+        }
+    }
+
+    // The command that was read, if no field is left.
+    #[tactic(auto, unfolding(crate::specs::Fields::done))]
+    pub fn done(&self, command: Command) -> Option<Command>
+        ensures { result ≡ done·of self.now (Some command) }
+    {
+        self.rest.is_none().then_some(command)
+    }
 }

@@ -1,12 +1,12 @@
--- The steps of Format: clearing, the header, the links of a table. Rests on specs.Format.
+-- The steps of Format: the header over zeros, the links of a table. Rests on specs.Format.
 use Prim.Native.Nat.{ℕ, zero, suc, ◌+◌, ◌-◌, ◌≤◌, ◌<◌}
 use mathlib.Core.Path.{◌≡◌, refl, ap, ◌∙◌}
 use mathlib.Core.Bool.{true}
-use mathlib.Core.List.{List, ◌∷◌, ◌++◌, append-nil}
+use mathlib.Core.List.{List, ◌++◌}
 use native.Mathlib.Omega.{arith}
 use native.Mathlib.Numerals.{add-one}
-use lib.ListN.{length, get_or, set, drop, replicate, length-set, length-replicate}
-use lib.Seq.{sets, set_at, drop-cons, drop-length}
+use lib.ListN.{length, set, replicate, length-set}
+use lib.Seq.{sets}
 use lib.Dec.{eqb}
 use borrow.Author.Tests.{lt-ltb, le-ltb, eqb-true}
 use Rattle.chains.specs.declared.Table.{Table}
@@ -20,36 +20,6 @@ use Rattle.tables.specs.Layout.{lock_table}
 use Rattle.tables.specs.Layout.{access_table}
 use Rattle.tables.proofs.Header.{size_least}
 use Rattle.format.specs.Format.{header_words, blank_words, next_free, linked_to, linked, format_fits}
-
--- the first i words are 0
-pub record Cleared (w₀ : List ℕ) (i : ℕ) (w : List ℕ) : Type 0 where
-  pub upto : i ≤ length w₀
-  pub size : length w ≡ length w₀
-  pub words : w ≡ replicate i 0 ++ drop i w₀
-
-pub clear_start : (w : List ℕ) → Cleared w 0 w
-clear_start w = record { upto = omega arith; size = refl; words = refl }
-
-one_more_lem : (i : ℕ) (ys : List ℕ) → replicate i 0 ++ 0 ∷ ys ≡ 0 ∷ replicate i 0 ++ ys
-one_more_lem zero ys = refl
-one_more_lem (suc i) ys = ap (λ zs. 0 ∷ zs) (one_more_lem i ys)
-
-pub clear_again : {w₀ : List ℕ} {i : ℕ} {w : List ℕ} → Cleared w₀ i w → i < length w₀ → Cleared w₀ (i + 1) (set w i 0)
-clear_again {w₀} {i} {w} v l =
-    rw add-one (record {
-      upto = omega arith;
-      size = length-set w i 0 ∙ v.size;
-      words =
-          ap (λ x. set x i 0) (v.words ∙ ap (λ x. replicate i 0 ++ x) (drop-cons w₀ i 0 l))
-          ∙ set_at (replicate i 0) (get_or w₀ i 0) (drop (suc i) w₀) 0 i (length-replicate i 0)
-          ∙ one_more_lem i (drop (suc i) w₀);
-    })
-
-pub clear_done : {w₀ : List ℕ} {i : ℕ} {w : List ℕ} → Cleared w₀ i w → length w₀ ≤ i → w ≡ replicate (length w₀) 0
-clear_done {w₀} {i} {w} v l =
-    let e : i ≡ length w₀ = omega (arith, v.upto) in
-    v.words ∙ ap (λ k. replicate k 0 ++ drop k w₀) e ∙ ap (λ x. replicate (length w₀) 0 ++ x) (drop-length w₀)
-    ∙ append-nil (replicate (length w₀) 0)
 
 -- the header over zeros
 blank_at : (c : Counts) (k : ℕ)

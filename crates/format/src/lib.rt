@@ -2,36 +2,21 @@
 // was. Rests on the crates `types`, `meaning`, `chains` and `tables`.
 #![tactic(auto)]
 
-ghost use Rattle.std.specs.Prelude.{◌≡◌, ◌≤◌, ◌<◌, length, replicate};
+ghost use Rattle.std.specs.Prelude.{◌≡◌, ◌≤◌, ◌<◌, length};
 ghost use Rattle.std.proofs.lemmas.List.Edits.{sets};
 ghost use Rattle.chains.specs.Table.{Lies};
-ghost use Rattle.types.specs.Replies.{of_format};
+ghost use Rattle.types.specs.Replies.{of_done};
 ghost use Rattle.tables.specs.Layout.{HEADER, Ranged, size_of};
 ghost use Rattle.format.specs.Format.{header_words, next_free, linked, formatted_words, format_fits, Formats};
 
 use chains::Table;
-use types::{Counts, FormatReply, Refusal};
+use types::{Counts, Refusal};
 
 // Whether the counts are in range and n is the number of words that they ask for.
 fn format_fits(n: usize, c: Counts) -> bool
     ensures { result ≡ format_fits c n }
 {
-    if !tables::good_counts(c) {
-        return false;
-    }
-    n == tables::size_of(c)
-}
-
-// Every word becomes 0.
-fn clear(w: &mut [u64])
-    ensures { w.new ≡ replicate (length w.old) 0 }
-{
-    let n = w.len();
-    let mut i = 0;
-    while i < n {
-        w[i] = 0;
-        i += 1;
-    }
+    tables::good_counts(c) && n == tables::size_of(c)
 }
 
 // The counts, and row 1 as the first of each free chain.
@@ -62,12 +47,8 @@ fn link_rows(w: &mut [u64], t: Table)
     requires { Lies t w.old }
     ensures { w.new ≡ linked t w.old }
 {
-    let n = t.count;
-    let mut i = 0;
-    while i < n {
-        let next = next_free(n, i + 1);
-        chains::put(w, t, i + 1, t.off, next);
-        i += 1;
+    for i in 0..t.count {
+        chains::put(w, t, i + 1, t.off, next_free(t.count, i + 1));
     }
 }
 
@@ -75,7 +56,7 @@ fn lay_out(w: &mut [u64], c: Counts)
     requires { Ranged c × (length w.old ≡ size_of c) }
     ensures { w.new ≡ formatted_words c }
 {
-    clear(w);
+    w.fill(0);
     write_header(w, c);
     link_rows(w, tables::version_table(c));
     link_rows(w, tables::lock_table(c));
@@ -83,12 +64,12 @@ fn lay_out(w: &mut [u64], c: Counts)
 }
 
 // Format: refused with 16 if a count is out of range or the slice has not the length that the counts ask for.
-pub fn format(words: &mut [u64], counts: Counts) -> FormatReply
-    ensures { Formats counts words.old words.new (of_format result) }
+pub fn format(words: &mut [u64], counts: Counts) -> Result<(), Refusal>
+    ensures { Formats counts words.old words.new (of_done result) }
 {
     if !format_fits(words.len(), counts) {
-        return FormatReply::Refused(Refusal::BadFormat);
+        return Err(Refusal::BadFormat);
     }
     lay_out(words, counts);
-    FormatReply::Done
+    Ok(())
 }

@@ -1,4 +1,5 @@
 -- Charts computed. Rests on Examples, ExampleWords, CommitList, Charts.
+use Rattle.std.specs.Prelude.{Some, None}
 use Prim.Native.Nat.{ℕ}
 use native.Mathlib.Omega.{arith}
 use mathlib.Core.Path.{◌≡◌, refl, sym, ap}
@@ -8,8 +9,7 @@ use mathlib.Core.Logic.{inl, inr}
 use mathlib.Core.Option.{Option, some}
 use Rattle.types.specs.Values.{Val}
 use Rattle.types.specs.Replies.{at}
-use Rattle.types.specs.declared.Value.{Value}
-use Rattle.types.specs.declared.Value.TheVariants.{Never, Written}
+use Rattle.types.specs.Values.{Value}
 use Rattle.types.specs.declared.Call.{Call}
 use Rattle.meaning.specs.Store.{fresh}
 use Rattle.meaning.specs.Records.{viewing}
@@ -136,8 +136,8 @@ unfolding opened readable session_steps
 session_charts_on_words =
     record {
       at_8 = session_chart 8 (ε ▸ (1, 6) ▸ (2, 7)) whole refl;
-      first_8 = session_viewed 0 8 7 (Written 501) refl;
-      second_8 = session_viewed 1 8 0 Never refl;
+      first_8 = session_viewed 0 8 7 (Some 501) refl;
+      second_8 = session_viewed 1 8 0 None refl;
       at_6 = session_chart 6 (ε ▸ (1, 6)) (more whole) refl;
-      second_6 = session_viewed 1 6 0 Never refl;
+      second_6 = session_viewed 1 6 0 None refl;
     }

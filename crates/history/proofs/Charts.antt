@@ -10,7 +10,7 @@ use mathlib.Core.List.Memᴰ
 use mathlib.Core.List.{List, [], ◌∷◌}
 use Rattle.types.specs.Values.{Val}
 use Rattle.types.specs.Replies.{Reply, at}
-use Rattle.types.specs.declared.Value.{Value}
+use Rattle.types.specs.Values.{Value}
 use Rattle.types.specs.declared.Counts.{Counts}
 use Rattle.types.specs.declared.Call.{Call}
 use Rattle.types.specs.declared.Call.TheVariants as C

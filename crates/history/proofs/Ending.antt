@@ -1,6 +1,7 @@
 -- Commit, Abort and Settle as steps of the serial core: a commit at a point of the common set, an edit that ends
 -- without one, and settling, which leaves of a committed edit what it needs. Rests on CallRuns, Changes, EveryCall and
 -- Valued.
+use Rattle.std.specs.Prelude.{Some}
 use Prim.Native.Nat.{ℕ, ◌≤◌, ◌<◌}
 use native.Mathlib.Omega.{arith}
 use native.Mathlib.Decide.{ℕ_discrete}
@@ -26,7 +27,6 @@ use Rattle.meaning.specs.Ending.{settling}
 use Rattle.meaning.specs.Ending.{settling_by}
 use Rattle.meaning.specs.Pointwise.{LockOn, HeldOn, InCommonSet}
 use Rattle.meaning.specs.SoundFacts.{SoundStore}
-use Rattle.types.specs.declared.Value.TheVariants.{Written}
 use Rattle.types.specs.declared.Version.{Version}
 use Rattle.types.specs.declared.Access.{Access}
 use Rattle.types.specs.declared.Handle.{Handle}
@@ -73,13 +73,13 @@ module _ (b : Bool) (a : Access) (t : ℕ) (vs : List Version) where
     version = new_version a t;
     member = rw q (insert_new (new_version a t) vs);
     stands = refl;
-    value = ap Written z;
+    value = ap Some z;
   }
 
   saved_out : {p : ℕ} {v : Val} → StandsAt saved p v → StandsAt vs p v ⊎ ((p ≡ t) × ((b ≡ true) × (a.value ≡ v)))
   saved_out {p} {v} w = go b refl w.member
     where
-      value_is : (x y : Val) → Written x ≡ Written y → x ≡ y
+      value_is : (x y : Val) → Some x ≡ Some y → x ≡ y
       value_is x y q = cc
 
       old : w.version ∈ vs → StandsAt vs p v

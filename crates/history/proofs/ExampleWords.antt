@@ -1,6 +1,7 @@
 -- The session of document 01 and two edits with one commit point over words: the contract of each call computed, so
 -- that they are histories, their committed edits and orders, and what the claim says of them. Rests on Examples,
 -- WordSteps, OverStore and CommitList.
+use Rattle.std.specs.Prelude.{Some, None}
 use Prim.Native.Nat.{ℕ, ◌≤◌}
 use native.Mathlib.Omega.{arith}
 use mathlib.Core.Path.{◌≡◌, refl, sym, ◌∙◌}
@@ -16,7 +17,6 @@ use Rattle.meaning.specs.Records.{good_counts, viewing}
 use Rattle.meaning.specs.Calls.{opened}
 use Rattle.meaning.specs.Contract.{Shows}
 use Rattle.meaning.specs.Session.{session, session_replies}
-use Rattle.types.specs.declared.Value.TheVariants.{Never, Written}
 use Rattle.types.specs.declared.Counts.{Counts}
 use Rattle.meaning.proofs.Lists.{not_both}
 use Rattle.serial.specs.Serializable.{Seq, ε, ◌▸◌, History, plain_end, CommitOrder}
@@ -97,11 +97,11 @@ session_heard : commits_of (heard_of session_counts session_steps) ≡ ε ▸ (2
 unfolding readable session_steps
 session_heard = refl
 
-session_first : (viewing 0 LAST (decode (lent (words_of session_counts session_steps)))).reply ≡ at 7 (Written 501)
+session_first : (viewing 0 LAST (decode (lent (words_of session_counts session_steps)))).reply ≡ at 7 (Some 501)
 unfolding opened readable session_steps
 session_first = refl
 
-session_second : (viewing 1 LAST (decode (lent (words_of session_counts session_steps)))).reply ≡ at 0 Never
+session_second : (viewing 1 LAST (decode (lent (words_of session_counts session_steps)))).reply ≡ at 0 None
 unfolding opened readable session_steps
 session_second = refl
 
@@ -115,12 +115,12 @@ session_words_serial =
       only = λ o c. one (only_orders heard 2 1 7 6 (omega arith) (omega arith) (λ q. omega arith) session_heard o c);
       first = record {
         plain = refl;
-        view = shows session_counts session_steps session_good session_stepped 0 LAST (at 7 (Written 501))
+        view = shows session_counts session_steps session_good session_stepped 0 LAST (at 7 (Some 501))
             (sym session_first);
       };
       second = record {
         plain = refl;
-        view = shows session_counts session_steps session_good session_stepped 1 LAST (at 0 Never)
+        view = shows session_counts session_steps session_good session_stepped 1 LAST (at 0 None)
             (sym session_second);
       };
     }
@@ -173,7 +173,7 @@ equal_heard = refl
 abbrev equal_view : ℕ → Reply
 equal_view r = (viewing r LAST (decode (lent (words_of equal_counts equal_steps)))).reply
 
-equal_views : (equal_view 0 ≡ at 0 Never) × (equal_view 1 ≡ at 5 (Written 10)) × (equal_view 2 ≡ at 5 (Written 20))
+equal_views : (equal_view 0 ≡ at 0 None) × (equal_view 1 ≡ at 5 (Some 10)) × (equal_view 2 ≡ at 5 (Some 20))
 unfolding opened readable equal_steps
 equal_views = (refl, refl, refl)
 
@@ -187,16 +187,16 @@ equal_in o order a b c =
       serial = serial_in equal_counts equal_steps equal_on_words.words o order;
       first = record {
         plain = a;
-        view = shows equal_counts equal_steps equal_good equal_stepped 0 LAST (at 0 Never) (sym equal_views.0);
+        view = shows equal_counts equal_steps equal_good equal_stepped 0 LAST (at 0 None) (sym equal_views.0);
       };
       second = record {
         plain = b;
-        view = shows equal_counts equal_steps equal_good equal_stepped 1 LAST (at 5 (Written 10))
+        view = shows equal_counts equal_steps equal_good equal_stepped 1 LAST (at 5 (Some 10))
             (sym equal_views.1);
       };
       third = record {
         plain = c;
-        view = shows equal_counts equal_steps equal_good equal_stepped 2 LAST (at 5 (Written 20))
+        view = shows equal_counts equal_steps equal_good equal_stepped 2 LAST (at 5 (Some 20))
             (sym equal_views.2);
       };
     }

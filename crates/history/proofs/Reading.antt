@@ -23,7 +23,7 @@ use Rattle.meaning.specs.Locking.{read_store_by, read_new, read_new_by, read_ope
 use Rattle.meaning.specs.Locking.{read_checks, reading, reading_by}
 use Rattle.meaning.specs.Pointwise.{NewestIs, none, one}
 use Rattle.meaning.specs.SoundFacts.{SoundStore, Present}
-use Rattle.types.specs.declared.Value.{Value}
+use Rattle.types.specs.Values.{Value}
 use Rattle.types.specs.declared.Version.{Version}
 use Rattle.types.specs.declared.Access.{Access}
 use Rattle.types.specs.declared.Extent.{Extent}

@@ -1,5 +1,6 @@
 -- What a store means to the serial core: its edits by slot and handle, its locks point by point, its versions. A sound
 -- store whose versions have values is sound there too. Rests on the facts of soundness in the crate meaning.
+use Rattle.std.specs.Prelude.{Some}
 use Prim.Native.Nat.{ℕ, suc, ◌≤◌}
 use native.Mathlib.Omega.{arith}
 use native.Mathlib.Decide.{ℕ_discrete}
@@ -18,7 +19,6 @@ use Rattle.types.specs.Values.{Val}
 use Rattle.meaning.specs.Records.{in_range, good_counts}
 use Rattle.meaning.specs.Pointwise.{LockOn, HeldOn}
 use Rattle.meaning.specs.SoundFacts.{SoundStore}
-use Rattle.types.specs.declared.Value.TheVariants.{Written}
 use Rattle.types.specs.declared.Version.{Version}
 use Rattle.meaning.proofs.Lists.{and_right, every_at}
 use Rattle.meaning.proofs.Stores.{InRange, used_range}
@@ -29,7 +29,7 @@ pub record StandsAt (vs : List Version) (p : ℕ) (v : Val) : Type 0 where
   pub version : Version
   pub member : version ∈ vs
   pub stands : version.point ≡ p
-  pub value : version.value ≡ Written v
+  pub value : version.value ≡ Some v
 
 -- the edit has read r at t; it has written v to r
 abbrev pub ReadAt : Edit → ℕ → ℕ → Type 0
@@ -59,7 +59,7 @@ slots s = slots_of (λ k. edit_at s k) (λ r. rec_at s r)
 -- every version has a value. Soundness does not say so, but every store that calls reach has it: only a commit makes
 -- versions
 abbrev pub Valued : Store → Type 0
-Valued s = (r : ℕ) (w : Version) → w ∈ (rec_at s r).versions → (v : Val) × (w.value ≡ Written v)
+Valued s = (r : ℕ) (w : Version) → w ∈ (rec_at s r).versions → (v : Val) × (w.value ≡ Some v)
 
 pub to_held : {ls : List _} {o m p : ℕ} → LockOn ls o m p → HeldOn ls o p
 to_held w = record { lock = w.lock; member = w.member; owned = w.owned; from = w.from; upto = w.upto }

@@ -17,7 +17,7 @@ use Rattle.types.specs.Replies.{at}
 use Rattle.meaning.specs.Records.{good_counts, viewing}
 use Rattle.meaning.specs.Calls.{act, act_by, run, run_by, after, after_by}
 use Rattle.meaning.specs.Pointwise.{NewestIs, none, one}
-use Rattle.types.specs.declared.Value.{Value}
+use Rattle.types.specs.Values.{Value}
 use Rattle.types.specs.declared.Version.{Version}
 use Rattle.types.specs.declared.Counts.{Counts}
 use Rattle.types.specs.declared.Call.{Call}

@@ -1,5 +1,6 @@
 -- Every call keeps a store in which each version has a value, since only Commit makes versions, of the values written;
 -- and it keeps the number of records. Rests on StoreSlots, EachRecord and EveryCall.
+use Rattle.std.specs.Prelude.{Some}
 use Prim.Native.Nat.{ℕ}
 use mathlib.Core.Path.{◌≡◌, ap, ◌∙◌}
 use mathlib.Core.Logic.{◌⊎◌, inl, inr}
@@ -18,7 +19,6 @@ use Rattle.meaning.specs.Ending.{settled_rec, settled, settled_by, insert, new_v
 use Rattle.meaning.specs.Records.{purged_rec}
 use Rattle.types.specs.declared.Counts.{Counts}
 use Rattle.types.specs.declared.Version.{Version}
-use Rattle.types.specs.declared.Value.TheVariants.{Written}
 use Rattle.meaning.proofs.Lists.{keep_out, length_map_from}
 use Rattle.meaning.proofs.Inserted.{insert_out}
 use Rattle.meaning.proofs.SoundParts.{get_d_replicate}
@@ -28,7 +28,7 @@ use Rattle.history.proofs.EveryCall.{Kept, Always}
 
 -- every version of the record has a value
 abbrev Of : Rec → Type 0
-Of x = (w : Version) → w ∈ x.versions → (v : Val) × (w.value ≡ Written v)
+Of x = (w : Version) → w ∈ x.versions → (v : Val) × (w.value ≡ Some v)
 
 of_fresh : Of fresh_rec
 of_fresh w m = absurd (Memᴰ.not-nil m)
@@ -62,13 +62,13 @@ module _ (s : Store) (h : Valued s) where
   committed_valued k t r = committed_keeps Of of_fresh r s k t (both (access_of (edit_at s k) r).written)
     where
       new : (w : Version) → (w ≡ new_version (access_of (edit_at s k) r) t) ⊎ (w ∈ (rec_at s r).versions)
-          → (v : Val) × (w.value ≡ Written v)
+          → (v : Val) × (w.value ≡ Some v)
       new w (inl q) = ((access_of (edit_at s k) r).value, ap (λ (u : Version). u.value) q)
       new w (inr m) = h r w m
 
       both : (b : Bool) (w : Version)
           → w ∈ cond b (insert (new_version (access_of (edit_at s k) r) t) (rec_at s r).versions) (rec_at s r).versions
-          → (v : Val) × (w.value ≡ Written v)
+          → (v : Val) × (w.value ≡ Some v)
       both true w m = new w (insert_out (new_version (access_of (edit_at s k) r) t) (rec_at s r).versions m)
       both false w m = h r w m
 

@@ -12,7 +12,7 @@ use borrow.Author.Tests.{lt-ltb, le-leb, leb-true}
 use Rattle.types.specs.Limits.{LAST}
 use Rattle.types.specs.Values.{Val}
 use Rattle.types.specs.Replies.{at, refusing}
-use Rattle.types.specs.declared.Value.{Value}
+use Rattle.types.specs.Values.{Value}
 use Rattle.types.specs.declared.Version.{Version}
 use Rattle.meaning.specs.Store.{Store, rec_at, newest_at}
 use Rattle.meaning.specs.Outcomes.{has_record, replies, pass, needs, unless}

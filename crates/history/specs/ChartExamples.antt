@@ -2,12 +2,11 @@
 -- edit has read nobody changes after its commit; where another edit commits at the same point, this is said of the
 -- records that the edit read or wrote, and false of others; charts of the words that the session left. The theorems are
 -- in proofs/ChartExamples, under the same names. Rests on Examples, ExampleWords, Charts.
-use Rattle.std.specs.Prelude.{ℕ, ◌≡◌, List, [], ◌∷◌, ◌++◌}
+use Rattle.std.specs.Prelude.{ℕ, ◌≡◌, List, [], ◌∷◌, ◌++◌, Some, None}
 use Rattle.std.proofs.Math.Option.{Option, some, none}
 use Rattle.types.specs.Values.{Val}
 use Rattle.types.specs.Replies.{Reply, edit, read, commit, purged, at, refusing}
-use Rattle.types.specs.declared.Value.{Value}
-use Rattle.types.specs.declared.Value.TheVariants.{Never, Written}
+use Rattle.types.specs.Values.{Value}
 use Rattle.types.specs.declared.Extent.TheVariants.{All}
 use Rattle.types.specs.declared.Pick.TheVariants.{Latest, Named}
 use Rattle.types.specs.declared.Finish.TheVariants.{Settle}
@@ -61,7 +60,7 @@ read_calls =
 abbrev read_replies : List Reply
 read_replies =
     edit 257
-    ∷ read 4 6 (Written 30)
+    ∷ read 4 6 (Some 30)
     ∷ commit 6
     ∷ edit 321
     ∷ refusing 9 []
@@ -98,7 +97,7 @@ pub record ReadsComputed : Type 0 where
   pub place : Prefix {A = ℕ} (ε ▸ 1 ▸ 9 ▸ 13) (ε ▸ 1 ▸ 9 ▸ 13 ▸ 5)
   pub touches : Touches (heard (below_calls ++ read_calls)) 13 0
   pub plain : plain_end (heard (below_calls ++ read_calls)) (ε ▸ 1 ▸ 9 ▸ 13) 0 ≡ some 30
-  pub view : (viewing 0 6 (store (below_calls ++ read_calls))).reply ≡ at 4 (Written 30)
+  pub view : (viewing 0 6 (store (below_calls ++ read_calls))).reply ≡ at 4 (Some 30)
   pub purged_view : (viewing 0 3 (store (below_calls ++ read_calls))).reply ≡ refusing 7 []
 
 -- Two edits commit at 5 and write a record each (Examples). Right after edit 1, in the order 1, 2, record 2 is never
@@ -108,9 +107,9 @@ pub record TiesComputed : Type 0 where
   pub order : CommitOrder (replied equal_counts equal_calls) (ε ▸ 1 ▸ 2)
   pub place : Prefix {A = ℕ} (ε ▸ 1) (ε ▸ 1 ▸ 2)
   pub other_plain : plain_end (replied equal_counts equal_calls) (ε ▸ 1) 2 ≡ none
-  pub other_view : (viewing 2 5 (after equal_calls (fresh equal_counts))).reply ≡ at 5 (Written 20)
+  pub other_view : (viewing 2 5 (after equal_calls (fresh equal_counts))).reply ≡ at 5 (Some 20)
   pub own_plain : plain_end (replied equal_counts equal_calls) (ε ▸ 1) 1 ≡ some 10
-  pub own_view : (viewing 1 5 (after equal_calls (fresh equal_counts))).reply ≡ at 5 (Written 10)
+  pub own_view : (viewing 1 5 (after equal_calls (fresh equal_counts))).reply ≡ at 5 (Some 10)
 
 -- Charts of the words that the session left: at 8 they are of the state after both edits, at 6, above which edit 2
 -- committed, of that after edit 1
@@ -123,7 +122,7 @@ pub record SessionChart (p : ℕ) (a : Seq ℕ) : Type 0 where
 
 pub record SessionChartsOnWords : Type 0 where
   pub at_8 : SessionChart 8 (ε ▸ 1 ▸ 2)
-  pub first_8 : SessionViewed 0 8 7 (Written 501)
-  pub second_8 : SessionViewed 1 8 0 Never
+  pub first_8 : SessionViewed 0 8 7 (Some 501)
+  pub second_8 : SessionViewed 1 8 0 None
   pub at_6 : SessionChart 6 (ε ▸ 1)
-  pub second_6 : SessionViewed 1 6 0 Never
+  pub second_6 : SessionViewed 1 6 0 None

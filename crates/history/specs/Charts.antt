@@ -8,7 +8,7 @@ use Rattle.std.proofs.Math.Option.{Option, some, none}
 use Rattle.types.specs.Limits.{LAST}
 use Rattle.types.specs.Values.{Val}
 use Rattle.types.specs.Replies.{Reply, at}
-use Rattle.types.specs.declared.Value.{Value}
+use Rattle.types.specs.Values.{Value}
 use Rattle.types.specs.declared.Counts.{Counts}
 use Rattle.types.specs.declared.Point.{Point}
 use Rattle.types.specs.declared.Call.{Call}

@@ -1,7 +1,7 @@
 -- The histories of Examples over words: the session of document 01 in its 118 words, and two edits that commit at one
 -- point, in 73. The words were taken from a run of the store; that they keep its contracts is proved in
 -- proofs/ExampleWords, where the theorems have the same names. Rests on StoreWords, WordSteps and Examples.
-use Rattle.std.specs.Prelude.{ℕ, ◌≡◌, ◌⊎◌, List, [], ◌∷◌, length}
+use Rattle.std.specs.Prelude.{ℕ, ◌≡◌, ◌⊎◌, List, [], ◌∷◌, length, Some, None}
 use Rattle.std.proofs.Math.Option.{Option, some, none}
 use Rattle.types.specs.Limits.{LAST}
 use Rattle.types.specs.Values.{Val}
@@ -9,7 +9,6 @@ use Rattle.types.specs.Replies.{ok, edit, locked, read, commit, purged, at, refu
 use Rattle.meaning.specs.Records.{viewing}
 use Rattle.meaning.specs.Contract.{Shows}
 use Rattle.meaning.specs.Session.{session_replies}
-use Rattle.types.specs.declared.Value.TheVariants.{Never, Written}
 use Rattle.types.specs.declared.Counts.{Counts}
 use Rattle.types.specs.declared.Extent.TheVariants.{All, Part}
 use Rattle.types.specs.declared.Pick.TheVariants.{Earliest, Latest, Named}
@@ -54,7 +53,7 @@ unfoldable pub session_steps : List Step
 session_steps =
     step C.Begin (edit 65) ((14, 1) ∷ (15, 1) ∷ [])
     ∷ step C.Begin (edit 66) ((18, 1) ∷ (19, 1) ∷ [])
-    ∷ step (C.Read (on 65) 0 (to 6) All) (read 0 6 Never)
+    ∷ step (C.Read (on 65) 0 (to 6) All) (read 0 6 None)
     ((6, 2) ∷ (7, 2) ∷ (9, 1) ∷ (16, 1) ∷ (38, 1) ∷ (39, 6) ∷ (40, 5) ∷ (42, 0) ∷ (79, 1) ∷ (82, 0) ∷ [])
     ∷ step (C.Lock (on 66) 0 (to 4) (to 9) Part) (locked 7 9)
     ((6, 3) ∷ (42, 2) ∷ (43, 7) ∷ (44, 9) ∷ (45, 10) ∷ (47, 0) ∷ [])
@@ -65,7 +64,7 @@ session_steps =
     ∷ step (C.Commit (on 65) Latest Settle) (commit 6)
     ((7, 1) ∷ (14, 0) ∷ (16, 0) ∷ (40, 1) ∷ (82, 2) ∷ [])
     ∷ step C.Begin (edit 129) ((14, 1) ∷ (15, 2) ∷ [])
-    ∷ step (C.Read (on 129) 0 (to 9) All) (read 7 9 (Written 501))
+    ∷ step (C.Read (on 129) 0 (to 9) All) (read 7 9 (Some 501))
     ((6, 4) ∷ (7, 2) ∷ (16, 1) ∷ (47, 3) ∷ (48, 8) ∷ (49, 9) ∷ (50, 5) ∷ (52, 0) ∷ (79, 8) ∷ (82, 0) ∷ [])
     ∷ step (C.Lock (on 129) 0 (to 3) (to 3) All) (refusing 9 []) []
     ∷ step (C.Purge 0 (to 8)) (purged 0 2)
@@ -93,9 +92,9 @@ unfoldable pub equal_steps : List Step
 equal_steps =
     step C.Begin (edit 65) ((17, 1) ∷ (18, 1) ∷ [])
     ∷ step C.Begin (edit 66) ((21, 1) ∷ (22, 1) ∷ [])
-    ∷ step (C.Read (on 65) 0 (to 5) All) (read 0 5 Never)
+    ∷ step (C.Read (on 65) 0 (to 5) All) (read 0 5 None)
     ((6, 2) ∷ (7, 2) ∷ (9, 1) ∷ (19, 1) ∷ (33, 1) ∷ (34, 5) ∷ (35, 5) ∷ (37, 0) ∷ (54, 1) ∷ (57, 0) ∷ [])
-    ∷ step (C.Read (on 66) 0 (to 5) All) (read 0 5 Never)
+    ∷ step (C.Read (on 66) 0 (to 5) All) (read 0 5 None)
     ((6, 3) ∷ (7, 3) ∷ (9, 2) ∷ (23, 2) ∷ (38, 1) ∷ (39, 5) ∷ (40, 9) ∷ (42, 1) ∷ (59, 1) ∷ (62, 0) ∷ [])
     ∷ step (C.Lock (on 65) 1 (to 5) (to 5) All) (locked 5 5)
     ((6, 4) ∷ (12, 3) ∷ (43, 5) ∷ (44, 5) ∷ (45, 6) ∷ (46, 1) ∷ (47, 0) ∷ [])

@@ -1,6 +1,6 @@
 -- Histories that show that the claim is not empty: the session of document 01, and two edits that commit at one point.
 -- The theorems are in proofs/Examples, under the same names. Rests on Statement.
-use Rattle.std.specs.Prelude.{ℕ, ◌≡◌, List, [], ◌∷◌}
+use Rattle.std.specs.Prelude.{ℕ, ◌≡◌, List, [], ◌∷◌, Some, None}
 use Rattle.std.proofs.Math.Option.{some, none}
 use Rattle.meaning.specs.Store.{fresh}
 use Rattle.types.specs.Limits.{LAST}
@@ -8,7 +8,6 @@ use Rattle.types.specs.Replies.{ok, at}
 use Rattle.meaning.specs.Records.{viewing}
 use Rattle.meaning.specs.Calls.{Line, format, call, run, after}
 use Rattle.meaning.specs.Session.{session, session_replies}
-use Rattle.types.specs.declared.Value.TheVariants.{Never, Written}
 use Rattle.types.specs.declared.Counts.{Counts}
 use Rattle.types.specs.declared.Handle.{Handle}
 use Rattle.types.specs.declared.Point.{Point}
@@ -60,8 +59,8 @@ SessionSerial = Serial session_counts session_calls (ε ▸ 1 ▸ 2)
     × (plain_end (replied session_counts session_calls) (ε ▸ 1 ▸ 2) 1 ≡ none)
 
 abbrev pub SessionViews : Type 0
-SessionViews = ((viewing 0 LAST (after session_calls (fresh session_counts))).reply ≡ at 7 (Written 501))
-    × ((viewing 1 LAST (after session_calls (fresh session_counts))).reply ≡ at 0 Never)
+SessionViews = ((viewing 0 LAST (after session_calls (fresh session_counts))).reply ≡ at 7 (Some 501))
+    × ((viewing 1 LAST (after session_calls (fresh session_counts))).reply ≡ at 0 None)
 
 abbrev pub on : ℕ → Handle
 on h = record { 0 = h }

@@ -2,12 +2,11 @@
 -- quotes at what states them. The events and the plain run over them are the crate serial's. Rests on the calls and
 -- replies of the crate meaning.
 use Rattle.std.proofs.Math.Option.{Option, some, none}
-use Rattle.std.specs.Prelude.{List, [], ◌∷◌, ℕ}
+use Rattle.std.specs.Prelude.{List, [], ◌∷◌, ℕ, Some, None}
 use Rattle.types.specs.Values.{Val}
 use Rattle.types.specs.Replies.{Reply, ok, edit, locked, read, own, again, commit, nopoint, purged, at, point}
 use Rattle.types.specs.Replies.{refusing}
-use Rattle.types.specs.declared.Value.{Value}
-use Rattle.types.specs.declared.Value.TheVariants.{Never, Written}
+use Rattle.types.specs.Values.{Value}
 use Rattle.types.specs.declared.Call.{Call}
 use Rattle.types.specs.declared.Call.TheVariants as C
 use Rattle.serial.specs.Serializable.{ε, ◌▸◌, ReadReply, Event, begun, call, other, History}
@@ -15,12 +14,12 @@ use Rattle.serial.specs.Serializable as H
 
 -- a value of the store and one of the plain run, whose `none` is never written
 abbrev pub told_value : Value → Option Val
-told_value Never = none
-told_value (Written v) = some v
+told_value None = none
+told_value (Some v) = some v
 
 abbrev pub shown_value : Option Val → Value
-shown_value none = Never
-shown_value (some v) = Written v
+shown_value none = None
+shown_value (some v) = Some v
 
 -- a Begin "that gave its handle"
 abbrev gave : Call → ℕ → Event Val

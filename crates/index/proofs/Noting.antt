@@ -9,10 +9,10 @@ use mathlib.Core.List.{List}
 use lib.Dec.{leb}
 use lib.ListN.{length}
 use borrow.Author.Tests.{eqb-true, leb-true}
+use Rattle.std.specs.Prelude.{Result, Ok, Err}
 use Rattle.types.specs.Limits.{SLOTS, FREE, SETTLED}
 use Rattle.types.specs.Replies.{Reply, edit, of_begin}
-use Rattle.types.specs.declared.BeginReply.{BeginReply}
-use Rattle.types.specs.declared.BeginReply.TheVariants as Bg
+use Rattle.types.specs.declared.Refusal.{Refusal}
 use Rattle.types.specs.declared.Call.TheVariants as C
 use Rattle.types.specs.declared.Handle.{Handle}
 use Rattle.types.specs.declared.Point.{Point}
@@ -178,6 +178,6 @@ touch_marked ix ix' h rec k r e f M =
 pub touch_none : (ix : List ℕ) (h rec r : ℕ) → r ≡ rec → MARKS ≤ r → Touched ix ix h rec
 touch_none ix h rec r e n = record { less = λ i j l m e. e; here = λ l. absurd (omega arith); whole = λ W. W }
 
-pub begun_clear : (ix ix' : List ℕ) (b : BeginReply) (h : Handle) (k : ℕ) → b ≡ Bg.Edit h → k ≡ slot_of h.0
+pub begun_clear : (ix ix' : List ℕ) (b : Result Handle Refusal) (h : Handle) (k : ℕ) → b ≡ Ok h → k ≡ slot_of h.0
     → Cleared ix ix' k → Begun ix ix' (of_begin b)
 begun_clear ix ix' b h k z e D = inr (h.0, rw z refl, rw e at D)

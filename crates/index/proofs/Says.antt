@@ -360,12 +360,6 @@ module _ (ix ix₁ : List ℕ) (k i : ℕ) (size : length ix ≡ INDEX) (hk : k 
       go (yes l) = wipe_one ix' r l (t ∙ wipe_turn i) (U.gone l)
       go (no l) = rw (U.none (omega (arith, l))) (wipe_past (omega (arith, l, t, wipe_turn i)))
 
--- the turns of a slot whose list is not kept are the records
-pub wipe_next : (ix ix₁ ix' : List ℕ) (k i : ℕ) → length ix ≡ INDEX → k < SLOTS → known ix k ≡ false
-    → Wiped ix ix₁ k i → Unmarked ix₁ ix' k i → Wiped ix ix' k (i + 1)
-wipe_next ix ix₁ ix' k i size hk e Z U =
-    wipe_again ix ix₁ k i size hk Z ix' i (sym (wipe_turn ix ix₁ k i size hk Z i ∙ turn_unknown ix k e i)) U
-
 pub wipe_end : (ix ix' : List ℕ) (k i n : ℕ) → Wiped ix ix' k i → i ≡ n → Wiped ix ix' k n
 wipe_end ix ix' k i n Z e = rw (sym e) Z
 

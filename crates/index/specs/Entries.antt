@@ -21,9 +21,3 @@ pub record Wiped (ix ix' : List ℕ) (k n : ℕ) : Type 0 where
   pub others : (i : ℕ) → i < k * MARKS ⊎ (k * MARKS + MARKS ≤ i) → get_or ix' i 0 ≡ get_or ix i 0
   pub gone : (i : ℕ) → i < n → turn ix k i < MARKS → mark_of ix' k (turn ix k i) ≡ 0
   pub less : (r : ℕ) → r < MARKS → (mark_of ix' k r ≡ 0) ⊎ (mark_of ix' k r ≡ mark_of ix k r)
-
--- the first n numbers are UNKNOWN
-pub record Filled (ix ix' : List ℕ) (n : ℕ) : Type 0 where
-  pub size : length ix' ≡ length ix
-  pub within : n ≤ length ix
-  pub all : (i : ℕ) → i < n → get_or ix' i 0 ≡ UNKNOWN

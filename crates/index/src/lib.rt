@@ -14,7 +14,7 @@ ghost use Rattle.index.specs.Index.{MARKS, INDEX, count_of, silent, known, turns
 ghost use Rattle.index.specs.Index.{RightOfAll, Marked, Cleared, Touched, Begun};
 ghost use Rattle.index.specs.Entries.{Added, Unmarked, Wiped};
 
-use types::{BeginReply, Counts, Handle};
+use types::{Counts, Handle, Refusal};
 
 // 1,024 marks for each of 64 slots, then for each slot a list: how many records it has, and 63 places for them.
 const SLOTS: usize = 64;
@@ -37,11 +37,7 @@ pub const UNKNOWN: u16 = 65535;
 pub fn forget(ix: &mut [u16])
     ensures { RightOfAll ix.new }
 {
-    let mut i = 0;
-    while i < ix.len() {
-        ix[i] = UNKNOWN;
-        i += 1;
-    }
+    ix.fill(UNKNOWN);
 }
 
 // Whether the index says that slot k has not touched record r.
@@ -49,10 +45,7 @@ pub fn silent(ix: &[u16], k: usize, r: usize) -> bool
     requires { (k < SLOTS) × (r < MARKS) }
     ensures { result ≡ silent ix.now k r }
 {
-    if ix.len() != INDEX {
-        return false;
-    }
-    ix[k * MARKS + r] == 0
+    ix.len() == INDEX && ix[k * MARKS + r] == 0
 }
 
 // Whether slot k's list has every record that is marked.
@@ -60,10 +53,7 @@ fn known(ix: &[u16], k: usize) -> bool
     requires { k < SLOTS }
     ensures { result ≡ known ix.now k }
 {
-    if ix.len() == INDEX {
-        return ix[LISTS + k * LIST] <= LISTED;
-    }
-    false
+    ix.len() == INDEX && ix[LISTS + k * LIST] <= LISTED
 }
 
 // A loop of so many turns meets every one of n records that slot k may have touched.
@@ -118,11 +108,9 @@ fn mark(ix: &mut [u16], k: usize, r: usize)
     requires { (k < SLOTS) × (r < MARKS) }
     ensures { Marked ix.old ix.new k r }
 {
-    if ix.len() == INDEX {
-        if ix[k * MARKS + r] == 0 {
-            ix[k * MARKS + r] = 1;
-            add(ix, k, r);
-        }
+    if ix.len() == INDEX && ix[k * MARKS + r] == 0 {
+        ix[k * MARKS + r] = 1;
+        add(ix, k, r);
     }
 }
 
@@ -141,12 +129,9 @@ fn wipe_listed(ix: &mut [u16], k: usize)
     requires { (length ix.old ≡ INDEX) × (k < SLOTS) }
     ensures { Wiped ix.old ix.new k (turns ix.old k MARKS) }
 {
-    let n = turns(ix, k, MARKS);
-    let mut i = 0;
-    while i < n {
+    for i in 0..turns(ix, k, MARKS) {
         let r = turn(ix, k, i);
         unmark(ix, k, r);
-        i += 1;
     }
 }
 
@@ -155,11 +140,7 @@ fn wipe_all(ix: &mut [u16], k: usize)
     requires { (length ix.old ≡ INDEX) × (k < SLOTS) × (known ix.old k ≡ false) }
     ensures { Wiped ix.old ix.new k (turns ix.old k MARKS) }
 {
-    let mut r = 0;
-    while r < MARKS {
-        unmark(ix, k, r);
-        r += 1;
-    }
+    ix[k * MARKS..(k + 1) * MARKS].fill(0);
 }
 
 // All marks of slot k that are set go.
@@ -191,16 +172,15 @@ pub fn touch(ix: &mut [u16], h: Handle, rec: u64)
 {
     let r = chains::wide(rec);
     if r < MARKS {
-        mark(ix, chains::wide(types::slot_of(h)), r);
+        mark(ix, chains::wide(h.slot()), r);
     }
 }
 
 // Begin: the slot of a new edit. The other calls only take away, so that they change nothing here.
-pub fn begun(ix: &mut [u16], r: BeginReply)
+pub fn begun(ix: &mut [u16], r: Result<Handle, Refusal>)
     ensures { Begun ix.old ix.new (of_begin r) }
 {
-    match r {
-        BeginReply::Edit(h) => clear(ix, chains::wide(types::slot_of(h))),
-        BeginReply::Refused(_) => {}
+    if let Ok(h) = r {
+        clear(ix, chains::wide(h.slot()));
     }
 }

@@ -1,6 +1,6 @@
 -- Computed examples: the session of document 01 from its texts and back to them, and lines at the edges of the form.
 -- proofs/Examples computes each claim. Rests on Calls, on Shown of the crate `printing` and meaning's session.
-use Rattle.std.specs.Prelude.{ℕ, ◌≡◌, List, [], ◌∷◌, map, replicate}
+use Rattle.std.specs.Prelude.{ℕ, ◌≡◌, List, [], ◌∷◌, map, replicate, Some}
 use Rattle.meaning.specs.Session.{session, session_replies}
 use Rattle.meaning.specs.Calls as M
 use Rattle.types.specs.declared.Call.TheVariants as C
@@ -9,12 +9,12 @@ use Rattle.fields.specs.Kinds.{handle}
 use Rattle.lines.specs.Calls.{parsed}
 use Rattle.printing.specs.Shown.{shown}
 use Rattle.replies.specs.Lines.{line_of}
-use Rattle.fields.specs.declared.Parsed.{Parsed}
-use Rattle.fields.specs.declared.Parsed.TheVariants as P
+use Rattle.fields.specs.Fields.{Parsed, Malformed}
+use Rattle.fields.specs.declared.Command.TheVariants as P
 
 abbrev pub of_line : M.Line → Parsed
-of_line (M.format c) = P.Format c
-of_line (M.call c) = P.Call c
+of_line (M.format c) = Some (P.Format c)
+of_line (M.call c) = Some (P.Call c)
 
 -- the lines on the left of the session, and those on the right
 unfoldable pub input : List (List ℕ)
@@ -62,9 +62,9 @@ abbrev pub Accepted : Type 0
 Accepted =
     map parsed (text "W 065 00 7" ∷ text "W 65 0 18446744073709551615" ∷ text "W 65 0 00000000000000000000000001"
     ∷ text "C 65 12 K" ∷ [])
-    ≡ P.Call (C.Write (handle 65) 0 7)
-    ∷ P.Call (C.Write (handle 65) 0 18446744073709551615)
-    ∷ P.Call (C.Write (handle 65) 0 1)
+    ≡ Some (P.Call (C.Write (handle 65) 0 7))
+    ∷ Some (P.Call (C.Write (handle 65) 0 18446744073709551615))
+    ∷ Some (P.Call (C.Write (handle 65) 0 1))
     ∷ parsed (text "C 65 0012 K")
     ∷ []
 
@@ -93,4 +93,4 @@ wrong =
     ∷ []
 
 abbrev pub WrongRefused : Type 0
-WrongRefused = map parsed wrong ≡ replicate 20 P.Malformed
+WrongRefused = map parsed wrong ≡ replicate 20 Malformed

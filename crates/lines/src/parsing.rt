@@ -2,254 +2,149 @@
 ghost use Rattle.std.specs.Prelude.{◌≡◌};
 ghost use Rattle.lines.specs.Calls.{formatting, beginning, writing, locking, reading, committing, aborting};
 ghost use Rattle.lines.specs.Calls.{settling, purging, viewing, called as called·of, parsed};
-ghost use Rattle.fields.specs.Cursor.{left};
 
 use crate::LONGEST;
-use fields::{
-    FoundExtent, FoundFinish, FoundLetter, FoundNumber, FoundPick, Parsed, extent, finish, letter,
-    number, pick,
-};
-use types::{Call, Counts};
+use fields::{Command, Fields};
+use types::{Call, Counts, Handle, Point};
 
 // F records edits versions locks accesses
-fn format(line: &[u8], at: usize) -> Parsed
-    ensures { result ≡ formatting (left line.now at) }
+#[tactic(auto, unfolding(crate::specs::Calls::formatting))]
+fn format(fields: &mut Fields<'_>) -> Option<Command>
+    ensures { result ≡ formatting fields.old }
 {
-    let FoundNumber::At(r, to1) = number(line, at) else {
-        return Parsed::Malformed;
+    let counts = Counts {
+        records: fields.number()? as usize,
+        edits: fields.number()? as usize,
+        versions: fields.number()? as usize,
+        locks: fields.number()? as usize,
+        accesses: fields.number()? as usize,
     };
-    let FoundNumber::At(e, to2) = number(line, to1) else {
-        return Parsed::Malformed;
-    };
-    let FoundNumber::At(v, to3) = number(line, to2) else {
-        return Parsed::Malformed;
-    };
-    let FoundNumber::At(l, to4) = number(line, to3) else {
-        return Parsed::Malformed;
-    };
-    let FoundNumber::At(a, end) = number(line, to4) else {
-        return Parsed::Malformed;
-    };
-    if end <= line.len() {
-        return Parsed::Malformed;
-    }
-    Parsed::Format(Counts {
-        records: r as usize,
-        edits: e as usize,
-        versions: v as usize,
-        locks: l as usize,
-        accesses: a as usize,
-    })
+    fields.done(Command::Format(counts))
 }
 
 // B
-fn begin(line: &[u8], at: usize) -> Parsed
-    ensures { result ≡ beginning (left line.now at) }
+#[tactic(auto, unfolding(crate::specs::Calls::beginning))]
+fn begin(fields: &Fields<'_>) -> Option<Command>
+    ensures { result ≡ beginning fields.now }
 {
-    if at <= line.len() {
-        return Parsed::Malformed;
-    }
-    Parsed::Call(Call::Begin)
+    fields.done(Command::Call(Call::Begin))
 }
 
 // W handle record value
-fn write(line: &[u8], at: usize) -> Parsed
-    ensures { result ≡ writing (left line.now at) }
+#[tactic(auto, unfolding(crate::specs::Calls::writing))]
+fn write(fields: &mut Fields<'_>) -> Option<Command>
+    ensures { result ≡ writing fields.old }
 {
-    let FoundNumber::At(h, to1) = number(line, at) else {
-        return Parsed::Malformed;
-    };
-    let FoundNumber::At(r, to2) = number(line, to1) else {
-        return Parsed::Malformed;
-    };
-    let FoundNumber::At(v, end) = number(line, to2) else {
-        return Parsed::Malformed;
-    };
-    if end <= line.len() {
-        return Parsed::Malformed;
-    }
-    Parsed::Call(Call::Write(types::handle_of_word(h), r, v))
+    let h = Handle::from(fields.number()?);
+    let r = fields.number()?;
+    let v = fields.number()?;
+    fields.done(Command::Call(Call::Write(h, r, v)))
 }
 
 // L handle record low high flag
-fn lock(line: &[u8], at: usize) -> Parsed
-    ensures { result ≡ locking (left line.now at) }
+#[tactic(auto, unfolding(crate::specs::Calls::locking))]
+fn lock(fields: &mut Fields<'_>) -> Option<Command>
+    ensures { result ≡ locking fields.old }
 {
-    let FoundNumber::At(h, to1) = number(line, at) else {
-        return Parsed::Malformed;
-    };
-    let FoundNumber::At(r, to2) = number(line, to1) else {
-        return Parsed::Malformed;
-    };
-    let FoundNumber::At(low, to3) = number(line, to2) else {
-        return Parsed::Malformed;
-    };
-    let FoundNumber::At(high, to4) = number(line, to3) else {
-        return Parsed::Malformed;
-    };
-    let FoundExtent::At(w, end) = extent(line, to4) else {
-        return Parsed::Malformed;
-    };
-    if end <= line.len() {
-        return Parsed::Malformed;
-    }
-    Parsed::Call(Call::Lock(
-        types::handle_of_word(h),
-        r,
-        types::point_of_word(low),
-        types::point_of_word(high),
-        w,
-    ))
+    let h = Handle::from(fields.number()?);
+    let r = fields.number()?;
+    let low = Point::from(fields.number()?);
+    let high = Point::from(fields.number()?);
+    let w = fields.extent()?;
+    fields.done(Command::Call(Call::Lock(h, r, low, high, w)))
 }
 
 // R handle record m flag
-fn read(line: &[u8], at: usize) -> Parsed
-    ensures { result ≡ reading (left line.now at) }
+#[tactic(auto, unfolding(crate::specs::Calls::reading))]
+fn read(fields: &mut Fields<'_>) -> Option<Command>
+    ensures { result ≡ reading fields.old }
 {
-    let FoundNumber::At(h, to1) = number(line, at) else {
-        return Parsed::Malformed;
-    };
-    let FoundNumber::At(r, to2) = number(line, to1) else {
-        return Parsed::Malformed;
-    };
-    let FoundNumber::At(m, to3) = number(line, to2) else {
-        return Parsed::Malformed;
-    };
-    let FoundExtent::At(w, end) = extent(line, to3) else {
-        return Parsed::Malformed;
-    };
-    if end <= line.len() {
-        return Parsed::Malformed;
-    }
-    Parsed::Call(Call::Read(types::handle_of_word(h), r, types::point_of_word(m), w))
+    let h = Handle::from(fields.number()?);
+    let r = fields.number()?;
+    let m = Point::from(fields.number()?);
+    let w = fields.extent()?;
+    fields.done(Command::Call(Call::Read(h, r, m, w)))
 }
 
 // C handle, E, L or point, S or K
-fn commit(line: &[u8], at: usize) -> Parsed
-    ensures { result ≡ committing (left line.now at) }
+#[tactic(auto, unfolding(crate::specs::Calls::committing))]
+fn commit(fields: &mut Fields<'_>) -> Option<Command>
+    ensures { result ≡ committing fields.old }
 {
-    let FoundNumber::At(h, to1) = number(line, at) else {
-        return Parsed::Malformed;
-    };
-    let FoundPick::At(p, to2) = pick(line, to1) else {
-        return Parsed::Malformed;
-    };
-    let FoundFinish::At(f, end) = finish(line, to2) else {
-        return Parsed::Malformed;
-    };
-    if end <= line.len() {
-        return Parsed::Malformed;
-    }
-    Parsed::Call(Call::Commit(types::handle_of_word(h), p, f))
+    let h = Handle::from(fields.number()?);
+    let p = fields.pick()?;
+    let f = fields.finish()?;
+    fields.done(Command::Call(Call::Commit(h, p, f)))
 }
 
 // A handle S or K
-fn abort(line: &[u8], at: usize) -> Parsed
-    ensures { result ≡ aborting (left line.now at) }
+#[tactic(auto, unfolding(crate::specs::Calls::aborting))]
+fn abort(fields: &mut Fields<'_>) -> Option<Command>
+    ensures { result ≡ aborting fields.old }
 {
-    let FoundNumber::At(h, to1) = number(line, at) else {
-        return Parsed::Malformed;
-    };
-    let FoundFinish::At(f, end) = finish(line, to1) else {
-        return Parsed::Malformed;
-    };
-    if end <= line.len() {
-        return Parsed::Malformed;
-    }
-    Parsed::Call(Call::Abort(types::handle_of_word(h), f))
+    let h = Handle::from(fields.number()?);
+    let f = fields.finish()?;
+    fields.done(Command::Call(Call::Abort(h, f)))
 }
 
 // P record b
-fn purge(line: &[u8], at: usize) -> Parsed
-    ensures { result ≡ purging (left line.now at) }
+#[tactic(auto, unfolding(crate::specs::Calls::purging))]
+fn purge(fields: &mut Fields<'_>) -> Option<Command>
+    ensures { result ≡ purging fields.old }
 {
-    let FoundNumber::At(r, to1) = number(line, at) else {
-        return Parsed::Malformed;
-    };
-    let FoundNumber::At(b, end) = number(line, to1) else {
-        return Parsed::Malformed;
-    };
-    if end <= line.len() {
-        return Parsed::Malformed;
-    }
-    Parsed::Call(Call::Purge(r, types::point_of_word(b)))
+    let r = fields.number()?;
+    let b = Point::from(fields.number()?);
+    fields.done(Command::Call(Call::Purge(r, b)))
 }
 
 // V record p
-fn view(line: &[u8], at: usize) -> Parsed
-    ensures { result ≡ viewing (left line.now at) }
+#[tactic(auto, unfolding(crate::specs::Calls::viewing))]
+fn view(fields: &mut Fields<'_>) -> Option<Command>
+    ensures { result ≡ viewing fields.old }
 {
-    let FoundNumber::At(r, to1) = number(line, at) else {
-        return Parsed::Malformed;
-    };
-    let FoundNumber::At(p, end) = number(line, to1) else {
-        return Parsed::Malformed;
-    };
-    if end <= line.len() {
-        return Parsed::Malformed;
-    }
-    Parsed::Call(Call::View(r, types::point_of_word(p)))
+    let r = fields.number()?;
+    let p = Point::from(fields.number()?);
+    fields.done(Command::Call(Call::View(r, p)))
 }
 
 // S handle
-fn settle(line: &[u8], at: usize) -> Parsed
-    ensures { result ≡ settling (left line.now at) }
+#[tactic(auto, unfolding(crate::specs::Calls::settling))]
+fn settle(fields: &mut Fields<'_>) -> Option<Command>
+    ensures { result ≡ settling fields.old }
 {
-    let FoundNumber::At(h, i) = number(line, at) else {
-        return Parsed::Malformed;
-    };
-    if i <= line.len() {
-        return Parsed::Malformed;
-    }
-    Parsed::Call(Call::Settle(types::handle_of_word(h)))
+    let h = Handle::from(fields.number()?);
+    fields.done(Command::Call(Call::Settle(h)))
 }
 
-// The call of this letter, whose fields begin at this position.
-fn called(line: &[u8], b: u8, at: usize) -> Parsed
-    ensures { result ≡ called·of b (left line.now at) }
+// The call of this letter, which these fields follow.
+#[tactic(auto, unfolding(crate::specs::Calls::called))]
+fn called(letter: u8, fields: &mut Fields<'_>) -> Option<Command>
+    ensures { result ≡ called·of letter fields.old }
 {
-    if b == b'F' {
-        return format(line, at);
+    match letter {
+        b'F' => format(fields),
+        b'B' => begin(fields),
+        b'W' => write(fields),
+        b'L' => lock(fields),
+        b'R' => read(fields),
+        b'C' => commit(fields),
+        b'A' => abort(fields),
+        b'S' => settle(fields),
+        b'P' => purge(fields),
+        b'V' => view(fields),
+        _ => None,
     }
-    if b == b'B' {
-        return begin(line, at);
-    }
-    if b == b'W' {
-        return write(line, at);
-    }
-    if b == b'L' {
-        return lock(line, at);
-    }
-    if b == b'R' {
-        return read(line, at);
-    }
-    if b == b'C' {
-        return commit(line, at);
-    }
-    if b == b'A' {
-        return abort(line, at);
-    }
-    if b == b'S' {
-        return settle(line, at);
-    }
-    if b == b'P' {
-        return purge(line, at);
-    }
-    if b == b'V' {
-        return view(line, at);
-    }
-    Parsed::Malformed
 }
 
-// What a line of bytes is, its newline not among them.
-pub fn parse(line: &[u8]) -> Parsed
+// What a line of bytes asks for, its newline not among them: a malformed one nothing.
+#[tactic(auto, unfolding(crate::specs::Calls::parsed))]
+pub fn parse(line: &[u8]) -> Option<Command>
     ensures { result ≡ parsed line.now }
 {
     if LONGEST < line.len() {
-        return Parsed::Malformed;
+        return None;
     }
-    let FoundLetter::At(b, i) = letter(line, 0) else {
-        return Parsed::Malformed;
-    };
-    called(line, b, i)
+    let mut fields = Fields::new(line);
+    let letter = fields.letter()?;
+    called(letter, &mut fields)
 }

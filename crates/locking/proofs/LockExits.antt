@@ -8,7 +8,8 @@ use Rattle.types.specs.Limits.{LAST, WRITE, SLOTS}
 use Rattle.meaning.specs.Store.{Store, rec_at}
 use Rattle.types.specs.Numbers.{slot_of}
 use Rattle.meaning.specs.Points.{first_blocked}
-use Rattle.types.specs.Replies.{locked, refusing}
+use Rattle.types.specs.Replies.{locked, refusing, of_refusal}
+use Rattle.types.specs.declared.Refusal.{Refusal}
 use Rattle.meaning.specs.Outcomes.{Outcome, replies, Verdict, pass, refuse, needs, unless, knows, is_open, has_record}
 use Rattle.meaning.specs.Outcomes.{judge, lock_room}
 use Rattle.meaning.specs.Locking.{lock_from, lock_end, lock_granted, with_lock, lock_verdict, lock_checks, lock_wanted}
@@ -17,9 +18,11 @@ use Rattle.meaning.specs.Locking.{locking, locking_by}
 use Rattle.types.specs.declared.Extent.{Extent}
 use Rattle.blocking.specs.declared.Blocked.{Blocked}
 use Rattle.blocking.specs.Search.{first_judged}
-use Rattle.calls.specs.declared.Grant.TheVariants.{Taken, Judged}
+use Rattle.std.specs.Prelude.{Result, Ok, Err}
 use Rattle.calls.specs.Grants.{lock_grant, refusal_by}
-use Rattle.calls.proofs.Verdicts.{needs_fails, needs_holds, else_fails, else_holds, no_edit_lem, edit_ended, edit_open}
+use Rattle.calls.proofs.Verdicts.{needs_fails, needs_holds, else_fails, else_holds, edit_open}
+use Rattle.calls.specs.Checks.{open_slot}
+use Rattle.calls.proofs.Checks.{open_refused}
 use Rattle.calls.proofs.Granting.{grant_judged, grant_taken, lock_refused}
 use Rattle.calls.proofs.Judged.{by_small, refusal_is}
 
@@ -36,13 +39,10 @@ module _ (s : Store) (h r low high : ℕ) (w : Extent) where
   abbrev lock_next : Outcome
   lock_next = lock_wanted s (slot_of h) r low high w
 
-  pub lock_no_edit : knows s h ≡ false → locking h r low high w s ≡ replies s (refusing 2 [])
+  pub lock_closed : {q : Result ℕ Refusal} {x : Refusal} → q ≡ open_slot s h → q ≡ Err x
+      → locking h r low high w s ≡ replies s (of_refusal x)
   unfolding locking_by lock_checks
-  lock_no_edit e = no_edit_lem s lock_next h lock_rest e
-
-  pub lock_ended : knows s h ≡ true → is_open s h ≡ false → locking h r low high w s ≡ replies s (refusing 3 [])
-  unfolding locking_by lock_checks
-  lock_ended e f = edit_ended s lock_next h lock_rest e f
+  lock_closed m e = open_refused s h m lock_rest lock_next e
 
   pub lock_no_record : knows s h ≡ true → is_open s h ≡ true → has_record s r ≡ false
       → locking h r low high w s ≡ replies s (refusing 5 [])
@@ -92,7 +92,7 @@ module _ (s : Store) (k r low high : ℕ) (w : Extent) where
   abbrev lock_judged : Blocked
   lock_judged = first_judged s r WRITE k low high
 
-  module _ (b : Blocked) (e : Judged b ≡ lock_grant w s k r low high) where
+  module _ (b : Blocked) (e : Err b ≡ lock_grant w s k r low high) where
     judged : (lock_granted_lem ≡ false) × (lock_judged ≡ b)
     unfolding lock_grant
     judged = grant_judged lock_granted_lem lock_from_lem lock_end_lem lock_judged b (sym e)
@@ -108,7 +108,7 @@ module _ (s : Store) (k r low high : ℕ) (w : Extent) where
         else_fails s lock_made lock_granted_lem n more (judge s r WRITE k lock_first) (needs (lock_room s) 11 pass)
         judged.0 (f ∙ refusal_is s r WRITE k low high b (sym judged.1) i)
 
-  module _ (from end : ℕ) (e : Taken from end ≡ lock_grant w s k r low high) where
+  module _ (from end : ℕ) (e : Ok (from, end) ≡ lock_grant w s k r low high) where
     lock_taken : lock_wanted s k r low high w
         ≡ unless s (needs (lock_room s) 11 pass) (replies (with_lock s r WRITE k from end) (locked from end))
     unfolding lock_grant lock_wanted_by lock_verdict

@@ -10,8 +10,11 @@ use Rattle.types.specs.Limits.{LAST, WRITE, SLOTS}
 use Rattle.meaning.specs.Store.{Rec, rec_at}
 use Rattle.types.specs.Numbers.{slot_of}
 use Rattle.meaning.specs.Points.{add_lock}
-use Rattle.types.specs.Replies.{Reply, locked, refusing}
-use Rattle.meaning.specs.Outcomes.{refuse, knows, is_open, has_record, lock_room}
+use Rattle.types.specs.Replies.{Reply, locked, refusing, number, details, of_refusal}
+use Rattle.types.specs.declared.Refusal.{Refusal}
+use Rattle.types.specs.declared.Refusal.TheVariants.{NoRecord, BadPoint, BelowFloor}
+use Rattle.calls.specs.Checks.{open_slot}
+use Rattle.meaning.specs.Outcomes.{replies, refuse, knows, is_open, has_record, lock_room}
 use Rattle.meaning.specs.Locking.{with_lock, with_lock_by, lock_wanted, locking}
 use Rattle.types.specs.declared.Counts.{Counts}
 use Rattle.types.specs.declared.Extent.{Extent}
@@ -25,11 +28,11 @@ use Rattle.changes.specs.Becomes.{Becomes, on_locks}
 use Rattle.blocking.specs.declared.Blocked.{Blocked}
 use Rattle.calls.specs.Contract.{Acts, Ready, Makes}
 use Rattle.calls.specs.Grants.{lock_grant, refusal_by}
-use Rattle.calls.specs.declared.Grant.{Grant}
-use Rattle.calls.specs.declared.Grant.TheVariants.{Taken, Judged}
+use Rattle.calls.specs.Grants.{Grant}
+use Rattle.std.specs.Prelude.{Result, Ok, Err}
 use Rattle.calls.proofs.Acting.{ready, makes_refused, makes_done, makes_as, acts}
 use Rattle.calls.proofs.Handles.{has_record_is}
-use Rattle.locking.proofs.LockExits.{lock_no_edit, lock_ended, lock_no_record, lock_bad_point}
+use Rattle.locking.proofs.LockExits.{lock_closed, lock_no_record, lock_bad_point}
 use Rattle.locking.proofs.LockExits.{lock_below, lock_passes, lock_by_small, lock_blocked, lock_no_room}
 use Rattle.locking.proofs.LockExits.{lock_done}
 
@@ -39,7 +42,7 @@ module _ (c : Counts) (w : List ℕ) (R : Ready c w) (k r low high : ℕ) (x : E
   granted : {h : Grant} → g ≡ h → h ≡ lock_grant x (decode_at c w) k r low high
   granted f = sym f ∙ e
 
-  module _ (b : Blocked) (f : g ≡ Judged b) where
+  module _ (b : Blocked) (f : g ≡ Err b) where
     pub wanted_by_small : b.by ≤ SLOTS
     wanted_by_small = lock_by_small (decode_at c w) k r low high x b (granted f)
 
@@ -49,7 +52,7 @@ module _ (c : Counts) (w : List ℕ) (R : Ready c w) (k r low high : ℕ) (x : E
         makes_refused c w (lock_wanted (decode_at c w) k r low high x) n more R.well
         (lock_blocked (decode_at c w) k r low high x b (granted f) n more order j)
 
-  module _ (from end : ℕ) (f : g ≡ Taken from end) where
+  module _ (from end : ℕ) (f : g ≡ Ok (from, end)) where
     pub wanted_no_room : lock_room (decode_at c w) ≡ false
         → Makes c (lock_wanted (decode_at c w) k r low high x) w w (refusing 11 [])
     wanted_no_room h =
@@ -74,21 +77,20 @@ module _ (c : Counts) (w : List ℕ) (hs : sound_words (lent w) ≡ true) (e : c
   abbrev Ends : List ℕ → Reply → Type 0
   Ends w' q = Acts (locking h r low high x) (lent w) (lent w') q
 
-  refuses : (n : ℕ) → locking h r low high x (decode_at c w) ≡ record { reply = refusing n []; store = decode_at c w }
-      → Ends w (refusing n [])
-  refuses n o =
-      acts (locking h r low high x) (lock_keeps h r low high x) c w w (refusing n []) hs e
-      (makes_refused c w (locking h r low high x (decode_at c w)) n [] (ready w hs c e).well o)
+  refuses : (y : Refusal) → locking h r low high x (decode_at c w) ≡ replies (decode_at c w) (of_refusal y)
+      → Ends w (of_refusal y)
+  refuses y o =
+      acts (locking h r low high x) (lock_keeps h r low high x) c w w (of_refusal y) hs e
+      (makes_refused c w (locking h r low high x (decode_at c w)) (number y) (details y) (ready w hs c e).well o)
 
-  pub locked_no_edit : knows (decode_at c w) h ≡ false → Ends w (refusing 2 [])
-  locked_no_edit k = refuses 2 (lock_no_edit (decode_at c w) h r low high x k)
-
-  pub locked_ended : knows (decode_at c w) h ≡ true → is_open (decode_at c w) h ≡ false → Ends w (refusing 3 [])
-  locked_ended k o = refuses 3 (lock_ended (decode_at c w) h r low high x k o)
+  pub locked_closed : {q : Result ℕ Refusal} {y : Refusal} → q ≡ open_slot (decode_at c w) h → q ≡ Err y
+      → Ends w (of_refusal y)
+  locked_closed {q} {y} m f = refuses y (lock_closed (decode_at c w) h r low high x m f)
 
   module _ (k : knows (decode_at c w) h ≡ true) (o : is_open (decode_at c w) h ≡ true) where
     pub locked_no_record : ltb r c.records ≡ false → Ends w (refusing 5 [])
-    locked_no_record t = refuses 5 (lock_no_record (decode_at c w) h r low high x k o (sym (has_record_is c w r) ∙ t))
+    locked_no_record t = refuses NoRecord
+        (lock_no_record (decode_at c w) h r low high x k o (sym (has_record_is c w r) ∙ t))
 
     module _ (t : ltb r c.records ≡ true) (from to : ℕ) (a : from ≡ low) (b : to ≡ high) where
       there : has_record (decode_at c w) r ≡ true
@@ -96,12 +98,13 @@ module _ (c : Counts) (w : List ℕ) (hs : sound_words (lent w) ≡ true) (e : c
 
       pub locked_crossed : to < from → Ends w (refusing 6 [])
       locked_crossed l =
-          refuses 6 (lock_bad_point (decode_at c w) h r low high x k o there (rw (lt-leb low high (omega arith))))
+          refuses BadPoint (lock_bad_point (decode_at c w) h r low high x k o there
+          (rw (lt-leb low high (omega arith))))
 
       module _ (order : from ≤ to) where
         pub locked_too_large : LAST < to → Ends w (refusing 6 [])
         locked_too_large l =
-            refuses 6 (lock_bad_point (decode_at c w) h r low high x k o there
+            refuses BadPoint (lock_bad_point (decode_at c w) h r low high x k o there
             (rw (le-leb low high (omega arith), lt-leb high LAST (omega arith))))
 
         module _ (last : to ≤ LAST) (floor : ℕ) (f : floor ≡ (record_at c w r).floor) where
@@ -114,7 +117,7 @@ module _ (c : Counts) (w : List ℕ) (hs : sound_words (lent w) ≡ true) (e : c
           pub locked_below_lem : from ≤ floor → Ends w (refusing 7 [])
           locked_below_lem l =
               let i = floor_is in
-              refuses 7 (lock_below (decode_at c w) h r low high x k o there in_order
+              refuses BelowFloor (lock_below (decode_at c w) h r low high x k o there in_order
               (le-ltb (rec_at (decode_at c w) r).floor low (omega arith)))
 
           pub lock_acts : floor < from → (w' : List ℕ) (q : Reply) (j : ℕ) → j ≡ slot_of h

@@ -16,24 +16,39 @@ ghost use Rattle.calls.specs.Contract.{Acts, Ready, Makes};
 ghost use Rattle.calls.specs.Grants.{lock_grant};
 
 use blocking::Blocked;
-use calls::Grant;
-use types::{Counts, Extent, Handle, LAST, Lock, LockReply, Point, Refusal, WRITE};
+use types::{Counts, Extent, Handle, LAST, Lock, Point, Refusal, Span, WRITE};
 
 // P of Lock where low is blocked, with judgement b: the run from the first free point, if there is one.
-fn later_grant(w: &[u64], c: Counts, k: u64, r: usize, low: u64, high: u64, b: Blocked) -> Grant
+fn later_grant(
+    w: &[u64],
+    c: Counts,
+    k: u64,
+    r: usize,
+    low: u64,
+    high: u64,
+    b: Blocked,
+) -> Result<(u64, u64), Blocked>
     requires { Ready c w.now × (r < c.records) × (1 ≤ low) × (low ≤ high) × (high ≤ LAST) × (1 ≤ k)
         × (b ≡ first_judged (decode_at c w.now) r WRITE k low high) }
     ensures { result ≡ lock_grant Part (decode_at c w.now) k r low high }
 {
     let from = blocking::first_free(w, c, false, WRITE, k, r, low, high);
     if high < from {
-        return Grant::Judged(b);
+        return Err(b);
     }
     let next = blocking::first_blocked(w, c, WRITE, k, r, from, high);
-    Grant::Taken(from, next.point - 1)
+    Ok((from, next.point - 1))
 }
 
-fn lock_grant(w: &[u64], c: Counts, extent: Extent, k: u64, r: usize, low: u64, high: u64) -> Grant
+fn lock_grant(
+    w: &[u64],
+    c: Counts,
+    extent: Extent,
+    k: u64,
+    r: usize,
+    low: u64,
+    high: u64,
+) -> Result<(u64, u64), Blocked>
     requires { Ready c w.now × (r < c.records) × (1 ≤ low) × (low ≤ high) × (high ≤ LAST) × (1 ≤ k) }
     ensures { result ≡ lock_grant extent (decode_at c w.now) k r low high }
 {
@@ -41,14 +56,14 @@ fn lock_grant(w: &[u64], c: Counts, extent: Extent, k: u64, r: usize, low: u64, 
     match extent {
         Extent::All => {
             if high < b.point {
-                Grant::Taken(low, high)
+                Ok((low, high))
             } else {
-                Grant::Judged(b)
+                Err(b)
             }
         }
         Extent::Part => {
             if low < b.point {
-                Grant::Taken(low, b.point - 1)
+                Ok((low, b.point - 1))
             } else {
                 later_grant(w, c, k, r, low, high, b)
             }
@@ -65,16 +80,16 @@ fn lock_wanted(
     low: u64,
     high: u64,
     extent: Extent,
-) -> LockReply
+) -> Result<Span, Refusal>
     requires { Ready c w.old × IsRow c.edits k × (r < c.records) × (1 ≤ low) × (low ≤ high) × (high ≤ LAST) }
     ensures { Makes c (lock_wanted (decode_at c w.old) k r low high extent) w.old w.new
         (of_lock result) }
 {
     match lock_grant(w, c, extent, k as u64, r, low, high) {
-        Grant::Judged(b) => LockReply::Refused(calls::judge(w, c, b)),
-        Grant::Taken(from, end) => {
+        Err(b) => Err(calls::judge(w, c, b)),
+        Ok((from, end)) => {
             if !lookups::lock_room(w, c) {
-                return LockReply::Refused(Refusal::NoLockRow);
+                return Err(Refusal::NoLockRow);
             }
             changes::add_lock(
                 w,
@@ -87,7 +102,10 @@ fn lock_wanted(
                     owner: k as u64,
                 },
             );
-            LockReply::Locked(types::point_of_word(from), types::point_of_word(end))
+            Ok(Span {
+                low: Point::from(from),
+                high: Point::from(end),
+            })
         }
     }
 }
@@ -100,30 +118,23 @@ pub fn lock(
     low: Point,
     high: Point,
     extent: Extent,
-) -> LockReply
+) -> Result<Span, Refusal>
     requires { sound_words (lent w.old) ≡ true }
     ensures { Acts (locking h.0 rec low.0 high.0 extent) (lent w.old) (lent w.new) (of_lock result) }
 {
     let c = tables::counts_of(w);
-    if !lookups::known(w, c, h) {
-        return LockReply::Refused(Refusal::NoEdit);
-    }
-    if !lookups::is_open(w, c, h) {
-        return LockReply::Refused(Refusal::EditEnded);
-    }
-    if !calls::has_record(c, rec) {
-        return LockReply::Refused(Refusal::NoRecord);
-    }
-    let from = types::word_of_point(low);
-    let to = types::word_of_point(high);
+    let k = calls::open_slot(w, c, h)?;
+    let r = calls::record(c, rec)?;
+    let from = u64::from(low);
+    let to = u64::from(high);
     if to < from {
-        return LockReply::Refused(Refusal::BadPoint);
+        return Err(Refusal::BadPoint);
     }
     if LAST < to {
-        return LockReply::Refused(Refusal::BadPoint);
+        return Err(Refusal::BadPoint);
     }
-    if from <= tables::floor_of(w, c, rec as usize) {
-        return LockReply::Refused(Refusal::BelowFloor);
+    if from <= tables::floor_of(w, c, r) {
+        return Err(Refusal::BelowFloor);
     }
-    lock_wanted(w, c, calls::slot(h), rec as usize, from, to, extent)
+    lock_wanted(w, c, k, r, from, to, extent)
 }

@@ -12,93 +12,63 @@ use types::{Lock, READ, SETTLED, WRITE};
 pub fn smaller(a: u64, b: u64) -> u64
     ensures { result ≡ min a b }
 {
-    if a < b {
-        return a;
-    }
-    b
+    a.min(b)
 }
 
 pub fn larger(a: u64, b: u64) -> u64
     ensures { result ≡ max a b }
 {
-    if b < a {
-        return a;
-    }
-    b
+    a.max(b)
 }
 
 // The point lies in the lock.
 pub fn covers(p: u64, l: Lock) -> bool
     ensures { result ≡ covers p l }
 {
-    if p < l.low {
-        return false;
-    }
-    p <= l.high
+    l.low <= p && p <= l.high
 }
 
 // A lock of another owner would stand in the way of this mode.
+#[tactic(auto, unfolding(meaning::specs::Points::conflicts))]
 pub fn conflicts(mode: u64, l: Lock) -> bool
     ensures { result ≡ conflicts mode l }
 {
-    if mode == WRITE {
-        return true;
-    }
-    l.mode == WRITE
+    mode == WRITE || l.mode == WRITE
 }
 
 // The lock stands in the way of slot k: another owner has it, and it conflicts.
+#[tactic(auto, unfolding(meaning::specs::Points::blocks))]
 pub fn blocks(mode: u64, k: u64, l: Lock) -> bool
     ensures { result ≡ blocks mode k l }
 {
-    if l.owner == k {
-        return false;
-    }
-    conflicts(mode, l)
+    l.owner != k && conflicts(mode, l)
 }
 
 // A read lock of slot k that starts at from.
+#[tactic(auto, unfolding(meaning::specs::Sound::starts_read))]
 pub fn starts_read(k: u64, from: u64, l: Lock) -> bool
     ensures { result ≡ starts_read k from l }
 {
-    if l.owner != k {
-        return false;
-    }
-    if l.mode == WRITE {
-        return false;
-    }
-    l.low == from
+    l.owner == k && l.mode != WRITE && l.low == from
 }
 
 // A settled read lock.
 pub fn is_settled_read(l: Lock) -> bool
     ensures { result ≡ is_settled_read l }
 {
-    if l.owner != SETTLED {
-        return false;
-    }
-    l.mode == READ
+    l.owner == SETTLED && l.mode == READ
 }
 
 // Whether no point lies between `end` and `start`: nothing is added, since either may be any word.
 fn adjoins(end: u64, start: u64) -> bool
     ensures { result ≡ leb start (suc end) }
 {
-    if start <= end {
-        return true;
-    }
-    start - end <= 1
+    start <= end || start - end <= 1
 }
 
 // A settled read lock that overlaps or adjoins low..high.
 pub fn touches(low: u64, high: u64, l: Lock) -> bool
     ensures { result ≡ touches low high l }
 {
-    if !is_settled_read(l) {
-        return false;
-    }
-    if !adjoins(high, l.low) {
-        return false;
-    }
-    adjoins(l.high, low)
+    is_settled_read(l) && adjoins(high, l.low) && adjoins(l.high, low)
 }

@@ -1,22 +1,23 @@
 -- Searches for one entry: the access of a record, the newest version. Rests on the loops of `chains` and `tables`.
 use Prim.Native.Nat.{ℕ, zero, suc, ◌≤◌}
 use mathlib.Core.Path.{◌≡◌, refl, sym, ap, ◌∙◌}
-use mathlib.Core.Bool.{Bool, true, false, ◌||◌}
+use mathlib.Core.Bool.{Bool, true, false, cond, ◌||◌}
 use mathlib.Core.List.{List, [], ◌∷◌, map}
 use native.Mathlib.Omega.{arith}
-use lib.Dec.{leb, ltb}
-use borrow.Author.Tests.{leb-true, leb-false, lt-ltb, le-ltb}
+use lib.Dec.{eqb}
 use mathlib.Core.Logic.{◌⊎◌, inl, inr}
 use Rattle.meaning.proofs.Lists.{test, not_both}
 use Rattle.chains.specs.Lists.{first_of}
 use Rattle.chains.specs.Walk.{among, IsRow, rows}
-use Rattle.chains.specs.Table.{link, chain, head_of, rows_of}
+use Rattle.std.specs.Prelude.{Some}
+use Rattle.std.specs.Option.{unwrap_or}
+use Rattle.std.specs.List.{find as find_list}
+use Rattle.chains.specs.Table.{link, field, holds, chain, head_of, rows_of}
 use Rattle.chains.proofs.Walks.{among_out}
 use Rattle.meaning.specs.Lists.{find, any}
-use Rattle.types.specs.declared.Version.{Version}
-use Rattle.meaning.specs.Store.{is_of, no_access, access_of, first, newest_at, newest_below}
+use Rattle.meaning.specs.Store.{is_of, no_access, access_of}
 use Rattle.types.specs.declared.Counts.{Counts}
-use Rattle.tables.specs.Layout.{access_table, access_heads}
+use Rattle.tables.specs.Layout.{access_table, access_heads, A_RECORD}
 use Rattle.tables.specs.Decode.{access_at, access_rows, accesses_of, slot_at, AccessRow}
 
 -- what a test says of a value it says of the entry that the value is
@@ -87,6 +88,25 @@ module _ {A : Type 0} (p : A → Bool) (g : ℕ → A) (d : A) (nx : ℕ → ℕ
       go true a e ih = rest (p (g h)) refl a e ih
       go false a e ih = absurd (e refl)
 
+-- the row that a search gives, or 0, is the first that passes
+find_first_of : (p : ℕ → Bool) (xs : List ℕ) → unwrap_or (find_list p xs) 0 ≡ first_of p xs
+unfolding first_of
+find_first_of p [] = refl
+find_first_of p (x ∷ xs) = go (p x) (find_first_of p xs)
+  where
+    go : (b : Bool) → unwrap_or (find_list p xs) 0 ≡ first_of p xs
+        → unwrap_or (cond b (Some x) (find_list p xs)) 0 ≡ elim b [ true ↦ x | false ↦ first_of p xs ]
+    go true e = refl
+    go false e = e
+
+pub access_row_is : (c : Counts) (w : List ℕ) (k r : ℕ) {h : ℕ} → h ≡ head_of (access_heads c) w k
+    → unwrap_or (find_list (holds (access_table c) w A_RECORD r) (chain (access_table c) w h)) 0
+    ≡ first_of (λ j. is_of r (access_at c w j)) (access_rows c w k)
+unfolding holds access_rows rows_of access_at
+access_row_is c w k r {h} e =
+    find_first_of (λ j. eqb (field (access_table c) w j A_RECORD) r) (chain (access_table c) w h)
+    ∙ ap (λ x. first_of (λ j. eqb (field (access_table c) w j A_RECORD) r) (chain (access_table c) w x)) e
+
 -- whether some entry passes
 module _ {A : Type 0} (p : A → Bool) (g : ℕ → A) where
   none_first : (xs : List ℕ) → any p (map g xs) ≡ false → first_of (λ i. p (g i)) xs ≡ 0
@@ -152,16 +172,3 @@ module _ (c : Counts) (w : List ℕ) (k r : ℕ) {i : ℕ}
 pub access_within : (c : Counts) (w : List ℕ) (k r i : ℕ) → AccessRow c w k r i → i ≤ c.accesses
 access_within c w k r zero e = omega arith
 access_within c w k r (suc i) e = (access_is_row c w k r e (λ z. omega (arith, z))).high
-
--- at or below p is below p + 1
-below_after : (x p : ℕ) → ltb x (suc p) ≡ leb x p
-below_after x p = go (test (leb x p))
-  where
-    go : (leb x p ≡ true) ⊎ (leb x p ≡ false) → ltb x (suc p) ≡ leb x p
-    go (inl e) = lt-ltb x (suc p) (omega (arith, leb-true x p e)) ∙ sym e
-    go (inr e) = le-ltb x (suc p) (omega (arith, leb-false x p e)) ∙ sym e
-
-pub newest_after : (vs : List Version) (p : ℕ) → newest_below vs (suc p) ≡ newest_at vs p
-unfolding newest_below newest_at
-newest_after [] p = refl
-newest_after (v ∷ vs) p = rw (below_after v.point p, newest_after vs p) refl

@@ -91,13 +91,7 @@ pub record Passed (c : Counts) (w : List ℕ) (k : ℕ) : Type 0 where
   pub high : k ≤ suc c.edits
   pub used : (i : ℕ) → suc i < k → (slot_at c w (suc i)).state ≡ FREE → ⊥
 
-pub passed_start : (c : Counts) (w : List ℕ) → Passed c w 1
-passed_start c w = record { low = omega arith; high = omega arith; used = λ i l. absurd (omega arith) }
-
 module _ {c : Counts} {w : List ℕ} where
-  pub passed_row : {k : ℕ} → Passed c w k → k ≤ c.edits → IsRow c.edits k
-  passed_row i l = record { low = i.low; high = l }
-
   pub passed_on : (k : ℕ) {s : ℕ} → Passed c w k → k ≤ c.edits → s ≡ (slot_at c w k).state → (s ≡ FREE → ⊥)
       → Passed c w (k + 1)
   passed_on k {s} i l e f =
@@ -118,8 +112,8 @@ module _ {c : Counts} {w : List ℕ} where
       sym
       (free_at c.edits 1 (λ x. slot_at c w (suc x)) j (omega arith) (λ x q. i.used x (omega arith)) (sym e ∙ f) ∙ s)
 
-  pub passed_done : (k : ℕ) → Passed c w k → c.edits < k → k ≡ free_slot (decode_at c w)
+  pub passed_done : (k : ℕ) → Passed c w k → c.edits < k → c.edits + 1 ≡ free_slot (decode_at c w)
   unfolding decode_at edits_of
   passed_done k i l =
-      let s : 1 + c.edits ≡ k = omega (arith, i.high) in
+      let s : 1 + c.edits ≡ c.edits + 1 = omega arith in
       sym (free_none c.edits 1 (λ x. slot_at c w (suc x)) (λ x q. i.used x (omega arith)) ∙ s)

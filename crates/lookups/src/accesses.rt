@@ -13,18 +13,15 @@ pub fn access_row(w: &[u64], c: Counts, k: usize, r: u64) -> usize
     requires { Fits c w.now × IsRow c.edits k }
     ensures { AccessRow c w.now k r result }
 {
-    let n = c.accesses;
-    let mut cur = tables::first_access(w, c, k);
-    let mut left = n;
-    while chains::more(n, left, cur) {
-        let a = tables::access_at(w, c, cur);
-        if a.rec == r {
-            return cur;
-        }
-        cur = tables::next_access(w, c, cur);
-        left -= 1;
-    }
-    0
+    let first = tables::first_access(w, c, k);
+    chains::first_with(
+        w,
+        tables::access_table(c),
+        tables::A_RECORD,
+        chains::wide(r),
+        first,
+    )
+    .unwrap_or(0)
 }
 
 // The access of record r by the edit whose row of it is i.

@@ -27,18 +27,18 @@ pub fn known(w: &[u64], c: Counts, h: Handle) -> bool
     requires { Fits c w.now }
     ensures { result ≡ knows (decode_at c w.now) h.0 }
 {
-    let k = types::slot_of(h);
+    let k = h.slot();
     if !slot_used(w, c, k) {
         return false;
     }
-    tables::generation_of(w, c, chains::wide(k)) == types::generation_of(h)
+    tables::generation_of(w, c, chains::wide(k)) == h.generation()
 }
 
 pub fn is_open(w: &[u64], c: Counts, h: Handle) -> bool
     requires { Fits c w.now }
     ensures { result ≡ is_open (decode_at c w.now) h.0 }
 {
-    let k = types::slot_of(h);
+    let k = h.slot();
     if !slot_used(w, c, k) {
         return false;
     }
@@ -50,13 +50,10 @@ pub fn free_slot(w: &[u64], c: Counts) -> usize
     requires { Fits c w.now }
     ensures { result ≡ free_slot (decode_at c w.now) }
 {
-    let n = c.edits;
-    let mut k = 1;
-    while k <= n {
+    for k in 1..=c.edits {
         if tables::state_of(w, c, k) == FREE {
             return k;
         }
-        k += 1;
     }
-    k
+    c.edits + 1
 }

@@ -20,14 +20,10 @@ fn has_free(w: &[u64], t: Table, h: Heads, most: usize) -> bool
     requires { Laid t h w.now × (partition t h w.now ≡ true) }
     ensures { result ≡ leb (used t h w.now + most) t.count }
 {
-    let n = t.count;
-    let mut cur = chains::head_of(w, h, 0);
-    let mut left = most;
-    while chains::more(n, left, cur) {
-        cur = chains::next_of(w, t, cur);
-        left -= 1;
-    }
-    left == 0
+    chains::Walk::new(w, t, chains::head_of(w, h, 0))
+        .take(most)
+        .count()
+        == most
 }
 
 pub fn lock_room(w: &[u64], c: Counts) -> bool
@@ -48,31 +44,11 @@ pub fn access_room(w: &[u64], c: Counts, i: usize) -> bool
     has_free(w, tables::access_table(c), tables::access_heads(c), 1)
 }
 
-fn count_if(b: bool, m: usize) -> usize
-    requires { m < MAX_ROWS }
-    ensures { result ≡ cond b (suc m) m }
-{
-    if b {
-        return m + 1;
-    }
-    m
-}
-
 fn written_count(w: &[u64], c: Counts, k: usize) -> usize
     requires { Fits c w.now × IsRow c.edits k }
     ensures { result ≡ length (written_of (slot_at c w.now k)) }
 {
-    let n = c.accesses;
-    let mut m = 0;
-    let mut cur = tables::first_access(w, c, k);
-    let mut left = n;
-    while chains::more(n, left, cur) {
-        let a = tables::access_at(w, c, cur);
-        m = count_if(a.written, m);
-        cur = tables::next_access(w, c, cur);
-        left -= 1;
-    }
-    m
+    tables::accesses(w, c, k).filter(|a| a.written).count()
 }
 
 pub fn version_room(w: &[u64], c: Counts, k: usize) -> bool

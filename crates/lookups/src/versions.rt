@@ -7,73 +7,45 @@ ghost use Rattle.meaning.specs.Lists.{any};
 ghost use Rattle.tables.specs.Layout.{Fits};
 ghost use Rattle.tables.specs.Decode.{record_at};
 
-use types::{Counts, Value, Version};
+use types::{Counts, Version};
+
+// A record's first state, below all its versions: never written.
+const FIRST: Version = Version {
+    point: 0,
+    value: None,
+    spare: 0,
+};
 
 pub fn newest_below(w: &[u64], c: Counts, r: usize, m: u64) -> Version
     requires { Fits c w.now × (r < c.records) }
     ensures { result ≡ newest_below (record_at c w.now r).versions m }
 {
-    let n = c.versions;
-    let mut cur = tables::first_version(w, c, r);
-    let mut left = n;
-    while chains::more(n, left, cur) {
-        let v = tables::version_at(w, c, cur);
-        if v.point < m {
-            return v;
-        }
-        cur = tables::next_version(w, c, cur);
-        left -= 1;
-    }
-    Version {
-        point: 0,
-        value: Value::Never,
-        spare: 0,
-    }
+    tables::versions(w, c, r)
+        .find(|v| v.point < m)
+        .unwrap_or(FIRST)
 }
 
 pub fn newest_at(w: &[u64], c: Counts, r: usize, p: u64) -> Version
     requires { Fits c w.now × (r < c.records) × (p ≤ LAST) }
     ensures { result ≡ newest_at (record_at c w.now r).versions p }
 {
-    newest_below(w, c, r, p + 1)
+    tables::versions(w, c, r)
+        .find(|v| v.point <= p)
+        .unwrap_or(FIRST)
 }
 
 pub fn version_on(w: &[u64], c: Counts, r: usize, p: u64) -> Version
     requires { Fits c w.now × (r < c.records) }
     ensures { result ≡ version_on (record_at c w.now r).versions p }
 {
-    let n = c.versions;
-    let mut cur = tables::first_version(w, c, r);
-    let mut left = n;
-    while chains::more(n, left, cur) {
-        let v = tables::version_at(w, c, cur);
-        if v.point == p {
-            return v;
-        }
-        cur = tables::next_version(w, c, cur);
-        left -= 1;
-    }
-    Version {
-        point: 0,
-        value: Value::Never,
-        spare: 0,
-    }
+    tables::versions(w, c, r)
+        .find(|v| v.point == p)
+        .unwrap_or(FIRST)
 }
 
 pub fn version_stands(w: &[u64], c: Counts, r: usize, p: u64) -> bool
     requires { Fits c w.now × (r < c.records) }
     ensures { result ≡ any (λ v. eqb v.point p) (record_at c w.now r).versions }
 {
-    let n = c.versions;
-    let mut cur = tables::first_version(w, c, r);
-    let mut left = n;
-    while chains::more(n, left, cur) {
-        let v = tables::version_at(w, c, cur);
-        if v.point == p {
-            return true;
-        }
-        cur = tables::next_version(w, c, cur);
-        left -= 1;
-    }
-    false
+    tables::versions(w, c, r).any(|v| v.point == p)
 }

@@ -11,7 +11,7 @@ use lib.ListN.{length, length-set}
 use borrow.Author.Tests.{eq-eqb, leb-true}
 use Rattle.types.specs.Limits.{LAST, WRITE, FREE, OPEN}
 use Rattle.types.specs.Values.{Val}
-use Rattle.types.specs.declared.Value.{Value}
+use Rattle.types.specs.Values.{Value}
 use Rattle.types.specs.Numbers.{slot_of, generation_of}
 use Rattle.types.specs.Replies.{ok, locked, read, own, again, commit, nopoint, refusing, refused}
 use Rattle.types.specs.declared.Extent.{Extent}

@@ -9,7 +9,7 @@ use Rattle.types.specs.declared.Finish.TheVariants.{Settle}
 use Rattle.types.specs.declared.Pick.{Pick}
 use Rattle.types.specs.declared.Pick.TheVariants.{Named}
 use Rattle.types.specs.declared.Point.{Point}
-use Rattle.types.specs.declared.Value.{Value}
+use Rattle.types.specs.Values.{Value}
 use Rattle.meaning.specs.Store.{Store}
 use Rattle.meaning.specs.Outcomes.{knows, is_open, has_record}
 use Rattle.meaning.specs.Edits.{writing}

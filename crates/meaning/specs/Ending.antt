@@ -1,9 +1,9 @@
 -- The calls Commit, Abort and Settle, over a way to keep locks; the store's is `joined`. Rests on Outcomes and the
 -- common set of Points.
-use Rattle.std.specs.Prelude.{ℕ, Bool, true, not, cond, List, [], ltb, eqb}
+use Rattle.std.specs.Prelude.{ℕ, Bool, true, not, cond, List, [], ltb, eqb, Some}
 use Rattle.meaning.specs.Lists.{put_before, map_from}
 use Rattle.types.specs.Limits.{LAST, READ, WRITE, FREE, COMMITTED, ABORTED}
-use Rattle.meaning.specs.Store.{Written, Version, Lock, Access, Rec, Edit, Store, slot_of, edit_at, with_edit}
+use Rattle.meaning.specs.Store.{Version, Lock, Access, Rec, Edit, Store, slot_of, edit_at, with_edit}
 use Rattle.meaning.specs.Store.{with_records, with_locks, access_of, has_read}
 use Rattle.meaning.specs.Points.{Keeping, joined, drop_owner, in_common, earliest, latest}
 use Rattle.types.specs.Replies.{ok, commit, nopoint}
@@ -54,7 +54,7 @@ insert v ws = put_before (λ w. ltb w.point v.point) v ws
 
 -- "written values become versions at the point": the version that an access makes
 abbrev pub new_version : Access → ℕ → Version
-new_version a t = record { point = t; value = Written a.value; spare = 0 }
+new_version a t = record { point = t; value = Some a.value; spare = 0 }
 
 -- "all written values become versions at the point": record r afterwards
 abbrev pub committed_rec : Edit → ℕ → ℕ → Rec → Rec

@@ -1,6 +1,6 @@
 -- Settled reads of one record joined, computed: two rows that lie apart are taken in by a third at once, Purge shortens
 -- the row that they make, and the old table has two rows more to purge. Rests on Calls.
-use Rattle.std.specs.Prelude.{ℕ, ◌≡◌, List, [], ◌∷◌, ◌++◌}
+use Rattle.std.specs.Prelude.{ℕ, ◌≡◌, List, [], ◌∷◌, ◌++◌, Some}
 use Rattle.types.specs.Limits.{READ, WRITE}
 use Rattle.types.specs.Replies.{Reply, ok, edit, locked, read, commit, purged}
 use Rattle.types.specs.declared.Counts.{Counts}
@@ -11,7 +11,7 @@ use Rattle.types.specs.declared.Pick.TheVariants.{Earliest, Latest}
 use Rattle.types.specs.declared.Finish.TheVariants.{Settle, Keep}
 use Rattle.types.specs.declared.Call.{Call}
 use Rattle.types.specs.declared.Call.TheVariants as C
-use Rattle.meaning.specs.Store.{Written, Store, Lock, rec_at, fresh}
+use Rattle.meaning.specs.Store.{Store, Lock, rec_at, fresh}
 use Rattle.meaning.specs.Points.{plain, settled_lock}
 use Rattle.meaning.specs.Calls.{run_by, run, after_by, after}
 
@@ -55,13 +55,13 @@ join_replies =
     ∷ edit 129
     ∷ edit 66
     ∷ edit 67
-    ∷ read 3 6 (Written 1)
+    ∷ read 3 6 (Some 1)
     ∷ locked 7 7
     ∷ ok
-    ∷ read 3 5 (Written 1)
+    ∷ read 3 5 (Some 1)
     ∷ commit 5
     ∷ commit 7
-    ∷ read 7 9 (Written 2)
+    ∷ read 7 9 (Some 2)
     ∷ commit 9
     ∷ ok
     ∷ []

@@ -1,7 +1,7 @@
 -- The session of document 01, computed over one list of lines: the thirteen lines give the thirteen replies, whatever
 -- the slice held before. Rests on Calls.
-use Rattle.std.specs.Prelude.{ℕ, ◌≡◌, List, [], ◌∷◌}
-use Rattle.meaning.specs.Store.{Never, Written, Store}
+use Rattle.std.specs.Prelude.{ℕ, ◌≡◌, List, [], ◌∷◌, Some, None}
+use Rattle.meaning.specs.Store.{Store}
 use Rattle.types.specs.Replies.{Reply, ok, edit, locked, read, commit, purged, refusing}
 use Rattle.meaning.specs.Calls.{Line, format, call, lines}
 use Rattle.types.specs.declared.Handle.{Handle}
@@ -51,13 +51,13 @@ session_replies =
     ok
     ∷ edit 65
     ∷ edit 66
-    ∷ read 0 6 Never
+    ∷ read 0 6 None
     ∷ locked 7 9
     ∷ ok
     ∷ commit 7
     ∷ commit 6
     ∷ edit 129
-    ∷ read 7 9 (Written 501)
+    ∷ read 7 9 (Some 501)
     ∷ refusing 9 []
     ∷ purged 0 2
     ∷ refusing 2 []

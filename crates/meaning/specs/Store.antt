@@ -1,10 +1,10 @@
 -- The abstract store: what the words of a sound slice mean. Row numbers, chains and free rows are left out.
 -- Rests on Lists and on Limits, Values and Numbers of `types`; Version, Lock, Access, Value and Counts are its types.
 use Rattle.std.specs.Prelude.{ℕ, zero, suc, Bool, false, not, List, [], length, get_or, set, replicate, leb, ltb, eqb}
+use Rattle.std.specs.Prelude.{None}
 use Rattle.meaning.specs.Lists.{any, find, total, keep}
 use Rattle.types.specs.Limits.{FREE}
-pub use Rattle.types.specs.declared.Value.{Value}
-pub use Rattle.types.specs.declared.Value.TheVariants.{Never, Written}
+pub use Rattle.types.specs.Values.{Value}
 pub use Rattle.types.specs.Values.{Val, blank}
 pub use Rattle.types.specs.Numbers.{handle, slot_of, generation_of, next_generation}
 pub use Rattle.types.specs.declared.Version.{Version}
@@ -160,7 +160,7 @@ accesses_used s = total (λ e. length e.accesses) s.edits
 
 -- "Point 0 belongs to the first, never written state (the paper's #)."
 abbrev pub first : Version
-first = record { point = 0; value = Never; spare = 0 }
+first = record { point = 0; value = None; spare = 0 }
 
 -- "the newest version at or below p", or the first state; versions stand from the newest
 unfoldable pub newest_at : List Version → ℕ → Version

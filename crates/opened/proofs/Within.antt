@@ -1,10 +1,13 @@
 -- A call in a session: from what the call acts on sound words and what `note` keeps of the index. Rests on Doing and
 -- Performing of `store`.
+use Rattle.std.specs.Prelude.{Result, Ok, Err}
 use Prim.Native.Nat.{ℕ}
 use mathlib.Core.Path.{◌≡◌, refl, sym, ap, ◌∙◌}
 use mathlib.Core.Bool.{true, false, false≢true}
 use mathlib.Core.List.{List}
-use Rattle.types.specs.Replies.{Reply}
+use Rattle.types.specs.Replies.{Reply, of_result, of_answer}
+use Rattle.types.specs.declared.Refusal.{Refusal}
+use Rattle.types.specs.declared.Granted.{Granted}
 use Rattle.types.specs.declared.Call.{Call}
 use Rattle.meaning.specs.Store.{Store}
 use Rattle.meaning.specs.Outcomes.{Outcome}
@@ -48,9 +51,19 @@ module _ {w w' ix' : List ℕ} {r : Reply} where
             };
       }
 
-  pub within_matched : {call call' : Call} {f : Store → Outcome} → call ≡ call' → ((s : Store) → act call' s ≡ f s)
-      → Within f w w' ix' r → Within (act call) w w' ix' r
-  within_matched e f W = rw e (record { does = does_same f W.does; opened = W.opened })
+matched : {c d : Call} → c ≡ d → {f : Store → Outcome} → ((s : Store) → act d s ≡ f s) → {w w' ix' : List ℕ}
+    {r : Reply} → Within f w w' ix' r → Within (act c) w w' ix' r
+matched m e W = rw m (record { does = does_same e W.does; opened = W.opened })
+
+-- a call that was matched, by its own function's promise, where that granted it and where it refused
+module _ {c d : Call} (m : c ≡ d) {f : Store → Outcome} (e : (s : Store) → act d s ≡ f s) {A : Type 0}
+    (given : A → Reply) {w w' ix' : List ℕ} {q : Result A Refusal} (p : Within f w w' ix' (of_result given q)) where
+  pub granted : {x : A} → q ≡ Ok x → Within (act c) w w' ix' (given x)
+  granted h = matched m e (rw h at p)
+
+  pub refused_by : {x : Refusal} {a : Result Granted Refusal} → q ≡ Err x → a ≡ Err x
+      → Within (act c) w w' ix' (of_answer a)
+  refused_by h k = rw k (matched m e (rw h at p))
 
 -- a look changes neither words nor index
 pub view_within : (rec p : ℕ) {w ix : List ℕ} {r : Reply} → Opened w ix → Shows (viewing rec p) w r

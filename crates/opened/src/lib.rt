@@ -5,7 +5,7 @@
 #![tactic(auto)]
 
 ghost use Rattle.std.specs.Prelude.{◌≡◌, true};
-ghost use Rattle.types.specs.Replies.{of_begin, of_write, of_lock, of_read, of_commit, of_abort, of_settle, of_purge};
+ghost use Rattle.types.specs.Replies.{of_begin, of_done, of_lock, of_read, of_commit, of_purge};
 ghost use Rattle.types.specs.Replies.{of_view};
 ghost use Rattle.types.specs.Replies.{of_answer};
 ghost use Rattle.meaning.specs.Edits.{beginning, writing};
@@ -18,8 +18,7 @@ ghost use Rattle.store.specs.Promises.{Shows};
 ghost use Rattle.opened.specs.Opened.{Opened, Opens, Within};
 
 use types::{
-    AbortReply, Answer, BeginReply, Call, CommitReply, Extent, Finish, Handle, LockReply, Pick,
-    Point, PurgeReply, ReadReply, SettleReply, ViewReply, WriteReply,
+    Call, Extent, Finish, Found, Freed, Granted, Handle, Pick, Point, Refusal, Seen, Span,
 };
 
 // Opens a session, if the words are sound. The index then knows nothing of the slots until their next Begin.
@@ -33,7 +32,7 @@ pub fn open(words: &[u64], ix: &mut [u16]) -> bool
     false
 }
 
-pub fn begin(words: &mut [u64], ix: &mut [u16]) -> BeginReply
+pub fn begin(words: &mut [u64], ix: &mut [u16]) -> Result<Handle, Refusal>
     requires { Opened words.old ix.old }
     ensures { Within beginning words.old words.new ix.new (of_begin result) }
 {
@@ -42,9 +41,15 @@ pub fn begin(words: &mut [u64], ix: &mut [u16]) -> BeginReply
     reply
 }
 
-pub fn write(words: &mut [u64], ix: &mut [u16], h: Handle, rec: u64, value: u64) -> WriteReply
+pub fn write(
+    words: &mut [u64],
+    ix: &mut [u16],
+    h: Handle,
+    rec: u64,
+    value: u64,
+) -> Result<(), Refusal>
     requires { Opened words.old ix.old }
-    ensures { Within (writing h.0 rec value) words.old words.new ix.new (of_write result) }
+    ensures { Within (writing h.0 rec value) words.old words.new ix.new (of_done result) }
 {
     let reply = calls::write(words, h, rec, value, ix);
     index::touch(ix, h, rec);
@@ -59,7 +64,7 @@ pub fn lock(
     low: Point,
     high: Point,
     extent: Extent,
-) -> LockReply
+) -> Result<Span, Refusal>
     requires { Opened words.old ix.old }
     ensures { Within (locking h.0 rec low.0 high.0 extent)
         words.old words.new ix.new (of_lock result) }
@@ -76,7 +81,7 @@ pub fn read(
     rec: u64,
     m: Point,
     extent: Extent,
-) -> ReadReply
+) -> Result<Found, Refusal>
     requires { Opened words.old ix.old }
     ensures { Within (reading h.0 rec m.0 extent) words.old words.new ix.new (of_read result) }
 {
@@ -91,28 +96,28 @@ pub fn commit(
     h: Handle,
     pick: Pick,
     finish: Finish,
-) -> CommitReply
+) -> Result<Option<Point>, Refusal>
     requires { Opened words.old ix.old }
     ensures { Within (committing h.0 pick finish) words.old words.new ix.new (of_commit result) }
 {
     commits::commit(words, h, pick, finish, ix)
 }
 
-pub fn abort(words: &mut [u64], ix: &mut [u16], h: Handle, finish: Finish) -> AbortReply
+pub fn abort(words: &mut [u64], ix: &mut [u16], h: Handle, finish: Finish) -> Result<(), Refusal>
     requires { Opened words.old ix.old }
-    ensures { Within (aborting h.0 finish) words.old words.new ix.new (of_abort result) }
+    ensures { Within (aborting h.0 finish) words.old words.new ix.new (of_done result) }
 {
     endings::abort(words, h, finish, ix)
 }
 
-pub fn settle(words: &mut [u64], ix: &mut [u16], h: Handle) -> SettleReply
+pub fn settle(words: &mut [u64], ix: &mut [u16], h: Handle) -> Result<(), Refusal>
     requires { Opened words.old ix.old }
-    ensures { Within (settling h.0) words.old words.new ix.new (of_settle result) }
+    ensures { Within (settling h.0) words.old words.new ix.new (of_done result) }
 {
     endings::settle(words, h, ix)
 }
 
-pub fn purge(words: &mut [u64], ix: &mut [u16], rec: u64, b: Point) -> PurgeReply
+pub fn purge(words: &mut [u64], ix: &mut [u16], rec: u64, b: Point) -> Result<Freed, Refusal>
     requires { Opened words.old ix.old }
     ensures { Within (purging rec b.0) words.old words.new ix.new (of_purge result) }
 {
@@ -120,7 +125,7 @@ pub fn purge(words: &mut [u64], ix: &mut [u16], rec: u64, b: Point) -> PurgeRepl
 }
 
 // View needs no index, and changes none: it may be asked of words that are lent to many.
-pub fn view(words: &[u64], rec: u64, p: Point) -> ViewReply
+pub fn view(words: &[u64], rec: u64, p: Point) -> Result<Seen, Refusal>
     requires { sound_words (lent words.now) ≡ true }
     ensures { Shows (viewing rec p.0) words.now (of_view result) }
 {
@@ -128,21 +133,30 @@ pub fn view(words: &[u64], rec: u64, p: Point) -> ViewReply
 }
 
 // A call of any kind.
-pub fn perform(words: &mut [u64], ix: &mut [u16], call: Call) -> Answer
+pub fn perform(words: &mut [u64], ix: &mut [u16], call: Call) -> Result<Granted, Refusal>
     requires { Opened words.old ix.old }
     ensures { Within (act call) words.old words.new ix.new (of_answer result) }
 {
-    match call {
-        Call::Begin => Answer::Begin(begin(words, ix)),
-        Call::Write(h, rec, value) => Answer::Write(write(words, ix, h, rec, value)),
-        Call::Lock(h, rec, low, high, extent) => {
-            Answer::Lock(lock(words, ix, h, rec, low, high, extent))
+    Ok(match call {
+        Call::Begin => Granted::Edit(begin(words, ix)?),
+        Call::Write(h, rec, value) => {
+            write(words, ix, h, rec, value)?;
+            Granted::Done
         }
-        Call::Read(h, rec, m, extent) => Answer::Read(read(words, ix, h, rec, m, extent)),
-        Call::Commit(h, pick, finish) => Answer::Commit(commit(words, ix, h, pick, finish)),
-        Call::Abort(h, finish) => Answer::Abort(abort(words, ix, h, finish)),
-        Call::Settle(h) => Answer::Settle(settle(words, ix, h)),
-        Call::Purge(rec, b) => Answer::Purge(purge(words, ix, rec, b)),
-        Call::View(rec, p) => Answer::View(view(words, rec, p)),
-    }
+        Call::Lock(h, rec, low, high, extent) => Granted::Locked(lock(
+            words, ix, h, rec, low, high, extent,
+        )?),
+        Call::Read(h, rec, m, extent) => Granted::Read(read(words, ix, h, rec, m, extent)?),
+        Call::Commit(h, pick, finish) => Granted::Commit(commit(words, ix, h, pick, finish)?),
+        Call::Abort(h, finish) => {
+            abort(words, ix, h, finish)?;
+            Granted::Done
+        }
+        Call::Settle(h) => {
+            settle(words, ix, h)?;
+            Granted::Done
+        }
+        Call::Purge(rec, b) => Granted::Purged(purge(words, ix, rec, b)?),
+        Call::View(rec, p) => Granted::At(view(words, rec, p)?),
+    })
 }

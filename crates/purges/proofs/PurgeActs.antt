@@ -30,6 +30,7 @@ use Rattle.calls.specs.Contract.{Acts, Makes}
 use Rattle.calls.proofs.Acting.{ready, makes_refused, makes_done, makes_as, acts}
 use Rattle.endings.specs.Parts.{locked_below, purged_to, purge_all}
 use Rattle.calls.proofs.Acting.{records_counted}
+use Rattle.types.specs.declared.Refusal.TheVariants.{NoRecord, BadPoint}
 use Rattle.purges.proofs.PurgeExits
 use Rattle.endings.proofs.EndActs.{acts_refused}
 
@@ -110,13 +111,13 @@ module _ (w : List ℕ) (c : Counts) (P : sound_words (lent w) ≡ true) (E : c 
 
   pub purge_refused : (b : ℕ) → q ≡ false → Acts (purging rec b) (lent w) (lent w) (refusing 5 [])
   purge_refused b z =
-      acts_refused (purging rec b) (purge_keeps rec b) w c P E 5
+      acts_refused (purging rec b) (purge_keeps rec b) w c P E NoRecord
       (PurgeExits.purge_no_record (decode_at c w) rec b (has_is false z))
 
   module _ (z : q ≡ true) (b p : ℕ) (ep : p ≡ b) where
     pub purge_bad_point : LAST < p → Acts (purging rec b) (lent w) (lent w) (refusing 6 [])
     purge_bad_point l =
-        acts_refused (purging rec b) (purge_keeps rec b) w c P E 6
+        acts_refused (purging rec b) (purge_keeps rec b) w c P E BadPoint
         (PurgeExits.purge_bad_point (decode_at c w) rec b (has_is true z) (rw ep at l))
 
     module _ (l : p ≤ LAST) (r : ℕ) (er : r ≡ rec) where

@@ -20,10 +20,14 @@ use Rattle.types.specs.declared.Access.{Access}
 use Rattle.types.specs.declared.Extent.{Extent}
 use Rattle.blocking.specs.declared.Blocked.{Blocked}
 use Rattle.blocking.specs.Search.{first_judged}
-use Rattle.calls.specs.declared.Grant.TheVariants.{Taken, Judged}
+use Rattle.std.specs.Prelude.{Result, Ok, Err}
 use Rattle.calls.specs.Grants.{read_grant, refusal_by}
 use Rattle.calls.specs.Parts.{read_taken}
-use Rattle.calls.proofs.Verdicts.{needs_fails, needs_holds, else_fails, else_holds, no_edit_lem, edit_ended, edit_open}
+use Rattle.calls.proofs.Verdicts.{needs_fails, needs_holds, else_fails, else_holds, edit_open}
+use Rattle.calls.specs.Checks.{open_slot}
+use Rattle.calls.proofs.Checks.{open_refused}
+use Rattle.types.specs.Replies.{of_refusal}
+use Rattle.types.specs.declared.Refusal.{Refusal}
 use Rattle.calls.proofs.Granting.{grant_judged, grant_taken, read_refused}
 use Rattle.calls.proofs.Judged.{by_small, refusal_is}
 
@@ -34,13 +38,10 @@ module _ (s : Store) (h r m : ℕ) (w : Extent) where
   abbrev read_next : Outcome
   read_next = read_open s (slot_of h) r m w
 
-  pub read_no_edit : knows s h ≡ false → reading h r m w s ≡ replies s (refusing 2 [])
+  pub read_closed : {q : Result ℕ Refusal} {x : Refusal} → q ≡ open_slot s h → q ≡ Err x
+      → reading h r m w s ≡ replies s (of_refusal x)
   unfolding reading_by read_checks
-  read_no_edit e = no_edit_lem s read_next h read_rest e
-
-  pub read_ended : knows s h ≡ true → is_open s h ≡ false → reading h r m w s ≡ replies s (refusing 3 [])
-  unfolding reading_by read_checks
-  read_ended e f = edit_ended s read_next h read_rest e f
+  read_closed m e = open_refused s h m read_rest read_next e
 
   pub read_no_record : knows s h ≡ true → is_open s h ≡ true → has_record s r ≡ false
       → reading h r m w s ≡ replies s (refusing 5 [])
@@ -106,7 +107,7 @@ module _ (s : Store) (k r m : ℕ) (w : Extent) where
     unfolding read_new_by read_verdict
     read_above = needs_holds s read_made (ltb (rec_at s r).floor m) 7 read_judged above
 
-    module _ (b : Blocked) (e : Judged b ≡ read_grant w s k r (read_from s r m) m) where
+    module _ (b : Blocked) (e : Err b ≡ read_grant w s k r (read_from s r m) m) where
       judged : (read_granted_lem ≡ false) × (read_first_judged ≡ b)
       unfolding read_grant
       judged = grant_judged read_granted_lem (read_from s r m) (read_end s k r m w) read_first_judged b (sym e)
@@ -122,7 +123,7 @@ module _ (s : Store) (k r m : ℕ) (w : Extent) where
           ∙ else_fails s read_made read_granted_lem n more (judge s r READ k read_blocked_at) read_rooms judged.0
           (f ∙ refusal_is s r READ k (read_from s r m) m b (sym judged.1) i)
 
-    pub read_granted_is : (from end : ℕ) → Taken from end ≡ read_grant w s k r (read_from s r m) m
+    pub read_granted_is : (from end : ℕ) → Ok (from, end) ≡ read_grant w s k r (read_from s r m) m
         → read_new s k r m w ≡ read_taken s k r from end (read_version s r m)
     unfolding read_grant read_taken
     read_granted_is from end e =

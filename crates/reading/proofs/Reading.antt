@@ -29,15 +29,19 @@ use Rattle.tables.specs.Words.{lent, sound_words}
 use Rattle.tables.proofs.Decoded.{rec_at_lem, edit_at_lem}
 use Rattle.changes.specs.Becomes.{Becomes, on_locks, on_edit}
 use Rattle.blocking.specs.declared.Blocked.{Blocked}
+use Rattle.types.specs.Replies.{number, details, of_refusal}
+use Rattle.types.specs.declared.Refusal.{Refusal}
+use Rattle.types.specs.declared.Refusal.TheVariants.{NoRecord, BadPoint}
+use Rattle.calls.specs.Checks.{open_slot}
 use Rattle.calls.specs.Contract.{Acts, Ready, Makes}
 use Rattle.calls.specs.Grants.{read_grant, refusal_by}
 use Rattle.calls.specs.Parts.{read_taken}
-use Rattle.calls.specs.declared.Grant.{Grant}
-use Rattle.calls.specs.declared.Grant.TheVariants.{Taken, Judged}
+use Rattle.calls.specs.Grants.{Grant}
+use Rattle.std.specs.Prelude.{Result, Ok, Err}
 use Rattle.calls.proofs.Acting.{ready, facts, makes_refused, makes_done, makes_as, acts}
 use Rattle.calls.proofs.Handles.{has_record_is}
 use Rattle.calls.proofs.Rooms.{lock_free, edit_leaves_room, edit_then_lock}
-use Rattle.reading.proofs.ReadExits.{read_no_edit, read_ended, read_no_record, read_bad_point, read_passes}
+use Rattle.reading.proofs.ReadExits.{read_closed, read_no_record, read_bad_point, read_passes}
 use Rattle.reading.proofs.ReadExits.{read_own, read_again, read_first, read_below, read_by_small}
 use Rattle.reading.proofs.ReadExits.{read_blocked, read_granted_is, read_no_access, read_no_lock, read_done}
 
@@ -117,7 +121,7 @@ module _ (c : Counts) (w : List ℕ) (R : Ready c w) (k r m : ℕ) (x : Extent) 
       granted : {h : Grant} → g ≡ h → h ≡ read_grant x (decode_at c w) k r (read_from (decode_at c w) r m) m
       granted q = sym q ∙ d ∙ ap (λ (y : ℕ). read_grant x (decode_at c w) k r y m) from_is
 
-      module _ (b : Blocked) (q : g ≡ Judged b) where
+      module _ (b : Blocked) (q : g ≡ Err b) where
         pub new_by_small : b.by ≤ SLOTS
         new_by_small = read_by_small (decode_at c w) k r m x above b (granted q)
 
@@ -128,7 +132,7 @@ module _ (c : Counts) (w : List ℕ) (R : Ready c w) (k r m : ℕ) (x : Extent) 
             makes_refused c w (read_new (decode_at c w) k r m x) j more R.well
             (read_blocked (decode_at c w) k r m x above b (granted q) j more order u)
 
-      pub new_taken : (from end : ℕ) (w' : List ℕ) (q : Reply) → g ≡ Taken from end
+      pub new_taken : (from end : ℕ) (w' : List ℕ) (q : Reply) → g ≡ Ok (from, end)
           → Makes c (read_taken (decode_at c w) k r from end v) w w' q
           → Makes c (read_new (decode_at c w) k r m x) w w' q
       new_taken from end w' q u M =
@@ -167,32 +171,31 @@ module _ (c : Counts) (w : List ℕ) (hs : sound_words (lent w) ≡ true) (e : c
   abbrev Ends : List ℕ → Reply → Type 0
   Ends w' q = Acts (reading h r m x) (lent w) (lent w') q
 
-  refuses : (n : ℕ) → reading h r m x (decode_at c w) ≡ replies (decode_at c w) (refusing n []) → Ends w (refusing n [])
-  refuses n o =
-      acts (reading h r m x) (read_keeps h r m x) c w w (refusing n []) hs e
-      (makes_refused c w (reading h r m x (decode_at c w)) n [] (ready w hs c e).well o)
+  refuses : (y : Refusal) → reading h r m x (decode_at c w) ≡ replies (decode_at c w) (of_refusal y)
+      → Ends w (of_refusal y)
+  refuses y o =
+      acts (reading h r m x) (read_keeps h r m x) c w w (of_refusal y) hs e
+      (makes_refused c w (reading h r m x (decode_at c w)) (number y) (details y) (ready w hs c e).well o)
 
-  pub reads_no_edit : knows (decode_at c w) h ≡ false → Ends w (refusing 2 [])
-  reads_no_edit k = refuses 2 (read_no_edit (decode_at c w) h r m x k)
-
-  pub reads_ended : knows (decode_at c w) h ≡ true → is_open (decode_at c w) h ≡ false → Ends w (refusing 3 [])
-  reads_ended k o = refuses 3 (read_ended (decode_at c w) h r m x k o)
+  pub reads_closed : {q : Result ℕ Refusal} {y : Refusal} → q ≡ open_slot (decode_at c w) h → q ≡ Err y
+      → Ends w (of_refusal y)
+  reads_closed {q} {y} m' f = refuses y (read_closed (decode_at c w) h r m x m' f)
 
   module _ (k : knows (decode_at c w) h ≡ true) (o : is_open (decode_at c w) h ≡ true) where
     pub reads_no_record : ltb r c.records ≡ false → Ends w (refusing 5 [])
-    reads_no_record t = refuses 5 (read_no_record (decode_at c w) h r m x k o (sym (has_record_is c w r) ∙ t))
+    reads_no_record t = refuses NoRecord (read_no_record (decode_at c w) h r m x k o (sym (has_record_is c w r) ∙ t))
 
     module _ (t : ltb r c.records ≡ true) (n : ℕ) (a : n ≡ m) where
       there : has_record (decode_at c w) r ≡ true
       there = sym (has_record_is c w r) ∙ t
 
       pub reads_zero : n < 1 → Ends w (refusing 6 [])
-      reads_zero l = refuses 6 (read_bad_point (decode_at c w) h r m x k o there (rw (lt-leb 1 m (omega arith))))
+      reads_zero l = refuses BadPoint (read_bad_point (decode_at c w) h r m x k o there (rw (lt-leb 1 m (omega arith))))
 
       module _ (low : 1 ≤ n) where
         pub reads_too_large : LAST < n → Ends w (refusing 6 [])
         reads_too_large l =
-            refuses 6 (read_bad_point (decode_at c w) h r m x k o there
+            refuses BadPoint (read_bad_point (decode_at c w) h r m x k o there
             (rw (le-leb 1 m (omega arith), lt-leb m LAST (omega arith))))
 
         pub read_acts : n ≤ LAST → (w' : List ℕ) (q : Reply) (j : ℕ) → j ≡ slot_of h

@@ -17,10 +17,18 @@ ghost use Rattle.calls.specs.Contract.{Acts, Ready, Makes};
 ghost use Rattle.calls.specs.Grants.{read_grant};
 ghost use Rattle.calls.specs.Parts.{read_taken};
 
-use calls::Grant;
-use types::{Access, Counts, Extent, Handle, LAST, Lock, Point, READ, ReadReply, Refusal, Version};
+use blocking::Blocked;
+use types::{Access, Counts, Extent, Found, Handle, LAST, Lock, Point, READ, Refusal, Version};
 
-fn read_grant(w: &[u64], c: Counts, extent: Extent, k: u64, r: usize, low: u64, high: u64) -> Grant
+fn read_grant(
+    w: &[u64],
+    c: Counts,
+    extent: Extent,
+    k: u64,
+    r: usize,
+    low: u64,
+    high: u64,
+) -> Result<(u64, u64), Blocked>
     requires { Ready c w.now × (r < c.records) × (1 ≤ low) × (low ≤ high) × (high ≤ LAST) × (1 ≤ k) }
     ensures { result ≡ read_grant extent (decode_at c w.now) k r low high }
 {
@@ -28,16 +36,16 @@ fn read_grant(w: &[u64], c: Counts, extent: Extent, k: u64, r: usize, low: u64, 
     match extent {
         Extent::All => {
             if high < b.point {
-                Grant::Taken(low, high)
+                Ok((low, high))
             } else {
-                Grant::Judged(b)
+                Err(b)
             }
         }
         Extent::Part => {
             if low < b.point {
-                Grant::Taken(low, b.point - 1)
+                Ok((low, b.point - 1))
             } else {
-                Grant::Judged(b)
+                Err(b)
             }
         }
     }
@@ -53,15 +61,15 @@ fn read_taken(
     from: u64,
     end: u64,
     v: Version,
-) -> ReadReply
+) -> Result<Found, Refusal>
     requires { Ready c w.old × IsRow c.edits k × (r < c.records) × AccessRow c w.old k r i }
     ensures { Makes c (read_taken (decode_at c w.old) k r from end v) w.old w.new (of_read result) }
 {
     if !lookups::access_room(w, c, i) {
-        return ReadReply::Refused(Refusal::NoAccessRow);
+        return Err(Refusal::NoAccessRow);
     }
     if !lookups::lock_room(w, c) {
-        return ReadReply::Refused(Refusal::NoLockRow);
+        return Err(Refusal::NoLockRow);
     }
     slots::set_access(
         w,
@@ -87,11 +95,7 @@ fn read_taken(
         },
     );
     let value = v.value;
-    ReadReply::Read(
-        types::point_of_word(v.point),
-        types::point_of_word(end),
-        value,
-    )
+    Ok(Found::Read(Point::from(v.point), Point::from(end), value))
 }
 
 // Read, of a record that the edit has neither written nor read; i is the row of its access, or 0.
@@ -103,17 +107,17 @@ fn read_new(
     i: usize,
     m: u64,
     extent: Extent,
-) -> ReadReply
+) -> Result<Found, Refusal>
     requires { Ready c w.old × IsRow c.edits k × (r < c.records) × (m ≤ LAST) × AccessRow c w.old k r i }
     ensures { Makes c (read_new (decode_at c w.old) k r m extent) w.old w.new (of_read result) }
 {
     if m <= tables::floor_of(w, c, r) {
-        return ReadReply::Refused(Refusal::BelowFloor);
+        return Err(Refusal::BelowFloor);
     }
     let v = lookups::newest_below(w, c, r, m);
     match read_grant(w, c, extent, k as u64, r, v.point + 1, m) {
-        Grant::Judged(b) => ReadReply::Refused(calls::judge(w, c, b)),
-        Grant::Taken(from, end) => read_taken(w, c, k, r, i, from, end, v),
+        Err(b) => Err(calls::judge(w, c, b)),
+        Ok((from, end)) => read_taken(w, c, k, r, i, from, end, v),
     }
 }
 
@@ -126,44 +130,44 @@ fn read_open(
     m: u64,
     extent: Extent,
     ix: &[u16],
-) -> ReadReply
+) -> Result<Found, Refusal>
     requires { Ready c w.old × IsRow c.edits k × (r < c.records) × (m ≤ LAST) × Indexed (decode_at c w.old) ix.now }
     ensures { Makes c (read_open (decode_at c w.old) k r m extent) w.old w.new (of_read result) }
 {
     let i = index::access_row(w, c, k, r as u64, ix);
     let a = lookups::access_in(w, c, r as u64, i);
     if a.written {
-        return ReadReply::Own(a.value);
+        return Ok(Found::Own(a.value));
     }
     if 0 < a.from {
         let v = lookups::version_on(w, c, r, a.from - 1);
         let value = v.value;
-        return ReadReply::Again(types::point_of_word(a.from - 1), value);
+        return Ok(Found::Again(Point::from(a.from - 1), value));
     }
     read_new(w, c, k, r, i, m, extent)
 }
 
 // The call Read.
-pub fn read(w: &mut [u64], h: Handle, rec: u64, m: Point, extent: Extent, ix: &[u16]) -> ReadReply
+pub fn read(
+    w: &mut [u64],
+    h: Handle,
+    rec: u64,
+    m: Point,
+    extent: Extent,
+    ix: &[u16],
+) -> Result<Found, Refusal>
     requires { (sound_words (lent w.old) ≡ true) × Indexed (decode (lent w.old)) ix.now }
     ensures { Acts (reading h.0 rec m.0 extent) (lent w.old) (lent w.new) (of_read result) }
 {
     let c = tables::counts_of(w);
-    if !lookups::known(w, c, h) {
-        return ReadReply::Refused(Refusal::NoEdit);
-    }
-    if !lookups::is_open(w, c, h) {
-        return ReadReply::Refused(Refusal::EditEnded);
-    }
-    if !calls::has_record(c, rec) {
-        return ReadReply::Refused(Refusal::NoRecord);
-    }
-    let n = types::word_of_point(m);
+    let k = calls::open_slot(w, c, h)?;
+    let r = calls::record(c, rec)?;
+    let n = u64::from(m);
     if n < 1 {
-        return ReadReply::Refused(Refusal::BadPoint);
+        return Err(Refusal::BadPoint);
     }
     if LAST < n {
-        return ReadReply::Refused(Refusal::BadPoint);
+        return Err(Refusal::BadPoint);
     }
-    read_open(w, c, calls::slot(h), rec as usize, n, extent, ix)
+    read_open(w, c, k, r, n, extent, ix)
 }

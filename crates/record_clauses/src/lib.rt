@@ -15,16 +15,17 @@ ghost use Rattle.meaning.specs.Lists.{all, any};
 ghost use Rattle.meaning.specs.Store.{access_of};
 ghost use Rattle.meaning.specs.Sound.{wrote_at, backs, sound_rec};
 ghost use Rattle.tables.specs.Layout.{Fits};
-ghost use Rattle.tables.specs.Decode.{lock_at, version_at, record_at, slot_at, edits_of, lock_rows};
+ghost use Rattle.tables.specs.Decode.{lock_at, record_at, slot_at, edits_of, lock_rows};
 ghost use Rattle.tables.specs.Words.{locks_parted};
 ghost use Rattle.clauses.specs.Clauses.{mode_listed, span_lies, owner_used, lock_sound, lock_now, locks_pass, all_pass};
 ghost use Rattle.clauses.specs.Clauses.{falls_below, ends_on, falls_to, versions_sound, is_backed};
 ghost use Rattle.clauses.specs.Clauses.{records_sound, slots_sound};
 ghost use Rattle.clauses.specs.Marks.{Writers};
 
+use chains::Walk;
 use lock_marks::{MARKS, mark_slots};
 use sweeps::Swept;
-use types::{COMMITTED, Counts, LAST, Lock, READ, SETTLED, WRITE};
+use types::{COMMITTED, Counts, LAST, Lock, READ, SETTLED, Version, WRITE};
 
 // The locks of a record, each by itself: its span, its mode, its owner.
 
@@ -88,19 +89,13 @@ fn locks_pass(w: &[u64], c: Counts, r: usize) -> bool
     requires { Fits c w.now × (r < c.records) }
     ensures { result ≡ locks_pass (edits_of c w.now) (record_at c w.now r) }
 {
-    let n = c.locks;
     let floor = tables::floor_of(w, c, r);
     let mut s = sweeps::none_passed();
-    let mut cur = tables::first_lock(w, c, r);
-    let mut left = n;
-    while chains::more(n, left, cur) {
-        let l = tables::lock_at(w, c, cur);
+    for l in tables::locks(w, c, r) {
         if !lock_passes(w, c, floor, s, l) {
             return false;
         }
         s = sweeps::passed(s, l);
-        cur = tables::next_lock(w, c, cur);
-        left -= 1;
     }
     true
 }
@@ -110,15 +105,7 @@ pub fn all_pass(w: &[u64], c: Counts) -> bool
     requires { Fits c w.now }
     ensures { result ≡ all_pass c w.now }
 {
-    let n = c.records;
-    let mut r = 0;
-    while r < n {
-        if !locks_pass(w, c, r) {
-            return false;
-        }
-        r += 1;
-    }
-    true
+    (0..c.records).all(|r| locks_pass(w, c, r))
 }
 
 // Its versions: they fall strictly from LAST at most, none below the floor, none at 0, the last at the floor if that is
@@ -149,18 +136,12 @@ fn versions_fall(w: &[u64], c: Counts, r: usize, floor: u64) -> bool
     requires { Fits c w.now × (r < c.records) }
     ensures { result ≡ falls_to floor (suc LAST) (record_at c w.now r).versions }
 {
-    let n = c.versions;
     let mut top = LAST + 1;
-    let mut cur = tables::first_version(w, c, r);
-    let mut left = n;
-    while chains::more(n, left, cur) {
-        let v = tables::version_at(w, c, cur);
+    for v in tables::versions(w, c, r) {
         if !falls_below(floor, top, v.point) {
             return false;
         }
         top = v.point;
-        cur = tables::next_version(w, c, cur);
-        left -= 1;
     }
     ends_at(floor, top)
 }
@@ -220,24 +201,18 @@ fn any_backs(w: &[u64], c: Counts, r: usize, p: u64, marks: &[u8; MARKS]) -> boo
     requires { Fits c w.now × (r < c.records) × Writers c w.now r marks.now }
     ensures { result ≡ any (backs (edits_of c w.now) r p) (record_at c w.now r).locks }
 {
-    let n = c.locks;
-    let mut cur = tables::first_lock(w, c, r);
-    let mut left = n;
-    while chains::more(n, left, cur) {
-        if row_backs(w, c, r, p, cur, marks) {
+    for i in Walk::new(w, tables::lock_table(c), tables::first_lock(w, c, r)) {
+        if row_backs(w, c, r, p, i, marks) {
             return true;
         }
-        cur = tables::next_lock(w, c, cur);
-        left -= 1;
     }
     false
 }
 
-fn row_backed(w: &[u64], c: Counts, r: usize, i: usize, marks: &[u8; MARKS]) -> bool
-    requires { Fits c w.now × (r < c.records) × IsRow c.versions i × Writers c w.now r marks.now }
-    ensures { result ≡ is_backed (edits_of c w.now) r (record_at c w.now r) (version_at c w.now i) }
+fn version_backed(w: &[u64], c: Counts, r: usize, v: Version, marks: &[u8; MARKS]) -> bool
+    requires { Fits c w.now × (r < c.records) × Writers c w.now r marks.now }
+    ensures { result ≡ is_backed (edits_of c w.now) r (record_at c w.now r) v }
 {
-    let v = tables::version_at(w, c, i);
     if v.point <= tables::floor_of(w, c, r) {
         return true;
     }
@@ -249,17 +224,7 @@ fn versions_backed(w: &[u64], c: Counts, r: usize, marks: &[u8; MARKS]) -> bool
     ensures { result ≡ all (is_backed (edits_of c w.now) r (record_at c w.now r))
         (record_at c w.now r).versions }
 {
-    let n = c.versions;
-    let mut cur = tables::first_version(w, c, r);
-    let mut left = n;
-    while chains::more(n, left, cur) {
-        if !row_backed(w, c, r, cur, marks) {
-            return false;
-        }
-        cur = tables::next_version(w, c, cur);
-        left -= 1;
-    }
-    true
+    tables::versions(w, c, r).all(|v| version_backed(w, c, r, v, marks))
 }
 
 // The clauses of a record, and of all records.
@@ -279,15 +244,7 @@ fn records_sound_with(w: &[u64], c: Counts, marks: &[u8; MARKS]) -> bool
     requires { Fits c w.now × ((r : ℕ) → r < c.records → Writers c w.now r marks.now) × (all_pass c w.now ≡ true) }
     ensures { result ≡ records_sound c w.now }
 {
-    let n = c.records;
-    let mut r = 0;
-    while r < n {
-        if !record_sound(w, c, r, marks) {
-            return false;
-        }
-        r += 1;
-    }
-    true
+    (0..c.records).all(|r| record_sound(w, c, r, marks))
 }
 
 pub fn records_sound(w: &[u64], c: Counts) -> bool

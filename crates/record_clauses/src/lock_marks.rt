@@ -7,6 +7,7 @@ ghost use Rattle.tables.specs.Layout.{Fits};
 ghost use Rattle.tables.specs.Decode.{slot_at, lock_rows};
 ghost use Rattle.clauses.specs.Marks.{MARKS, own_mark, mark_own, mark_access, mark_accesses, mark_slots};
 
+use chains::Walk;
 use types::{Access, Counts};
 
 // A mark for each row number from 0 to the last, so that a row is its own index.
@@ -24,14 +25,8 @@ fn mark_own(w: &[u64], c: Counts, k: u64, r: usize, marks: &mut [u8; MARKS])
     requires { Fits c w.now × (r < c.records) × (length marks.old ≡ MARKS) }
     ensures { marks.new ≡ mark_own c w.now k marks.old (lock_rows c w.now r) }
 {
-    let n = c.locks;
-    let mut cur = tables::first_lock(w, c, r);
-    let mut left = n;
-    while chains::more(n, left, cur) {
-        let mark = own_mark(w, c, k, cur, marks[cur]);
-        marks[cur] = mark;
-        cur = tables::next_lock(w, c, cur);
-        left -= 1;
+    for i in Walk::new(w, tables::lock_table(c), tables::first_lock(w, c, r)) {
+        marks[i] = own_mark(w, c, k, i, marks[i]);
     }
 }
 
@@ -53,14 +48,8 @@ fn mark_slot(w: &[u64], c: Counts, k: usize, marks: &mut [u8; MARKS])
     ensures { marks.new
         ≡ mark_accesses c w.now k marks.old (slot_at c w.now k).accesses }
 {
-    let n = c.accesses;
-    let mut cur = tables::first_access(w, c, k);
-    let mut left = n;
-    while chains::more(n, left, cur) {
-        let a = tables::access_at(w, c, cur);
+    for a in tables::accesses(w, c, k) {
         mark_access(w, c, k, a, marks);
-        cur = tables::next_access(w, c, cur);
-        left -= 1;
     }
 }
 
@@ -68,10 +57,7 @@ pub fn mark_slots(w: &[u64], c: Counts, marks: &mut [u8; MARKS])
     requires { Fits c w.now × (length marks.old ≡ MARKS) }
     ensures { marks.new ≡ mark_slots c w.now marks.old c.edits }
 {
-    let n = c.edits;
-    let mut k = 0;
-    while k < n {
+    for k in 0..c.edits {
         mark_slot(w, c, k + 1, marks);
-        k += 1;
     }
 }

@@ -5,7 +5,7 @@
 // written.
 #![tactic(auto)]
 
-ghost use Rattle.std.specs.Prelude.{length, IfOk};
+ghost use Rattle.std.specs.Prelude.{length, IfOk, IfSome};
 ghost use Rattle.script.specs.Run.{Inside};
 
 mod output;
@@ -24,18 +24,11 @@ const KEPT: usize = lines::LONGEST + 1;
 
 // Between two bytes of input: the words of the store in use, the bytes of the line that has begun, and the bytes that
 // wait to be written.
-#[derive(Clone, Copy)]
+#[derive(Clone, Copy, Default)]
 struct Run {
     used: usize,
     held: usize,
     ready: usize,
-}
-
-// Whether there may be more input, and how the run stands.
-#[derive(Clone, Copy)]
-struct Turn {
-    more: bool,
-    run: Run,
 }
 
 // Answers the line that has ended.
@@ -49,10 +42,8 @@ fn end_line(
     requires { Inside run (length words.old) (length line.now) }
     ensures { IfOk result (λ after. Inside after (length words.new) (length line.now)) }
 {
-    let held = run.held;
-    let answered = answer(words, run.used, &line[..held]);
-    let said = answered.line;
-    let ready = put_line(rt, out, run.ready, said)?;
+    let answered = answer(words, run.used, &line[..run.held]);
+    let ready = put_line(rt, out, run.ready, answered.line)?;
     Ok(Run {
         used: answered.used,
         held: 0,
@@ -75,11 +66,7 @@ fn take_byte(
         return end_line(rt, words, line, out, run);
     }
     let held = gather(line, run.held, b);
-    Ok(Run {
-        used: run.used,
-        held,
-        ready: run.ready,
-    })
+    Ok(Run { held, ..run })
 }
 
 fn take_block(
@@ -87,22 +74,20 @@ fn take_block(
     words: &mut [u64],
     line: &mut [u8],
     out: &mut [u8; BUFFER],
-    run: Run,
+    mut run: Run,
     block: &[u8],
 ) -> io::Result<Run>
     requires { Inside run (length words.old) (length line.old) }
     ensures { IfOk result (λ after. Inside after (length words.new) (length line.new)) }
 {
-    let mut r = run;
-    let mut i = 0;
-    while i < block.len() {
-        r = take_byte(rt, words, line, out, r, block[i])?;
-        i += 1;
+    for &b in block {
+        run = take_byte(rt, words, line, out, run, b)?;
     }
-    Ok(r)
+    Ok(run)
 }
 
-// Reads once, answers the lines that end in what came, and writes the answers. A read of no byte ends the input.
+// Reads once, answers the lines that end in what came, and writes the answers. A read of no byte ends the input: the
+// run then stands as before, and None says so.
 fn take_input<I: Read>(
     rt: &impl Print,
     input: &mut I,
@@ -110,29 +95,22 @@ fn take_input<I: Read>(
     line: &mut [u8],
     out: &mut [u8; BUFFER],
     run: Run,
-) -> io::Result<Turn>
+) -> io::Result<Option<Run>>
     requires { Inside run (length words.old) (length line.old) }
-    ensures { IfOk result (λ turn. Inside turn.run (length words.new) (length line.new)) }
+    ensures { IfOk result (λ next. IfSome next (λ after. Inside after (length words.new) (length line.new))) }
 {
     let mut block = [0u8; BUFFER];
     let n = input.read(&mut block)?;
     if n == 0 {
-        return Ok(Turn { more: false, run });
+        return Ok(None);
     }
     let after = take_block(rt, words, line, out, run, &block[..n])?;
     flush(rt, out, after.ready)?;
-    Ok(Turn {
-        more: true,
-        run: Run {
-            used: after.used,
-            held: after.held,
-            ready: 0,
-        },
-    })
+    Ok(Some(Run { ready: 0, ..after }))
 }
 
-// Reads to the end of the input. A proved loop has to end, and nothing says that the input does: the turns are counted
-// down from a number that no run uses up.
+// Reads to the end of the input. A proved loop has to end, and nothing says that the input does: the turns are as many
+// as no run uses up.
 fn take_all<I: Read>(
     rt: &impl Print,
     input: &mut I,
@@ -142,19 +120,12 @@ fn take_all<I: Read>(
 ) -> io::Result<Run>
     ensures { IfOk result (λ run. Inside run (length words.new) (length line.new)) }
 {
-    let mut run = Run {
-        used: 0,
-        held: 0,
-        ready: 0,
-    };
-    let mut turns = u64::MAX;
-    while turns > 0 {
-        let turn = take_input(rt, input, words, line, out, run)?;
-        run = turn.run;
-        if !turn.more {
-            return Ok(run);
+    let mut run = Run::default();
+    for _ in 0..u64::MAX {
+        match take_input(rt, input, words, line, out, run)? {
+            Some(next) => run = next,
+            None => break,
         }
-        turns -= 1;
     }
     Ok(run)
 }

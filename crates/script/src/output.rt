@@ -7,7 +7,7 @@ ghost use Rattle.script.specs.Run.{BUFFER};
 use replies::Line;
 use std::io;
 
-pub const NEWLINE: u8 = 10;
+pub const NEWLINE: u8 = b'\n';
 
 // The bytes that are collected before they are written, and as many are read at once.
 pub const BUFFER: usize = 65536;
@@ -29,13 +29,10 @@ fn copy_line(out: &mut [u8; BUFFER], at: usize, text: &[u8], n: usize) -> usize
     requires text_len_bound { length text.now ≤ WIDTH }
     ensures { result ≤ BUFFER }
 {
-    let mut i = 0;
-    while i < n {
-        out[at + i] = text[i];
-        i += 1;
-    }
-    out[at + n] = NEWLINE;
-    at + n + 1
+    let end = at + n;
+    out[at..end].copy_from_slice(&text[..n]);
+    out[end] = NEWLINE;
+    end + 1
 }
 
 // Collects a text after the bytes that wait; where there might be no room for it, these are written first.

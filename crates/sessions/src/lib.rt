@@ -5,10 +5,11 @@
 
 ghost use Rattle.std.specs.Prelude.{◌≡◌, [], ◌∷◌};
 ghost use Rattle.desk.specs.Replies.{of_open, of_read_step, of_write_step, of_commit_step};
-ghost use Rattle.sessions.specs.Sessions.{setting_of, flag_of, session_of, with_interval, with_session};
+ghost use Rattle.sessions.specs.Sessions.{setting_of, session_of, with_interval, with_session};
 ghost use Rattle.sessions.specs.Sessions.{TellsOpening, TellsAfter};
 
-use desk::{CommitStep, OpenReply, ReadReport, ReadStep, Session, WriteStep};
+use desk::{Session, Step};
+use types::{Found, Handle, Point, Refusal};
 
 // How many numbers a session is, and what stands where.
 pub const WORDS: usize = 5;
@@ -33,60 +34,54 @@ pub fn setting(latest: u64) -> bool
     latest != 0
 }
 
-fn flag(latest: bool) -> u64
-    ensures { result ≡ flag_of latest }
-{
-    if latest { 1 } else { 0 }
-}
-
 // Every five numbers are a session.
+#[tactic(auto, unfolding(crate::specs::Sessions::session_of))]
 pub fn session_of(numbers: &[u64; WORDS]) -> Session
     ensures { result ≡ session_of numbers.now }
 {
     Session {
-        handle: types::handle_of_word(numbers[HANDLE]),
-        low: types::point_of_word(numbers[LOW]),
-        high: types::point_of_word(numbers[HIGH]),
+        handle: Handle::from(numbers[HANDLE]),
+        low: Point::from(numbers[LOW]),
+        high: Point::from(numbers[HIGH]),
         width: numbers[WIDTH],
         latest: setting(numbers[LATEST]),
     }
 }
 
 // The interval after a call; the other numbers stay.
+#[tactic(auto, unfolding(crate::specs::Sessions::with_interval))]
 fn put_interval(s: Session, numbers: &mut [u64; WORDS])
     ensures { numbers.new ≡ with_interval numbers.old s }
 {
-    let low = s.low;
-    let high = s.high;
-    numbers[LOW] = types::word_of_point(low);
-    numbers[HIGH] = types::word_of_point(high);
+    numbers[LOW] = u64::from(s.low);
+    numbers[HIGH] = u64::from(s.high);
 }
 
+#[tactic(auto, unfolding(crate::specs::Sessions::with_session))]
 fn put_session(s: Session, numbers: &mut [u64; WORDS])
     ensures { numbers.new ≡ with_session numbers.old s }
 {
-    let handle = s.handle;
-    numbers[HANDLE] = types::word_of_handle(handle);
+    numbers[HANDLE] = u64::from(s.handle);
     numbers[WIDTH] = s.width;
-    numbers[LATEST] = flag(s.latest);
+    numbers[LATEST] = s.latest as u64;
     put_interval(s, numbers);
 }
 
 // What opening, read, write and commit answered.
-pub fn open(r: OpenReply, numbers: &mut [u64; WORDS]) -> u64
+pub fn open(r: Result<Session, Refusal>, numbers: &mut [u64; WORDS]) -> u64
     ensures { TellsOpening (of_open r) result numbers.old numbers.new }
 {
     match r {
-        OpenReply::Opened(s) => {
+        Ok(s) => {
             put_session(s, numbers);
             0
         }
-        OpenReply::Refused(no) => codes::refusal(no),
+        Err(no) => codes::refusal(no),
     }
 }
 
 pub fn read(
-    step: ReadStep,
+    step: Step<Result<Option<Found>, Refusal>>,
     numbers: &mut [u64; WORDS],
     kind: &mut u64,
     tr: &mut u64,
@@ -100,27 +95,29 @@ pub fn read(
         numbers.old numbers.new }
 {
     put_interval(step.session, numbers);
-    let report = step.report;
-    match report {
-        ReadReport::Told(reply) => telling::read(reply, kind, tr, end, written, value),
-        ReadReport::Emptied => EMPTIED,
+    match step.reply {
+        Ok(Some(f)) => telling::read(Ok(f), kind, tr, end, written, value),
+        Ok(None) => EMPTIED,
+        Err(no) => codes::refusal(no),
     }
 }
 
-pub fn write(step: WriteStep, numbers: &mut [u64; WORDS]) -> u64
+pub fn write(step: Step<Result<(), Refusal>>, numbers: &mut [u64; WORDS]) -> u64
     ensures { TellsAfter (of_write_step step) result [] [] numbers.old numbers.new }
 {
     put_interval(step.session, numbers);
-    let reply = step.reply;
-    verdicts::write(reply)
+    verdicts::done(step.reply)
 }
 
-pub fn commit(step: CommitStep, numbers: &mut [u64; WORDS], point: &mut u64) -> u64
+pub fn commit(
+    step: Step<Result<Option<Point>, Refusal>>,
+    numbers: &mut [u64; WORDS],
+    point: &mut u64,
+) -> u64
     ensures { TellsAfter (of_commit_step step) result
         (point.old ∷ []) (point.new ∷ [])
         numbers.old numbers.new }
 {
     put_interval(step.session, numbers);
-    let reply = step.reply;
-    telling::commit(reply, point)
+    telling::commit(step.reply, point)
 }

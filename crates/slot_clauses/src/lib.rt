@@ -10,7 +10,7 @@ ghost use Rattle.types.specs.Limits.{COMMITTED};
 ghost use Rattle.meaning.specs.Lists.{any};
 ghost use Rattle.meaning.specs.Sound.{names_existing, starts_read, is_present, point_common, free_idle, sound_edit};
 ghost use Rattle.tables.specs.Layout.{Fits};
-ghost use Rattle.tables.specs.Decode.{lock_at, version_at, record_at, slot_at, records_of};
+ghost use Rattle.tables.specs.Decode.{record_at, slot_at, records_of};
 ghost use Rattle.blocking.specs.Search.{AllRise};
 ghost use Rattle.clauses.specs.Clauses.{stands_before, read_sound, accesses_sound, slot_listed, Stamps, slots_sound};
 
@@ -19,57 +19,19 @@ use types::{ABORTED, Access, COMMITTED, Counts, FREE, GENERATIONS, MAX_RECORDS};
 // A record read: the edit has a read lock that starts just after the point read, and that point is a present version,
 // or 0 under floor 0.
 
-fn row_starts(w: &[u64], c: Counts, k: u64, from: u64, i: usize) -> bool
-    requires { Fits c w.now × IsRow c.locks i }
-    ensures { result ≡ starts_read k from (lock_at c w.now i) }
-{
-    locks::starts_read(k, from, tables::lock_at(w, c, i))
-}
-
 fn has_read_lock(w: &[u64], c: Counts, r: usize, k: u64, from: u64) -> bool
     requires { Fits c w.now × (r < c.records) }
     ensures { result ≡ any (starts_read k from) (record_at c w.now r).locks }
 {
-    let n = c.locks;
-    let mut cur = tables::first_lock(w, c, r);
-    let mut left = n;
-    while chains::more(n, left, cur) {
-        if row_starts(w, c, k, from, cur) {
-            return true;
-        }
-        cur = tables::next_lock(w, c, cur);
-        left -= 1;
-    }
-    false
+    tables::locks(w, c, r).any(|l| locks::starts_read(k, from, l))
 }
 
 // `from` is the point read + 1.
-fn row_stands(w: &[u64], c: Counts, from: u64, i: usize) -> bool
-    requires { Fits c w.now × IsRow c.versions i }
-    ensures { result ≡ stands_before from (version_at c w.now i) }
-{
-    let v = tables::version_at(w, c, i);
-    if from == 0 {
-        return false;
-    }
-    v.point == from - 1
-}
-
 fn has_version(w: &[u64], c: Counts, r: usize, from: u64) -> bool
     requires { Fits c w.now × (r < c.records) }
     ensures { result ≡ any (stands_before from) (record_at c w.now r).versions }
 {
-    let n = c.versions;
-    let mut cur = tables::first_version(w, c, r);
-    let mut left = n;
-    while chains::more(n, left, cur) {
-        if row_stands(w, c, from, cur) {
-            return true;
-        }
-        cur = tables::next_version(w, c, cur);
-        left -= 1;
-    }
-    false
+    tables::versions(w, c, r).any(|v| from != 0 && v.point == from - 1)
 }
 
 fn is_present(w: &[u64], c: Counts, r: usize, from: u64) -> bool
@@ -108,12 +70,8 @@ fn accesses_sound(w: &[u64], c: Counts, k: usize, stamps: &mut [u8; MAX_RECORDS]
         ≡ accesses_sound (records_of c w.now) k stamps.old (slot_at c w.now k).accesses)
         × Stamps k stamps.new }
 {
-    let n = c.accesses;
     let mark = k as u8;
-    let mut cur = tables::first_access(w, c, k);
-    let mut left = n;
-    while chains::more(n, left, cur) {
-        let a = tables::access_at(w, c, cur);
+    for a in tables::accesses(w, c, k) {
         if chains::word(c.records) <= a.rec {
             return false;
         }
@@ -125,8 +83,6 @@ fn accesses_sound(w: &[u64], c: Counts, k: usize, stamps: &mut [u8; MAX_RECORDS]
         if !read_sound(w, c, k, a) {
             return false;
         }
-        cur = tables::next_access(w, c, cur);
-        left -= 1;
     }
     true
 }
@@ -149,8 +105,7 @@ fn free_idle(w: &[u64], c: Counts, k: usize) -> bool
     if tables::state_of(w, c, k) != FREE {
         return true;
     }
-    let n = c.accesses;
-    !chains::more(n, n, tables::first_access(w, c, k))
+    tables::accesses(w, c, k).next().is_none()
 }
 
 fn slot_listed(w: &[u64], c: Counts, k: usize) -> bool
@@ -201,13 +156,10 @@ fn slots_sound_with(w: &[u64], c: Counts, stamps: &mut [u8; MAX_RECORDS]) -> boo
     requires { Fits c w.now × Stamps 0 stamps.old × AllRise c w.now }
     ensures { result ≡ slots_sound c w.now }
 {
-    let n = c.edits;
-    let mut k = 0;
-    while k < n {
+    for k in 0..c.edits {
         if !slot_sound(w, c, k + 1, stamps) {
             return false;
         }
-        k += 1;
     }
     true
 }

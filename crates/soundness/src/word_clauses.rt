@@ -9,7 +9,8 @@ ghost use Rattle.tables.specs.Decode.{lock_rows, access_rows};
 ghost use Rattle.tables.specs.Words.{versions_parted, locks_parted, accesses_parted, names_record, marked, locks_named};
 ghost use Rattle.tables.specs.Words.{marks_listed, formed_at};
 
-use chains::Tables;
+use chains::{Fields, Tables};
+use tables::{A_WRITTEN, L_RECORD};
 use types::Counts;
 
 // Every row is on exactly one chain, in each of the three tables.
@@ -40,32 +41,20 @@ fn record_named(w: &[u64], c: Counts, r: usize) -> bool
     requires { Fits c w.now × (r < c.records) }
     ensures { result ≡ all_of (names_record c w.now r) (lock_rows c w.now r) }
 {
-    let n = c.locks;
-    let mut cur = tables::first_lock(w, c, r);
-    let mut left = n;
-    while chains::more(n, left, cur) {
-        if tables::lock_record(w, c, cur) != chains::word(r) {
-            return false;
-        }
-        cur = tables::next_lock(w, c, cur);
-        left -= 1;
-    }
-    true
+    chains::all_with(
+        w,
+        tables::lock_table(c),
+        L_RECORD,
+        r,
+        tables::first_lock(w, c, r),
+    )
 }
 
 fn locks_named(w: &[u64], c: Counts) -> bool
     requires { Fits c w.now }
     ensures { result ≡ locks_named c w.now }
 {
-    let n = c.records;
-    let mut r = 0;
-    while r < n {
-        if !record_named(w, c, r) {
-            return false;
-        }
-        r += 1;
-    }
-    true
+    (0..c.records).all(|r| record_named(w, c, r))
 }
 
 // Written marks are 0 or 1.
@@ -74,32 +63,20 @@ fn slot_marked(w: &[u64], c: Counts, k: usize) -> bool
     requires { Fits c w.now × IsRow c.edits k }
     ensures { result ≡ all_of (marked c w.now) (access_rows c w.now k) }
 {
-    let n = c.accesses;
-    let mut cur = tables::first_access(w, c, k);
-    let mut left = n;
-    while chains::more(n, left, cur) {
-        if 1 < tables::access_mark(w, c, cur) {
-            return false;
-        }
-        cur = tables::next_access(w, c, cur);
-        left -= 1;
-    }
-    true
+    Fields::new(
+        w,
+        tables::access_table(c),
+        A_WRITTEN,
+        tables::first_access(w, c, k),
+    )
+    .all(|(_, x)| x <= 1)
 }
 
 fn marks_listed(w: &[u64], c: Counts) -> bool
     requires { Fits c w.now }
     ensures { result ≡ marks_listed c w.now }
 {
-    let n = c.edits;
-    let mut k = 0;
-    while k < n {
-        if !slot_marked(w, c, k + 1) {
-            return false;
-        }
-        k += 1;
-    }
-    true
+    (0..c.edits).all(|k| slot_marked(w, c, k + 1))
 }
 
 pub fn formed_at(w: &[u64], c: Counts) -> bool

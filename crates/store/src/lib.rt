@@ -5,8 +5,8 @@
 // `index`, `calls`, `locking`, `reading`, `endings`, `commits` and `purges`.
 #![tactic(auto)]
 
-ghost use Rattle.types.specs.Replies.{of_point, of_format, of_begin, of_write, of_lock, of_read, of_commit, of_abort};
-ghost use Rattle.types.specs.Replies.{of_settle, of_purge, of_view, of_answer};
+ghost use Rattle.types.specs.Replies.{of_point, of_done, of_begin, of_lock, of_read, of_commit};
+ghost use Rattle.types.specs.Replies.{of_done, of_purge, of_view, of_answer};
 ghost use Rattle.meaning.specs.Edits.{beginning, writing};
 ghost use Rattle.meaning.specs.Locking.{locking, reading};
 ghost use Rattle.meaning.specs.Ending.{committing, aborting, settling};
@@ -15,69 +15,63 @@ ghost use Rattle.meaning.specs.Records.{purging, viewing};
 ghost use Rattle.types.specs.Numbers.{pointing};
 ghost use Rattle.format.specs.Format.{Formats};
 ghost use Rattle.meaning.specs.Calls.{act};
-ghost use Rattle.store.specs.Promises.{Does, Shows, may_begin, of_slot};
+ghost use Rattle.store.specs.Promises.{Does, Shows, may_begin, sound_or_refused};
 
 use types::{
-    AbortReply, Answer, BeginReply, Call, CommitReply, Counts, Extent, Finish, FormatReply, Handle,
-    LockReply, Pick, Point, PointReply, PurgeReply, ReadReply, Reading, Refusal, Seat, SettleReply,
-    ViewReply, WriteReply,
+    Call, Counts, Extent, Finish, Found, Freed, Granted, Handle, Pick, Point, Reading, Refusal,
+    Seat, Seen, Span,
 };
 
-// Whether Begin would find a slot: `ok`, or how it would be refused.
-#[derive(Clone, Copy)]
-pub enum SlotReply {
-    Free,
-    Refused(Refusal),
+// Refusal 1, unless the words are a sound store.
+fn check(words: &[u64]) -> Result<(), Refusal>
+    ensures { result ≡ sound_or_refused words.now }
+{
+    if soundness::check(words) {
+        Ok(())
+    } else {
+        Err(Refusal::Unsound)
+    }
 }
 
 // The point of a clock reading and a seat.
-pub fn point(reading: Reading, seat: Seat) -> PointReply
+pub fn point(reading: Reading, seat: Seat) -> Result<Point, Refusal>
     ensures { of_point result ≡ pointing reading.0 seat.0 }
 {
-    types::make_point(reading, seat)
+    Point::of(reading, seat)
 }
 
 // A fresh store in the slice, whatever it held.
-pub fn format(words: &mut [u64], counts: Counts) -> FormatReply
-    ensures { Formats counts words.old words.new (of_format result) }
+pub fn format(words: &mut [u64], counts: Counts) -> Result<(), Refusal>
+    ensures { Formats counts words.old words.new (of_done result) }
 {
     format::format(words, counts)
 }
 
-pub fn begin(words: &mut [u64]) -> BeginReply
+pub fn begin(words: &mut [u64]) -> Result<Handle, Refusal>
     ensures { Does beginning words.old words.new (of_begin result) }
 {
-    if soundness::check(words) {
-        calls::begin(words)
-    } else {
-        BeginReply::Refused(Refusal::Unsound)
-    }
+    check(words)?;
+    calls::begin(words)
 }
 
-// Begin that only looks: what it would be refused with, and nothing is changed.
-pub fn would_begin(words: &[u64]) -> SlotReply
-    ensures { Shows may_begin words.now (of_slot result) }
+// Begin that only looks: `Ok` if it would find a slot, or how it would be refused; nothing is changed.
+pub fn would_begin(words: &[u64]) -> Result<(), Refusal>
+    ensures { Shows may_begin words.now (of_done result) }
 {
-    if soundness::check(words) {
-        let c = tables::counts_of(words);
-        let k = lookups::free_slot(words, c);
-        if c.edits < k {
-            return SlotReply::Refused(Refusal::NoSlot);
-        }
-        SlotReply::Free
-    } else {
-        SlotReply::Refused(Refusal::Unsound)
+    check(words)?;
+    let c = tables::counts_of(words);
+    let k = lookups::free_slot(words, c);
+    if c.edits < k {
+        return Err(Refusal::NoSlot);
     }
+    Ok(())
 }
 
-pub fn write(words: &mut [u64], h: Handle, rec: u64, value: u64) -> WriteReply
-    ensures { Does (writing h.0 rec value) words.old words.new (of_write result) }
+pub fn write(words: &mut [u64], h: Handle, rec: u64, value: u64) -> Result<(), Refusal>
+    ensures { Does (writing h.0 rec value) words.old words.new (of_done result) }
 {
-    if soundness::check(words) {
-        calls::write(words, h, rec, value, &[index::UNKNOWN; 1])
-    } else {
-        WriteReply::Refused(Refusal::Unsound)
-    }
+    check(words)?;
+    calls::write(words, h, rec, value, &[index::UNKNOWN; 1])
 }
 
 pub fn lock(
@@ -87,91 +81,90 @@ pub fn lock(
     low: Point,
     high: Point,
     extent: Extent,
-) -> LockReply
+) -> Result<Span, Refusal>
     ensures { Does (locking h.0 rec low.0 high.0 extent) words.old words.new (of_lock result) }
 {
-    if soundness::check(words) {
-        locking::lock(words, h, rec, low, high, extent)
-    } else {
-        LockReply::Refused(Refusal::Unsound)
-    }
+    check(words)?;
+    locking::lock(words, h, rec, low, high, extent)
 }
 
-pub fn read(words: &mut [u64], h: Handle, rec: u64, m: Point, extent: Extent) -> ReadReply
+pub fn read(
+    words: &mut [u64],
+    h: Handle,
+    rec: u64,
+    m: Point,
+    extent: Extent,
+) -> Result<Found, Refusal>
     ensures { Does (reading h.0 rec m.0 extent) words.old words.new (of_read result) }
 {
-    if soundness::check(words) {
-        reading::read(words, h, rec, m, extent, &[index::UNKNOWN; 1])
-    } else {
-        ReadReply::Refused(Refusal::Unsound)
-    }
+    check(words)?;
+    reading::read(words, h, rec, m, extent, &[index::UNKNOWN; 1])
 }
 
-pub fn commit(words: &mut [u64], h: Handle, pick: Pick, finish: Finish) -> CommitReply
+pub fn commit(
+    words: &mut [u64],
+    h: Handle,
+    pick: Pick,
+    finish: Finish,
+) -> Result<Option<Point>, Refusal>
     ensures { Does (committing h.0 pick finish) words.old words.new (of_commit result) }
 {
-    if soundness::check(words) {
-        commits::commit(words, h, pick, finish, &[index::UNKNOWN; 1])
-    } else {
-        CommitReply::Refused(Refusal::Unsound)
-    }
+    check(words)?;
+    commits::commit(words, h, pick, finish, &[index::UNKNOWN; 1])
 }
 
-pub fn abort(words: &mut [u64], h: Handle, finish: Finish) -> AbortReply
-    ensures { Does (aborting h.0 finish) words.old words.new (of_abort result) }
+pub fn abort(words: &mut [u64], h: Handle, finish: Finish) -> Result<(), Refusal>
+    ensures { Does (aborting h.0 finish) words.old words.new (of_done result) }
 {
-    if soundness::check(words) {
-        endings::abort(words, h, finish, &[index::UNKNOWN; 1])
-    } else {
-        AbortReply::Refused(Refusal::Unsound)
-    }
+    check(words)?;
+    endings::abort(words, h, finish, &[index::UNKNOWN; 1])
 }
 
-pub fn settle(words: &mut [u64], h: Handle) -> SettleReply
-    ensures { Does (settling h.0) words.old words.new (of_settle result) }
+pub fn settle(words: &mut [u64], h: Handle) -> Result<(), Refusal>
+    ensures { Does (settling h.0) words.old words.new (of_done result) }
 {
-    if soundness::check(words) {
-        endings::settle(words, h, &[index::UNKNOWN; 1])
-    } else {
-        SettleReply::Refused(Refusal::Unsound)
-    }
+    check(words)?;
+    endings::settle(words, h, &[index::UNKNOWN; 1])
 }
 
-pub fn purge(words: &mut [u64], rec: u64, b: Point) -> PurgeReply
+pub fn purge(words: &mut [u64], rec: u64, b: Point) -> Result<Freed, Refusal>
     ensures { Does (purging rec b.0) words.old words.new (of_purge result) }
 {
-    if soundness::check(words) {
-        purges::purge(words, rec, b)
-    } else {
-        PurgeReply::Refused(Refusal::Unsound)
-    }
+    check(words)?;
+    purges::purge(words, rec, b)
 }
 
-pub fn view(words: &[u64], rec: u64, p: Point) -> ViewReply
+pub fn view(words: &[u64], rec: u64, p: Point) -> Result<Seen, Refusal>
     ensures { Shows (viewing rec p.0) words.now (of_view result) }
 {
-    if soundness::check(words) {
-        calls::view(words, rec, p)
-    } else {
-        ViewReply::Refused(Refusal::Unsound)
-    }
+    check(words)?;
+    calls::view(words, rec, p)
 }
 
 // A call of any kind.
-pub fn perform(words: &mut [u64], call: Call) -> Answer
+pub fn perform(words: &mut [u64], call: Call) -> Result<Granted, Refusal>
     ensures { Does (act call) words.old words.new (of_answer result) }
 {
-    match call {
-        Call::Begin => Answer::Begin(begin(words)),
-        Call::Write(h, rec, value) => Answer::Write(write(words, h, rec, value)),
-        Call::Lock(h, rec, low, high, extent) => Answer::Lock(lock(
+    Ok(match call {
+        Call::Begin => Granted::Edit(begin(words)?),
+        Call::Write(h, rec, value) => {
+            write(words, h, rec, value)?;
+            Granted::Done
+        }
+        Call::Lock(h, rec, low, high, extent) => Granted::Locked(lock(
             words, h, rec, low, high, extent,
-        )),
-        Call::Read(h, rec, m, extent) => Answer::Read(read(words, h, rec, m, extent)),
-        Call::Commit(h, pick, finish) => Answer::Commit(commit(words, h, pick, finish)),
-        Call::Abort(h, finish) => Answer::Abort(abort(words, h, finish)),
-        Call::Settle(h) => Answer::Settle(settle(words, h)),
-        Call::Purge(rec, b) => Answer::Purge(purge(words, rec, b)),
-        Call::View(rec, p) => Answer::View(view(words, rec, p)),
-    }
+        )?),
+        Call::Read(h, rec, m, extent) => Granted::Read(read(words, h, rec, m, extent)?),
+        Call::Commit(h, pick, finish) => Granted::Commit(commit(words, h, pick, finish)?),
+        Call::Abort(h, finish) => {
+            abort(words, h, finish)?;
+            Granted::Done
+        }
+        Call::Settle(h) => {
+            settle(words, h)?;
+            Granted::Done
+        }
+        Call::Purge(rec, b) => Granted::Purged(purge(words, rec, b)?),
+        Call::View(rec, p) => Granted::At(view(words, rec, p)?),
+    })
 }

@@ -9,7 +9,7 @@ ghost use Rattle.types.specs.Limits.{LAST};
 ghost use Rattle.sweeps.specs.Sweep.{others, reached, no_swept, joined_now, agrees_now, swept_now};
 ghost use Rattle.sweeps.specs.Sweep.{passed_writes, passed_joined, passed};
 
-use locks::{is_settled_read, larger};
+use locks::is_settled_read;
 use types::{Lock, WRITE};
 
 // How far locks reach: the highest end, its owner, and the highest end of the other owners' locks. An end is one more
@@ -32,6 +32,7 @@ pub struct Swept {
 }
 
 // How far the locks of owners other than k reach.
+#[tactic(auto, unfolding(crate::specs::Sweep::others))]
 fn others(s: Reach, k: u64) -> u64
     ensures { result ≡ others s k }
 {
@@ -39,15 +40,14 @@ fn others(s: Reach, k: u64) -> u64
 }
 
 // With one lock more, of owner k and with this end.
+#[tactic(auto, unfolding(crate::specs::Sweep::reached))]
 fn reached(s: Reach, k: u64, end: u64) -> Reach
     ensures { result ≡ reached s k end }
 {
     if s.owner == k {
-        let top = larger(s.top, end);
         return Reach {
-            top: top,
-            owner: s.owner,
-            other: s.other,
+            top: s.top.max(end),
+            ..s
         };
     }
     if s.top < end {
@@ -57,25 +57,22 @@ fn reached(s: Reach, k: u64, end: u64) -> Reach
             other: s.top,
         };
     }
-    let other = larger(s.other, end);
     Reach {
-        top: s.top,
-        owner: s.owner,
-        other: other,
+        other: s.other.max(end),
+        ..s
     }
 }
 
 // A lock after those that were passed.
 
+#[tactic(auto, unfolding(crate::specs::Sweep::joined_now))]
 fn joined_now(s: Swept, l: Lock) -> bool
     ensures { result ≡ joined_now s l }
 {
-    if !is_settled_read(l) {
-        return true;
-    }
-    s.joined < l.low
+    !is_settled_read(l) || s.joined < l.low
 }
 
+#[tactic(auto, unfolding(crate::specs::Sweep::agrees_now))]
 fn agrees_now(s: Swept, l: Lock) -> bool
     ensures { result ≡ agrees_now s l }
 {
@@ -88,13 +85,7 @@ fn agrees_now(s: Swept, l: Lock) -> bool
 pub fn swept_now(s: Swept, l: Lock) -> bool
     ensures { result ≡ swept_now s l }
 {
-    if l.low < s.low {
-        return false;
-    }
-    if !joined_now(s, l) {
-        return false;
-    }
-    agrees_now(s, l)
+    s.low <= l.low && joined_now(s, l) && agrees_now(s, l)
 }
 
 // What a pass keeps: before the first lock, and after one lock more.
@@ -132,20 +123,18 @@ fn passed_joined(j: u64, l: Lock) -> u64
     if !is_settled_read(l) {
         return j;
     }
-    larger(j, l.high + 1)
+    j.max(l.high + 1)
 }
 
+#[tactic(auto, unfolding(crate::specs::Sweep::passed))]
 pub fn passed(s: Swept, l: Lock) -> Swept
     requires { l.high ≤ LAST }
     ensures { result ≡ passed s l }
 {
-    let joined = passed_joined(s.joined, l);
-    let all = reached(s.all, l.owner, l.high + 1);
-    let writes = passed_writes(s.writes, l);
     Swept {
         low: l.low,
-        joined: joined,
-        all: all,
-        writes: writes,
+        joined: passed_joined(s.joined, l),
+        all: reached(s.all, l.owner, l.high + 1),
+        writes: passed_writes(s.writes, l),
     }
 }

@@ -1,14 +1,22 @@
 -- The parts of the decoded store: record r and slot k are what the words say. Rests on Builds.
-use Prim.Native.Nat.{ℕ, zero, suc, ◌<◌}
+use Prim.Native.Nat.{ℕ, zero, suc, ◌<◌, ◌≤◌}
 use mathlib.Core.Path.{◌≡◌, refl}
-use mathlib.Core.List.{List}
+use mathlib.Core.List.{List, map}
 use native.Mathlib.Omega.{arith}
 use lib.ListN.{length}
-use Rattle.chains.specs.Walk.{IsRow}
+use Rattle.std.proofs.lemmas.List.{length-map}
+use Rattle.chains.specs.Walk.{IsRow, rows}
+use Rattle.chains.specs.Table.{link, chain, head_of, rows_of}
+use Rattle.chains.proofs.Walks.{rows_length}
 use Rattle.meaning.specs.Store.{fresh_rec, fresh_edit, rec_of, edit_of, rec_at, edit_at}
 use Rattle.types.specs.declared.Counts.{Counts}
-use Rattle.tables.specs.Decode.{record_at, slot_at, records_of, edits_of, decode_at}
+use Rattle.tables.specs.Layout.{version_table, version_heads, lock_table, lock_heads, access_table, access_heads}
+use Rattle.tables.specs.Decode.{record_at, slot_at, records_of, edits_of, decode_at, version_at, lock_at, access_at}
+use Rattle.tables.specs.Decode.{versions_of, version_rows, locks_of, lock_rows, accesses_of, access_rows}
 use Rattle.tables.proofs.Builds.{build_length, build_at}
+
+few : {A : Type 0} (at : ℕ → A) (nx : ℕ → ℕ) (n h : ℕ) → length (map at (rows nx n n h)) ≤ n
+few at nx n h = omega (arith, rows_length nx n n h, length-map (rows nx n n h) at)
 
 module _ (c : Counts) (w : List ℕ) where
   pub rec_of_lem : (r : ℕ) → r < c.records → rec_of (records_of c w) r ≡ record_at c w r
@@ -44,3 +52,16 @@ module _ (c : Counts) (w : List ℕ) where
   pub decoded_edits : (decode_at c w).edits ≡ edits_of c w
   unfolding decode_at
   decoded_edits = refl
+
+  -- a chain has no more rows than its table
+  pub versions_few : (r : ℕ) → length (record_at c w r).versions ≤ c.versions
+  unfolding record_at versions_of version_rows rows_of chain version_table
+  versions_few r = few (version_at c w) (link (version_table c) w) c.versions (head_of (version_heads c) w (suc r))
+
+  pub locks_few : (r : ℕ) → length (record_at c w r).locks ≤ c.locks
+  unfolding record_at locks_of lock_rows rows_of chain lock_table
+  locks_few r = few (lock_at c w) (link (lock_table c) w) c.locks (head_of (lock_heads c) w (suc r))
+
+  pub accesses_few : (k : ℕ) → length (slot_at c w k).accesses ≤ c.accesses
+  unfolding slot_at accesses_of access_rows rows_of chain access_table
+  accesses_few k = few (access_at c w) (link (access_table c) w) c.accesses (head_of (access_heads c) w k)

@@ -7,7 +7,7 @@ use mathlib.Core.List.{List, [], ◌∷◌}
 use native.Mathlib.Omega.{arith}
 use lib.ListN.{length}
 use lib.Dec.{leb, eqb}
-use borrow.Author.Tests.{leb-true, eqb-true, ne_eqb, le-leb, lt-leb, eq-eqb}
+use borrow.Author.Tests.{leb-true, eqb-true, ne_eqb, le-leb, eq-eqb}
 use Rattle.chains.proofs.Bounded.{both_true}
 use Rattle.meaning.proofs.Lists.{every_at}
 use Rattle.types.specs.Limits.{MAX_RECORDS, MAX_EDITS, MAX_ROWS}
@@ -17,12 +17,6 @@ use Rattle.tables.specs.Layout.{counts_of, header_ok, size_of, Ranged, Fits, HEA
 
 range : (n top : ℕ) → in_range n top ≡ true → (1 ≤ n) × (n ≤ top)
 range n top e = let b = both_true (leb 1 n) (leb n top) e in (leb-true 1 n b.0, leb-true n top b.1)
-
-pub range_low : (n top : ℕ) → n < 1 → in_range n top ≡ false
-range_low n top h = rw (lt-leb 1 n h)
-
-pub range_high : (n top : ℕ) → 1 ≤ n → in_range n top ≡ leb n top
-range_high n top h = rw (le-leb 1 n h)
 
 pub good_ranged : (c : Counts) → good_counts c ≡ true → Ranged c
 unfolding good_counts

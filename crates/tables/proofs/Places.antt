@@ -1,6 +1,6 @@
 -- Where the words lie: each table is laid, the parts lie one after the other, and a chain's head word is a word of the
 -- header or of its owner's row. Only here are the products of counts and widths seen. Rests on specs.Layout.
-use Prim.Native.Nat.{ℕ, suc, ◌-◌, ◌≤◌, ◌<◌}
+use Prim.Native.Nat.{ℕ, suc, ◌≤◌, ◌<◌}
 use mathlib.Core.Path.{◌≡◌, ◌∙◌}
 use mathlib.Core.List.{List}
 use native.Mathlib.Omega.{arith}

@@ -1,10 +1,9 @@
 -- What the words mean: the abstract store of the crate `meaning`. Rests on Layout and the chains of `chains`; total on
 -- all words.
-use Rattle.std.specs.Prelude.{ℕ, zero, suc, ◌/◌, ◌%◌, List, [], ◌∷◌, map, eqb, ◌≡◌}
+use Rattle.std.specs.Prelude.{ℕ, zero, suc, ◌/◌, ◌%◌, List, [], ◌∷◌, map, eqb, ◌≡◌, Some}
 use Rattle.chains.specs.Lists.{first_of}
 use Rattle.chains.specs.Table.{field, rows_of}
 use Rattle.meaning.specs.Store.{Rec, Edit, Store, is_of}
-use Rattle.types.specs.declared.Value.TheVariants.{Written}
 use Rattle.types.specs.declared.Version.{Version}
 use Rattle.types.specs.declared.Lock.{Lock}
 use Rattle.types.specs.declared.Access.{Access}
@@ -22,7 +21,7 @@ module _ (c : Counts) (w : List ℕ) where
   version_at i =
       record {
         point = field (Layout.version_table c) w i Layout.V_POINT;
-        value = Written (field (Layout.version_table c) w i Layout.V_VALUE);
+        value = Some (field (Layout.version_table c) w i Layout.V_VALUE);
         spare = field (Layout.version_table c) w i Layout.V_SPARE;
       }
 

@@ -4,7 +4,9 @@
 // file has the layout and the header; `reads` has the words, rows and chains.
 #![tactic(auto)]
 
+mod parts;
 mod reads;
+mod rows;
 
 ghost use Rattle.std.specs.Prelude.{◌≡◌, ◌≤◌, ◌<◌, length, get_or};
 ghost use Rattle.meaning.specs.Records.{in_range, good_counts};
@@ -12,10 +14,12 @@ ghost use Rattle.tables.specs.Layout.{HEADER, record_table, slot_table, version_
 ghost use Rattle.tables.specs.Layout.{version_heads, lock_heads, access_heads, counts_of, size_of, header_ok, Ranged};
 
 use chains::{Heads, Table};
+pub use parts::{Part, Records, Slots};
 pub use reads::{
-    access_at, access_mark, first_access, first_lock, first_version, floor_of, generation_of,
-    lock_at, lock_record, next_access, next_lock, next_version, point_of, state_of, version_at,
+    access_at, accesses, first_access, first_lock, first_version, floor_of, generation_of, lock_at,
+    locks, point_of, state_of, version_at, versions,
 };
+pub use rows::{Row, Rows};
 use types::{Counts, MAX_EDITS, MAX_RECORDS, MAX_ROWS};
 
 // The layout: every width and offset has its name here and nowhere else; specs/Layout has the same names.
@@ -196,49 +200,35 @@ fn header_word(w: &[u64], i: usize) -> usize
     chains::wide(w[i])
 }
 
+#[tactic(auto, unfolding(crate::specs::Layout::counts_of))]
 pub fn counts_of(w: &[u64]) -> Counts
     requires { HEADER ≤ length w.now }
     ensures { result ≡ counts_of w.now }
 {
-    let records = header_word(w, H_RECORDS);
-    let edits = header_word(w, H_EDITS);
-    let versions = header_word(w, H_VERSIONS);
-    let locks = header_word(w, H_LOCKS);
-    let accesses = header_word(w, H_ACCESSES);
     Counts {
-        records,
-        edits,
-        versions,
-        locks,
-        accesses,
+        records: header_word(w, H_RECORDS),
+        edits: header_word(w, H_EDITS),
+        versions: header_word(w, H_VERSIONS),
+        locks: header_word(w, H_LOCKS),
+        accesses: header_word(w, H_ACCESSES),
     }
 }
 
 fn in_range(n: usize, top: usize) -> bool
     ensures { result ≡ in_range n top }
 {
-    if n < 1 {
-        return false;
-    }
-    n <= top
+    1 <= n && n <= top
 }
 
+#[tactic(auto, unfolding(meaning::specs::Records::good_counts))]
 pub fn good_counts(c: Counts) -> bool
     ensures { result ≡ good_counts c }
 {
-    if !in_range(c.records, MAX_RECORDS) {
-        return false;
-    }
-    if !in_range(c.edits, MAX_EDITS) {
-        return false;
-    }
-    if !in_range(c.versions, MAX_ROWS) {
-        return false;
-    }
-    if !in_range(c.locks, MAX_ROWS) {
-        return false;
-    }
-    in_range(c.accesses, MAX_ROWS)
+    in_range(c.records, MAX_RECORDS)
+        && in_range(c.edits, MAX_EDITS)
+        && in_range(c.versions, MAX_ROWS)
+        && in_range(c.locks, MAX_ROWS)
+        && in_range(c.accesses, MAX_ROWS)
 }
 
 pub fn size_of(c: Counts) -> usize
@@ -261,8 +251,5 @@ pub fn header_ok(w: &[u64]) -> bool
         return false;
     }
     let c = counts_of(w);
-    if !good_counts(c) {
-        return false;
-    }
-    w.len() == size_of(c)
+    good_counts(c) && w.len() == size_of(c)
 }

@@ -2,15 +2,15 @@
 // it, by the number and values that `types` gives its case. Rests on the crates `types` and `codes`.
 #![tactic(auto)]
 
-ghost use Rattle.std.specs.Prelude.{[], ◌∷◌};
-ghost use Rattle.types.specs.Replies.{of_point, of_begin, of_lock, of_read, of_commit, of_purge, of_view};
-ghost use Rattle.codes.specs.Codes.{Tells};
+ghost use Rattle.std.specs.Prelude.{◌≡◌, [], ◌∷◌};
+ghost use Rattle.types.specs.Replies.{of_point, of_begin, of_lock, of_read, of_found, of_commit, of_purge, of_view};
+ghost use Rattle.codes.specs.Codes.{Tells, numbers_of};
 
 use codes::{bits, mark, refusal};
-use types::{BeginReply, CommitReply, LockReply, PointReply, PurgeReply, ReadReply, ViewReply};
+use types::{Found, Freed, Handle, Point, Refusal, Seen, Span};
 
 // The number of `nopoint`, which is above those of the refusals and below codes' CODES.
-const NOPOINT: u64 = 31;
+pub const NOPOINT: u64 = 31;
 
 // Which of its three replies a granted Read has.
 const NEW: u64 = 1;
@@ -19,48 +19,59 @@ const OWN: u64 = 2;
 
 const AGAIN: u64 = 3;
 
+// The numbers of a granted Read.
+pub fn found(f: Found) -> [u64; 5]
+    ensures { result ≡ numbers_of (of_found f) [] }
+{
+    match f {
+        Found::Read(from, to, v) => [NEW, u64::from(from), u64::from(to), mark(v), bits(v)],
+        Found::Own(x) => [OWN, 0, 0, 1, x],
+        Found::Again(from, v) => [AGAIN, u64::from(from), 0, mark(v), bits(v)],
+    }
+}
+
 // Each call's reply: 0 and its values, or the number of a refusal, which leaves the lent numbers.
-pub fn point(r: PointReply, point: &mut u64) -> u64
+pub fn point(r: Result<Point, Refusal>, point: &mut u64) -> u64
     ensures { Tells (of_point r) result (point.old ∷ []) (point.new ∷ []) }
 {
     match r {
-        PointReply::Made(p) => {
-            *point = types::word_of_point(p);
+        Ok(p) => {
+            *point = u64::from(p);
             0
         }
-        PointReply::Refused(x) => refusal(x),
+        Err(x) => refusal(x),
     }
 }
 
-pub fn begin(r: BeginReply, handle: &mut u64) -> u64
+pub fn begin(r: Result<Handle, Refusal>, handle: &mut u64) -> u64
     ensures { Tells (of_begin r) result (handle.old ∷ []) (handle.new ∷ []) }
 {
     match r {
-        BeginReply::Edit(h) => {
-            *handle = types::word_of_handle(h);
+        Ok(h) => {
+            *handle = u64::from(h);
             0
         }
-        BeginReply::Refused(x) => refusal(x),
+        Err(x) => refusal(x),
     }
 }
 
-pub fn lock(r: LockReply, low: &mut u64, high: &mut u64) -> u64
+pub fn lock(r: Result<Span, Refusal>, low: &mut u64, high: &mut u64) -> u64
     ensures { Tells (of_lock r) result
         (low.old ∷ high.old ∷ [])
         (low.new ∷ high.new ∷ []) }
 {
     match r {
-        LockReply::Locked(first, last) => {
-            *low = types::word_of_point(first);
-            *high = types::word_of_point(last);
+        Ok(span) => {
+            *low = u64::from(span.low);
+            *high = u64::from(span.high);
             0
         }
-        LockReply::Refused(x) => refusal(x),
+        Err(x) => refusal(x),
     }
 }
 
 pub fn read(
-    r: ReadReply,
+    r: Result<Found, Refusal>,
     kind: &mut u64,
     tr: &mut u64,
     end: &mut u64,
@@ -72,74 +83,54 @@ pub fn read(
         (kind.new ∷ tr.new ∷ end.new ∷ written.new ∷ value.new ∷ []) }
 {
     match r {
-        ReadReply::Read(from, to, v) => {
-            *kind = NEW;
-            *tr = types::word_of_point(from);
-            *end = types::word_of_point(to);
-            *written = mark(v);
-            *value = bits(v);
+        Ok(f) => {
+            [*kind, *tr, *end, *written, *value] = found(f);
             0
         }
-        ReadReply::Own(x) => {
-            *kind = OWN;
-            *tr = 0;
-            *end = 0;
-            *written = 1;
-            *value = x;
-            0
-        }
-        ReadReply::Again(from, v) => {
-            *kind = AGAIN;
-            *tr = types::word_of_point(from);
-            *end = 0;
-            *written = mark(v);
-            *value = bits(v);
-            0
-        }
-        ReadReply::Refused(x) => refusal(x),
+        Err(x) => refusal(x),
     }
 }
 
-pub fn commit(r: CommitReply, point: &mut u64) -> u64
+pub fn commit(r: Result<Option<Point>, Refusal>, point: &mut u64) -> u64
     ensures { Tells (of_commit r) result (point.old ∷ []) (point.new ∷ []) }
 {
     match r {
-        CommitReply::Commit(t) => {
-            *point = types::word_of_point(t);
+        Ok(Some(t)) => {
+            *point = u64::from(t);
             0
         }
-        CommitReply::NoPoint => NOPOINT,
-        CommitReply::Refused(x) => refusal(x),
+        Ok(None) => NOPOINT,
+        Err(x) => refusal(x),
     }
 }
 
-pub fn purge(r: PurgeReply, versions: &mut u64, locks: &mut u64) -> u64
+pub fn purge(r: Result<Freed, Refusal>, versions: &mut u64, locks: &mut u64) -> u64
     ensures { Tells (of_purge r) result
         (versions.old ∷ locks.old ∷ [])
         (versions.new ∷ locks.new ∷ []) }
 {
     match r {
-        PurgeReply::Purged(vs, ls) => {
-            *versions = vs;
-            *locks = ls;
+        Ok(freed) => {
+            *versions = freed.versions;
+            *locks = freed.locks;
             0
         }
-        PurgeReply::Refused(x) => refusal(x),
+        Err(x) => refusal(x),
     }
 }
 
-pub fn view(r: ViewReply, point: &mut u64, written: &mut u64, value: &mut u64) -> u64
+pub fn view(r: Result<Seen, Refusal>, point: &mut u64, written: &mut u64, value: &mut u64) -> u64
     ensures { Tells (of_view r) result
         (point.old ∷ written.old ∷ value.old ∷ [])
         (point.new ∷ written.new ∷ value.new ∷ []) }
 {
     match r {
-        ViewReply::At(at, v) => {
-            *point = types::word_of_point(at);
-            *written = mark(v);
-            *value = bits(v);
+        Ok(seen) => {
+            *point = u64::from(seen.point);
+            *written = mark(seen.value);
+            *value = bits(seen.value);
             0
         }
-        ViewReply::Refused(x) => refusal(x),
+        Err(x) => refusal(x),
     }
 }

@@ -1,8 +1,8 @@
 -- The parts of a line: the decimal digits of a number, a value ("A never written value prints `-`"), and a word with
 -- what follows it; and what a function that writes them promises. Rests on Text and the type Value.
-use Rattle.std.specs.Prelude.{ℕ, zero, suc, ◌+◌, ◌/◌, ◌%◌, ◌≡◌, cond, List, [], ◌∷◌, ◌++◌, length, take, ltb}
-use Rattle.types.specs.declared.Value.{Value}
-use Rattle.types.specs.declared.Value.TheVariants.{Never, Written}
+use Rattle.std.specs.Prelude.{ℕ, zero, suc, ◌+◌, ◌/◌, ◌%◌, ◌≡◌, cond, ltb, List, [], ◌∷◌, ◌++◌, length, take}
+use Rattle.std.specs.Prelude.{Some, None}
+use Rattle.types.specs.Values.{Value}
 use Rattle.texts.specs.Text.{SPACE, text}
 
 -- the decimal digits of n, in k steps at most
@@ -15,8 +15,8 @@ unfoldable pub decimal : ℕ → List ℕ
 decimal n = digits_of (suc n) n
 
 unfoldable pub value_text : Value → List ℕ
-value_text Never = text "-"
-value_text (Written v) = decimal v
+value_text None = text "-"
+value_text (Some v) = decimal v
 
 -- a word, then one number or two, or a value after them
 unfoldable pub one : List ℕ → ℕ → List ℕ

@@ -9,7 +9,7 @@ ghost use Rattle.texts.specs.Parts.{two_value};
 use types::Value;
 
 // The byte between fields.
-pub const SPACE: u8 = 32;
+pub const SPACE: u8 = b' ';
 
 // Puts one byte at a position.
 fn put(out: &mut [u8], at: usize, b: u8) -> usize
@@ -25,12 +25,9 @@ pub fn put_word(out: &mut [u8], at: usize, word: &[u8]) -> usize
     requires { at + length word.now ≤ length out.old }
     ensures { Appended out.old at word.now out.new result }
 {
-    let mut i = 0;
-    while i < word.len() {
-        out[at + i] = word[i];
-        i += 1;
-    }
-    at + i
+    let end = at + word.len();
+    out[at..end].copy_from_slice(word);
+    end
 }
 
 // Puts the decimal digits of a number at a position.
@@ -39,10 +36,10 @@ fn put_number(out: &mut [u8], at: usize, n: u64) -> usize
     ensures { Appended out.old at (decimal n) out.new result }
 {
     if n < 10 {
-        return put(out, at, 48 + n as u8);
+        return put(out, at, b'0' + n as u8);
     }
     let i = put_number(out, at, n / 10);
-    put(out, i, 48 + (n % 10) as u8)
+    put(out, i, b'0' + (n % 10) as u8)
 }
 
 // Puts a record's value at a position.
@@ -51,8 +48,8 @@ fn put_value(out: &mut [u8], at: usize, v: Value) -> usize
     ensures { Appended out.old at (value_text v) out.new result }
 {
     match v {
-        Value::Never => put(out, at, b'-'),
-        Value::Written(x) => put_number(out, at, x),
+        None => put(out, at, b'-'),
+        Some(x) => put_number(out, at, x),
     }
 }
 

@@ -1,35 +1,20 @@
 -- The replies of document 01, and which of them each case of the code's answers is. Rests on Values and the types
 -- of src/lib.rt.
-use Rattle.std.specs.Prelude.{ℕ, Bool, true, false, List, [], ◌∷◌}
+use Rattle.std.specs.Prelude.{ℕ, Bool, true, false, List, [], ◌∷◌, Option, Some, None, Result, Ok, Err}
 use Rattle.types.specs.Values.{Val, Value}
 use Rattle.types.specs.declared.Refusal.{Refusal}
 use Rattle.types.specs.declared.Refusal.TheVariants.{Unsound, NoEdit, EditEnded, EditOpen, NoRecord, BadPoint}
 use Rattle.types.specs.declared.Refusal.TheVariants.{BelowFloor, Held, Frozen, NoAccessRow, NoLockRow}
 use Rattle.types.specs.declared.Refusal.TheVariants.{NoVersionRow, NoSlot, NotCommon, LockedBelow, BadFormat}
-use Rattle.types.specs.declared.PointReply.{PointReply}
-use Rattle.types.specs.declared.PointReply.TheVariants as Pt
-use Rattle.types.specs.declared.FormatReply.{FormatReply}
-use Rattle.types.specs.declared.FormatReply.TheVariants as Fm
-use Rattle.types.specs.declared.BeginReply.{BeginReply}
-use Rattle.types.specs.declared.BeginReply.TheVariants as Bg
-use Rattle.types.specs.declared.WriteReply.{WriteReply}
-use Rattle.types.specs.declared.WriteReply.TheVariants as Wr
-use Rattle.types.specs.declared.LockReply.{LockReply}
-use Rattle.types.specs.declared.LockReply.TheVariants as Lk
-use Rattle.types.specs.declared.ReadReply.{ReadReply}
-use Rattle.types.specs.declared.ReadReply.TheVariants as Rd
-use Rattle.types.specs.declared.CommitReply.{CommitReply}
-use Rattle.types.specs.declared.CommitReply.TheVariants as Cm
-use Rattle.types.specs.declared.AbortReply.{AbortReply}
-use Rattle.types.specs.declared.AbortReply.TheVariants as Ab
-use Rattle.types.specs.declared.SettleReply.{SettleReply}
-use Rattle.types.specs.declared.SettleReply.TheVariants as St
-use Rattle.types.specs.declared.PurgeReply.{PurgeReply}
-use Rattle.types.specs.declared.PurgeReply.TheVariants as Pg
-use Rattle.types.specs.declared.ViewReply.{ViewReply}
-use Rattle.types.specs.declared.ViewReply.TheVariants as Vw
-use Rattle.types.specs.declared.Answer.{Answer}
-use Rattle.types.specs.declared.Answer.TheVariants as An
+use Rattle.types.specs.declared.Point.{Point}
+use Rattle.types.specs.declared.Handle.{Handle}
+use Rattle.types.specs.declared.Span.{Span}
+use Rattle.types.specs.declared.Found.{Found}
+use Rattle.types.specs.declared.Found.TheVariants as Fd
+use Rattle.types.specs.declared.Freed.{Freed}
+use Rattle.types.specs.declared.Seen.{Seen}
+use Rattle.types.specs.declared.Granted.{Granted}
+use Rattle.types.specs.declared.Granted.TheVariants as Gr
 
 -- "Replies: `ok`; `edit` handle; `locked` low high; `read` tr end value; `own` value; `again` tr value; `commit` point;
 -- `nopoint`; `purged` versions locks; `at` point value; `no` number (8: then the handle)." A refusal carries its number
@@ -105,72 +90,61 @@ details BadFormat = []
 abbrev pub of_refusal : Refusal → Reply
 of_refusal r = refusing (number r) (details r)
 
--- Point: the point made, or a refusal
-abbrev pub of_point : PointReply → Reply
-of_point (Pt.Made p) = point p.0
-of_point (Pt.Refused r) = of_refusal r
+-- What a call gives as the reply of its kind, and an error as the refusal
+abbrev pub of_result : {A : Type 0} → (A → Reply) → Result A Refusal → Reply
+of_result given (Ok x) = given x
+of_result given (Err r) = of_refusal r
 
--- Format: `ok`, or a refusal
-abbrev pub of_format : FormatReply → Reply
-of_format Fm.Done = ok
-of_format (Fm.Refused r) = of_refusal r
+-- Point: the point made, or a refusal
+abbrev pub of_point : Result Point Refusal → Reply
+of_point = of_result (λ p. point p.0)
+
+-- Format, Write, Abort and Settle: `ok`, or a refusal
+abbrev pub of_done : Result (Unit {0}) Refusal → Reply
+of_done = of_result (λ _. ok)
 
 -- Begin: "`edit` handle", or a refusal
-abbrev pub of_begin : BeginReply → Reply
-of_begin (Bg.Edit h) = edit h.0
-of_begin (Bg.Refused r) = of_refusal r
-
--- Write: `ok`, or a refusal
-abbrev pub of_write : WriteReply → Reply
-of_write Wr.Done = ok
-of_write (Wr.Refused r) = of_refusal r
+abbrev pub of_begin : Result Handle Refusal → Reply
+of_begin = of_result (λ h. edit h.0)
 
 -- Lock: "`locked` low high", or a refusal
-abbrev pub of_lock : LockReply → Reply
-of_lock (Lk.Locked low high) = locked low.0 high.0
-of_lock (Lk.Refused r) = of_refusal r
+abbrev pub of_lock : Result Span Refusal → Reply
+of_lock = of_result (λ s. locked s.low.0 s.high.0)
 
 -- Read: "`read` tr end value; `own` value; `again` tr value", or a refusal
-abbrev pub of_read : ReadReply → Reply
-of_read (Rd.Read tr end v) = read tr.0 end.0 v
-of_read (Rd.Own v) = own v
-of_read (Rd.Again tr v) = again tr.0 v
-of_read (Rd.Refused r) = of_refusal r
+abbrev pub of_found : Found → Reply
+of_found (Fd.Read tr end v) = read tr.0 end.0 v
+of_found (Fd.Own v) = own v
+of_found (Fd.Again tr v) = again tr.0 v
+
+abbrev pub of_read : Result Found Refusal → Reply
+of_read = of_result of_found
 
 -- Commit: "`commit` point; `nopoint`", or a refusal
-abbrev pub of_commit : CommitReply → Reply
-of_commit (Cm.Commit p) = commit p.0
-of_commit Cm.NoPoint = nopoint
-of_commit (Cm.Refused r) = of_refusal r
+abbrev pub of_picked : Option Point → Reply
+of_picked (Some p) = commit p.0
+of_picked None = nopoint
 
--- Abort: `ok`, or a refusal
-abbrev pub of_abort : AbortReply → Reply
-of_abort Ab.Done = ok
-of_abort (Ab.Refused r) = of_refusal r
-
--- Settle: `ok`, or a refusal
-abbrev pub of_settle : SettleReply → Reply
-of_settle St.Done = ok
-of_settle (St.Refused r) = of_refusal r
+abbrev pub of_commit : Result (Option Point) Refusal → Reply
+of_commit = of_result of_picked
 
 -- Purge: "`purged` versions locks", or a refusal
-abbrev pub of_purge : PurgeReply → Reply
-of_purge (Pg.Purged vs ls) = purged vs ls
-of_purge (Pg.Refused r) = of_refusal r
+abbrev pub of_purge : Result Freed Refusal → Reply
+of_purge = of_result (λ f. purged f.versions f.locks)
 
 -- View: "`at` point value", or a refusal
-abbrev pub of_view : ViewReply → Reply
-of_view (Vw.At p v) = at p.0 v
-of_view (Vw.Refused r) = of_refusal r
+abbrev pub of_view : Result Seen Refusal → Reply
+of_view = of_result (λ s. at s.point.0 s.value)
 
 -- a call of any kind: that of its kind
-abbrev pub of_answer : Answer → Reply
-of_answer (An.Begin r) = of_begin r
-of_answer (An.Write r) = of_write r
-of_answer (An.Lock r) = of_lock r
-of_answer (An.Read r) = of_read r
-of_answer (An.Commit r) = of_commit r
-of_answer (An.Abort r) = of_abort r
-of_answer (An.Settle r) = of_settle r
-of_answer (An.Purge r) = of_purge r
-of_answer (An.View r) = of_view r
+abbrev pub of_granted : Granted → Reply
+of_granted Gr.Done = ok
+of_granted (Gr.Edit h) = edit h.0
+of_granted (Gr.Locked s) = locked s.low.0 s.high.0
+of_granted (Gr.Read f) = of_found f
+of_granted (Gr.Commit p) = of_picked p
+of_granted (Gr.Purged f) = purged f.versions f.locks
+of_granted (Gr.At s) = at s.point.0 s.value
+
+abbrev pub of_answer : Result Granted Refusal → Reply
+of_answer = of_result of_granted

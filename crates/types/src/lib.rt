@@ -40,31 +40,27 @@ pub const WRITE: u64 = 2;
 pub const SETTLED: u64 = 0;
 
 // A clock reading. Only `make_point` turns it into a point.
-#[derive(Clone, Copy)]
+#[derive(Clone, Copy, PartialEq, Eq)]
 pub struct Reading(u64);
 
 // A seat number: which desk reads the clock.
-#[derive(Clone, Copy)]
+#[derive(Clone, Copy, PartialEq, Eq)]
 pub struct Seat(u64);
 
 // A point, the paper's timestamp: reading * 64 + seat. Its field is private, so that a bare reading never passes for a
 // point.
-#[derive(Clone, Copy)]
+#[derive(Clone, Copy, PartialEq, Eq)]
 pub struct Point(u64);
 
 // The handle of an edit, the paper's transaction: generation * 64 + slot.
-#[derive(Clone, Copy)]
+#[derive(Clone, Copy, PartialEq, Eq)]
 pub struct Handle(u64);
 
-// The value of a record, the paper's key: never written, or any 64 bits.
-#[derive(Clone, Copy)]
-pub enum Value {
-    Never,
-    Written(u64),
-}
+// The value of a record, the paper's key: None if it was never written, or any 64 bits.
+pub type Value = Option<u64>;
 
 // The entries of the three tables, by value. A version: its point, its value and its third word.
-#[derive(Clone, Copy)]
+#[derive(Clone, Copy, PartialEq, Eq)]
 pub struct Version {
     pub point: u64,
     pub value: Value,
@@ -72,7 +68,7 @@ pub struct Version {
 }
 
 // A lock of low..high: its mode is 1 for read and 2 for write, its owner a slot, or 0 once settled.
-#[derive(Clone, Copy)]
+#[derive(Clone, Copy, PartialEq, Eq)]
 pub struct Lock {
     pub low: u64,
     pub high: u64,
@@ -81,7 +77,7 @@ pub struct Lock {
 }
 
 // `from` is the point read + 1, or 0; `value` counts once `written` is set.
-#[derive(Clone, Copy)]
+#[derive(Clone, Copy, PartialEq, Eq)]
 pub struct Access {
     pub rec: u64,
     pub from: u64,
@@ -90,7 +86,7 @@ pub struct Access {
 }
 
 // The five counts of a store.
-#[derive(Clone, Copy)]
+#[derive(Clone, Copy, PartialEq, Eq)]
 pub struct Counts {
     pub records: usize,
     pub edits: usize,
@@ -100,14 +96,14 @@ pub struct Counts {
 }
 
 // The flags A and P: all points or none, or a part.
-#[derive(Clone, Copy)]
+#[derive(Clone, Copy, PartialEq, Eq)]
 pub enum Extent {
     All,
     Part,
 }
 
 // Where a commit is wanted: E, L or a named point.
-#[derive(Clone, Copy)]
+#[derive(Clone, Copy, PartialEq, Eq)]
 pub enum Pick {
     Earliest,
     Latest,
@@ -115,14 +111,14 @@ pub enum Pick {
 }
 
 // The flags S and K: settle at the end, or keep the locks.
-#[derive(Clone, Copy)]
+#[derive(Clone, Copy, PartialEq, Eq)]
 pub enum Finish {
     Settle,
     Keep,
 }
 
 // The calls on a store, in the order of document 01. A record is named by its number.
-#[derive(Clone, Copy)]
+#[derive(Clone, Copy, PartialEq, Eq)]
 pub enum Call {
     Begin,
     Write(Handle, u64, u64),
@@ -136,7 +132,7 @@ pub enum Call {
 }
 
 // The sixteen ways to say no, in the order of their numbers.
-#[derive(Clone, Copy)]
+#[derive(Clone, Copy, PartialEq, Eq)]
 pub enum Refusal {
     Unsound,
     NoEdit,
@@ -156,205 +152,173 @@ pub enum Refusal {
     BadFormat,
 }
 
-// One reply for each call. Point: the point made, or refusal 6.
-#[derive(Clone, Copy)]
-pub enum PointReply {
-    Made(Point),
-    Refused(Refusal),
+// What the calls give where they are granted; a refusal is the `Err` of each call's `Result`. Write, Abort, Settle and
+// Format give `()`, Begin a handle, Point a point, and Commit its point, or None for `nopoint`.
+
+// Lock: the first and the last point locked.
+#[derive(Clone, Copy, PartialEq, Eq)]
+pub struct Span {
+    pub low: Point,
+    pub high: Point,
 }
 
-// `ok`, or refusal 16.
-#[derive(Clone, Copy)]
-pub enum FormatReply {
-    Done,
-    Refused(Refusal),
-}
-
-// The handle of the edit.
-#[derive(Clone, Copy)]
-pub enum BeginReply {
-    Edit(Handle),
-    Refused(Refusal),
-}
-
-// `ok`, or a refusal.
-#[derive(Clone, Copy)]
-pub enum WriteReply {
-    Done,
-    Refused(Refusal),
-}
-
-// The first and the last point locked.
-#[derive(Clone, Copy)]
-pub enum LockReply {
-    Locked(Point, Point),
-    Refused(Refusal),
-}
-
-// A new read: the point of the version, the last point locked, the value.
-#[derive(Clone, Copy)]
-pub enum ReadReply {
+// Read. A new read: the point of the version, the last point locked, the value.
+#[derive(Clone, Copy, PartialEq, Eq)]
+pub enum Found {
     Read(Point, Point, Value),
     Own(u64),
     Again(Point, Value),
-    Refused(Refusal),
 }
 
-// The commit point, or `nopoint`.
-#[derive(Clone, Copy)]
-pub enum CommitReply {
-    Commit(Point),
-    NoPoint,
-    Refused(Refusal),
+// Purge: the version rows and the lock rows freed.
+#[derive(Clone, Copy, PartialEq, Eq)]
+pub struct Freed {
+    pub versions: u64,
+    pub locks: u64,
 }
 
-// `ok`, or a refusal.
-#[derive(Clone, Copy)]
-pub enum AbortReply {
+// View: the point and the value of the version.
+#[derive(Clone, Copy, PartialEq, Eq)]
+pub struct Seen {
+    pub point: Point,
+    pub value: Value,
+}
+
+// What a call of any kind gives where it is granted.
+#[derive(Clone, Copy, PartialEq, Eq)]
+pub enum Granted {
     Done,
-    Refused(Refusal),
+    Edit(Handle),
+    Locked(Span),
+    Read(Found),
+    Commit(Option<Point>),
+    Purged(Freed),
+    At(Seen),
 }
 
-// `ok`, or a refusal.
-#[derive(Clone, Copy)]
-pub enum SettleReply {
-    Done,
-    Refused(Refusal),
-}
+impl From<u64> for Reading {
+    ghost from_gives = { λ word r. r.0 ≡ word };
 
-// The version rows and the lock rows freed.
-#[derive(Clone, Copy)]
-pub enum PurgeReply {
-    Purged(u64, u64),
-    Refused(Refusal),
-}
-
-// The point and the value of the version.
-#[derive(Clone, Copy)]
-pub enum ViewReply {
-    At(Point, Value),
-    Refused(Refusal),
-}
-
-// The reply of a call of any kind.
-#[derive(Clone, Copy)]
-pub enum Answer {
-    Begin(BeginReply),
-    Write(WriteReply),
-    Lock(LockReply),
-    Read(ReadReply),
-    Commit(CommitReply),
-    Abort(AbortReply),
-    Settle(SettleReply),
-    Purge(PurgeReply),
-    View(ViewReply),
-}
-
-// A word as a clock reading; `make_point` refuses one above 2^40 - 1.
-pub fn reading_of(word: u64) -> Reading
-    ensures { result.0 ≡ word }
-{
-    Reading(word)
-}
-
-// A word as a seat number; `make_point` refuses one above 63.
-pub fn seat_of(word: u64) -> Seat
-    ensures { result.0 ≡ word }
-{
-    Seat(word)
-}
-
-// The call Point: the only way from a reading to a point.
-pub fn make_point(reading: Reading, seat: Seat) -> PointReply
-    ensures { of_point result ≡ pointing reading.0 seat.0 }
-{
-    let r = reading.0;
-    let s = seat.0;
-    if READINGS <= r {
-        return PointReply::Refused(Refusal::BadPoint);
+    // `make_point` refuses one above 2^40 - 1.
+    fn from(word: u64) -> Reading {
+        Reading(word)
     }
-    if SEATS <= s {
-        return PointReply::Refused(Refusal::BadPoint);
+}
+
+impl From<u64> for Seat {
+    ghost from_gives = { λ word s. s.0 ≡ word };
+
+    // `make_point` refuses one above 63.
+    fn from(word: u64) -> Seat {
+        Seat(word)
     }
-    PointReply::Made(Point(r * SEATS + s))
 }
 
-// A word that already is a point, as scripts and exports carry it. It may lie above LAST: the calls refuse it then.
-pub fn point_of_word(word: u64) -> Point
-    ensures { result.0 ≡ word }
-{
-    Point(word)
+impl From<u64> for Point {
+    ghost from_gives = { λ word p. p.0 ≡ word };
+
+    // A word that already is a point, as scripts and exports carry it. It may lie above LAST: the calls refuse it then.
+    fn from(word: u64) -> Point {
+        Point(word)
+    }
 }
 
-// The number of a point, for replies and rows.
-pub fn word_of_point(p: Point) -> u64
-    ensures { result ≡ p.0 }
-{
-    p.0
+impl From<Point> for u64 {
+    ghost from_gives = { λ p word. word ≡ p.0 };
+
+    // The number of a point, for replies and rows.
+    fn from(p: Point) -> u64 {
+        p.0
+    }
 }
 
-// A word as a handle; the calls refuse one that names no edit.
-pub fn handle_of_word(word: u64) -> Handle
-    ensures { result.0 ≡ word }
-{
-    Handle(word)
+impl From<u64> for Handle {
+    ghost from_gives = { λ word h. h.0 ≡ word };
+
+    // The calls refuse one that names no edit.
+    fn from(word: u64) -> Handle {
+        Handle(word)
+    }
 }
 
-// The number of a handle, for replies.
-pub fn word_of_handle(h: Handle) -> u64
-    ensures { result ≡ h.0 }
-{
-    h.0
+impl From<Handle> for u64 {
+    ghost from_gives = { λ h word. word ≡ h.0 };
+
+    // The number of a handle, for replies.
+    fn from(h: Handle) -> u64 {
+        h.0
+    }
 }
 
-// The handle of a slot's edit. A slot is below 256, so the sum fits.
-pub fn make_handle(generation: u16, slot: u8) -> Handle
-    ensures { result.0 ≡ handle generation slot }
-{
-    Handle(generation as u64 * SLOTS + slot as u64)
+impl Point {
+    // The call Point: the only way from a reading to a point.
+    pub fn of(reading: Reading, seat: Seat) -> Result<Point, Refusal>
+        ensures { of_point result ≡ pointing reading.0 seat.0 }
+    {
+        let r = reading.0;
+        let s = seat.0;
+        if READINGS <= r {
+            return Err(Refusal::BadPoint);
+        }
+        if SEATS <= s {
+            return Err(Refusal::BadPoint);
+        }
+        Ok(Point(r * SEATS + s))
+    }
 }
 
-// The slot that a handle names.
-pub fn slot_of(h: Handle) -> u64
-    ensures { result ≡ slot_of h.0 }
-{
-    h.0 % SLOTS
-}
+impl Handle {
+    // The handle of a slot's edit. A slot is below 256, so the sum fits.
+    pub fn of(generation: u16, slot: u8) -> Handle
+        ensures { result.0 ≡ handle generation slot }
+    {
+        Handle(generation as u64 * SLOTS + slot as u64)
+    }
 
-// The generation that a handle names.
-pub fn generation_of(h: Handle) -> u64
-    ensures { result ≡ generation_of h.0 }
-{
-    h.0 / SLOTS
+    // The slot that it names.
+    pub fn slot(self) -> u64
+        ensures { result ≡ slot_of self.0 }
+    {
+        self.0 % SLOTS
+    }
+
+    // The generation that it names.
+    pub fn generation(self) -> u64
+        ensures { result ≡ generation_of self.0 }
+    {
+        self.0 / SLOTS
+    }
 }
 
 // The next generation of a slot: after 65,535 comes 0.
 pub fn next_generation(g: u16) -> u16
     ensures { result ≡ next_generation g }
 {
-    std::num::wrapping_add_u16(g, 1)
+    g.wrapping_add(1)
 }
 
-// The number of a refusal.
-pub fn refusal_number(r: Refusal) -> u64
-    ensures { result ≡ number r }
-{
-    match r {
-        Refusal::Unsound => 1,
-        Refusal::NoEdit => 2,
-        Refusal::EditEnded => 3,
-        Refusal::EditOpen => 4,
-        Refusal::NoRecord => 5,
-        Refusal::BadPoint => 6,
-        Refusal::BelowFloor => 7,
-        Refusal::Held(_) => 8,
-        Refusal::Frozen => 9,
-        Refusal::NoAccessRow => 10,
-        Refusal::NoLockRow => 11,
-        Refusal::NoVersionRow => 12,
-        Refusal::NoSlot => 13,
-        Refusal::NotCommon => 14,
-        Refusal::LockedBelow => 15,
-        Refusal::BadFormat => 16,
+impl Refusal {
+    // The number of a refusal.
+    pub fn number(self) -> u64
+        ensures { result ≡ number self }
+    {
+        match self {
+            Refusal::Unsound => 1,
+            Refusal::NoEdit => 2,
+            Refusal::EditEnded => 3,
+            Refusal::EditOpen => 4,
+            Refusal::NoRecord => 5,
+            Refusal::BadPoint => 6,
+            Refusal::BelowFloor => 7,
+            Refusal::Held(_) => 8,
+            Refusal::Frozen => 9,
+            Refusal::NoAccessRow => 10,
+            Refusal::NoLockRow => 11,
+            Refusal::NoVersionRow => 12,
+            Refusal::NoSlot => 13,
+            Refusal::NotCommon => 14,
+            Refusal::LockedBelow => 15,
+            Refusal::BadFormat => 16,
+        }
     }
 }

@@ -9,7 +9,7 @@ ghost use Rattle.chains.specs.Change.{Ready, Place, Follows, relinked, Moved, Ta
 ghost use Rattle.chains.specs.Change.{Unlinked, Turned, UnlinkedBy, Emptied};
 
 use chains::{
-    Heads, Table, find_place, get, head_of, more, next_after, next_of, put, set_after, set_head,
+    Cursor, Heads, Table, find_place, get, head_of, next_after, next_of, put, set_after, set_head,
 };
 
 // The three stores of every change: x follows place p of chain a, y follows row r, z is chain b's head.
@@ -118,16 +118,11 @@ pub fn unlink_if(w: &mut [u64], t: Table, h: Heads, a: usize, b: usize, o: usize
     requires { Ready t h w.old a b × (o < t.stride) × (o ≡ t.off → ⊥) }
     ensures { UnlinkedBy (holds t w.old o v) t h w.old w.new a b }
 {
-    let n = t.count;
     let mut place = 0;
-    let mut cur = head_of(w, h, a);
-    let mut left = n;
-    while more(n, left, cur) {
-        let nxt = next_of(w, t, cur);
-        let hit = get(w, t, cur, o) == v;
-        place = unlink_turn(w, t, h, a, b, place, cur, hit);
-        cur = nxt;
-        left -= 1;
+    let mut walk = Cursor::new(t, head_of(w, h, a));
+    while let Some(i) = walk.step(w, t) {
+        let hit = get(w, t, i, o) == v;
+        place = unlink_turn(w, t, h, a, b, place, i, hit);
     }
 }
 
@@ -136,14 +131,9 @@ pub fn empty_after(w: &mut [u64], t: Table, h: Heads, a: usize, b: usize, p: usi
     requires { Ready t h w.old a b × Place t h w.old a p }
     ensures { Emptied t h w.old w.new a b p result }
 {
-    let n = t.count;
-    let mut cur = next_after(w, t, h, a, p);
-    let mut left = n;
-    while more(n, left, cur) {
-        let nxt = next_of(w, t, cur);
-        unlink(w, t, h, a, b, p, cur);
-        cur = nxt;
-        left -= 1;
+    let mut walk = Cursor::new(t, next_after(w, t, h, a, p));
+    while let Some(i) = walk.step(w, t) {
+        unlink(w, t, h, a, b, p, i);
     }
-    n - left
+    t.count - walk.left
 }

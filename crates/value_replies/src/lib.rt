@@ -1,74 +1,28 @@
-// The line of the reply of each call that answers values, by the number and values that `types` gives its case. Rests
-// on the crates `types` and `replies`.
+// The line of what a granted call gives, by the number and values that `types` gives its case. `replies` has the line
+// of a refusal. Rests on the crates `types` and `replies`.
 #![tactic(auto)]
 
 ghost use Rattle.std.specs.Prelude.{◌≡◌};
-ghost use Rattle.types.specs.Replies.{of_begin, of_lock, of_read, of_commit, of_purge, of_view};
+ghost use Rattle.types.specs.Replies.{of_granted};
 ghost use Rattle.replies.specs.Lines.{line_of};
 
-use replies::{Line, line_of_refusal};
-use types::{BeginReply, CommitReply, LockReply, PurgeReply, ReadReply, ViewReply};
+use replies::Line;
+use types::{Found, Granted};
 
-pub fn line_of_begin(r: BeginReply) -> Line
-    ensures { result ≡ line_of (of_begin r) }
+// The line of what a call of any kind gives.
+pub fn line_of_granted(g: Granted) -> Line
+    ensures { result ≡ line_of (of_granted g) }
 {
-    match r {
-        BeginReply::Edit(h) => Line::Edit(types::word_of_handle(h)),
-        BeginReply::Refused(x) => line_of_refusal(x),
-    }
-}
-
-pub fn line_of_lock(r: LockReply) -> Line
-    ensures { result ≡ line_of (of_lock r) }
-{
-    match r {
-        LockReply::Locked(low, high) => Line::Locked(
-            types::word_of_point(low),
-            types::word_of_point(high),
-        ),
-        LockReply::Refused(x) => line_of_refusal(x),
-    }
-}
-
-pub fn line_of_read(r: ReadReply) -> Line
-    ensures { result ≡ line_of (of_read r) }
-{
-    match r {
-        ReadReply::Read(tr, end, v) => Line::Read(
-            types::word_of_point(tr),
-            types::word_of_point(end),
-            v,
-        ),
-        ReadReply::Own(v) => Line::Own(v),
-        ReadReply::Again(tr, v) => Line::Again(types::word_of_point(tr), v),
-        ReadReply::Refused(x) => line_of_refusal(x),
-    }
-}
-
-pub fn line_of_commit(r: CommitReply) -> Line
-    ensures { result ≡ line_of (of_commit r) }
-{
-    match r {
-        CommitReply::Commit(p) => Line::Commit(types::word_of_point(p)),
-        CommitReply::NoPoint => Line::NoPoint,
-        CommitReply::Refused(x) => line_of_refusal(x),
-    }
-}
-
-pub fn line_of_purge(r: PurgeReply) -> Line
-    ensures { result ≡ line_of (of_purge r) }
-{
-    match r {
-        PurgeReply::Purged(versions, locks) => Line::Purged(versions, locks),
-        PurgeReply::Refused(x) => line_of_refusal(x),
-    }
-}
-
-pub fn line_of_view(r: ViewReply) -> Line
-    ensures { result ≡ line_of (of_view r) }
-{
-    match r {
-        ViewReply::At(p, v) => Line::At(types::word_of_point(p), v),
-        ViewReply::Refused(x) => line_of_refusal(x),
+    match g {
+        Granted::Done => Line::Ok,
+        Granted::Edit(h) => Line::Edit(u64::from(h)),
+        Granted::Locked(s) => Line::Locked(u64::from(s.low), u64::from(s.high)),
+        Granted::Read(Found::Read(tr, end, v)) => Line::Read(u64::from(tr), u64::from(end), v),
+        Granted::Read(Found::Own(v)) => Line::Own(v),
+        Granted::Read(Found::Again(tr, v)) => Line::Again(u64::from(tr), v),
+        Granted::Commit(Some(p)) => Line::Commit(u64::from(p)),
+        Granted::Commit(None) => Line::NoPoint,
+        Granted::Purged(f) => Line::Purged(f.versions, f.locks),
+        Granted::At(s) => Line::At(u64::from(s.point), s.value),
     }
 }

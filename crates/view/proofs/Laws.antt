@@ -5,7 +5,7 @@ use mathlib.Core.Path.{◌≡◌}
 use mathlib.Core.Bool.{Bool, true, false, ◌&&◌, cond}
 use mathlib.Core.List.{List, []}
 use Rattle.types.specs.Replies.{Reply, at, refusing}
-use Rattle.types.specs.declared.Value.{Value}
+use Rattle.types.specs.Values.{Value}
 use Rattle.meaning.specs.Records.{viewing}
 use Rattle.tables.specs.Layout.{header_ok}
 use Rattle.tables.specs.Words.{lent, decode}

@@ -15,86 +15,71 @@ ghost use Rattle.tables.specs.Layout.{S_STATE, S_GENERATION, S_POINT, L_LOW};
 ghost use Rattle.writes.specs.Rows.{lock_tag, written_mark, version_stored, lock_stored, access_stored};
 
 use tables::{
-    A_FROM, A_RECORD, A_VALUE, A_WRITTEN, L_HIGH, L_LOW, L_MODE, L_RECORD, MODES, R_FLOOR,
-    S_GENERATION, S_POINT, S_STATE, V_POINT, V_SPARE, V_VALUE, access_table, lock_heads,
-    lock_table, record_table, slot_table, version_heads, version_table,
+    A_FROM, A_RECORD, A_VALUE, A_WRITTEN, L_HIGH, L_LOW, L_MODE, L_RECORD, MODES, Part, R_FLOOR,
+    Records, S_GENERATION, S_POINT, S_STATE, Slots, V_POINT, V_SPARE, V_VALUE, lock_heads,
+    lock_table, version_heads, version_table,
 };
-use types::{Access, Counts, Lock};
+use types::{Access, Counts, Lock, Version};
 
 // Stores of one word.
 
-fn set_slot_word(w: &mut [u64], c: Counts, k: usize, o: usize, v: u64)
-    requires { Fits c w.old × IsRow c.edits k × (o < SLOT) }
-    ensures { w.new ≡ set w.old (place (slot_table c) k o) v }
+fn set_word<P: Part>(w: &mut [u64], c: Counts, i: usize, o: usize, v: u64)
+    requires { Fits c w.old × IsRow (P.table c).count i × (o < (P.table c).stride) }
+    ensures { w.new ≡ set w.old (place (P.table c) i o) v }
 {
-    chains::put(w, slot_table(c), k, o, chains::wide(v));
+    chains::put(w, P::table(c), i, o, v as usize);
 }
 
-fn set_version_word(w: &mut [u64], c: Counts, i: usize, o: usize, v: u64)
-    requires { Fits c w.old × IsRow c.versions i × (o < VERSION) }
-    ensures { w.new ≡ set w.old (place (version_table c) i o) v }
-{
-    chains::put(w, version_table(c), i, o, chains::wide(v));
-}
-
-fn set_lock_word(w: &mut [u64], c: Counts, i: usize, o: usize, v: u64)
-    requires { Fits c w.old × IsRow c.locks i × (o < LOCK) }
-    ensures { w.new ≡ set w.old (place (lock_table c) i o) v }
-{
-    chains::put(w, lock_table(c), i, o, chains::wide(v));
-}
-
-fn set_access_word(w: &mut [u64], c: Counts, i: usize, o: usize, v: u64)
-    requires { Fits c w.old × IsRow c.accesses i × (o < ACCESS) }
-    ensures { w.new ≡ set w.old (place (access_table c) i o) v }
-{
-    chains::put(w, access_table(c), i, o, chains::wide(v));
-}
-
+#[tactic(auto, unfolding(tables::specs::Layout::record_table))]
 pub fn put_floor(w: &mut [u64], c: Counts, r: usize, v: u64)
     requires { Fits c w.old × (r < c.records) }
     ensures { w.new ≡ set w.old (place (record_table c) (suc r) R_FLOOR) v }
 {
-    chains::put(w, record_table(c), r + 1, R_FLOOR, chains::wide(v));
+    set_word::<Records>(w, c, r + 1, R_FLOOR, v);
 }
 
+#[tactic(auto, unfolding(tables::specs::Layout::slot_table))]
 pub fn put_state(w: &mut [u64], c: Counts, k: usize, v: u64)
     requires { Fits c w.old × IsRow c.edits k }
     ensures { w.new ≡ set w.old (place (slot_table c) k S_STATE) v }
 {
-    set_slot_word(w, c, k, S_STATE, v);
+    set_word::<Slots>(w, c, k, S_STATE, v);
 }
 
+#[tactic(auto, unfolding(tables::specs::Layout::slot_table))]
 pub fn put_generation(w: &mut [u64], c: Counts, k: usize, v: u64)
     requires { Fits c w.old × IsRow c.edits k }
     ensures { w.new ≡ set w.old (place (slot_table c) k S_GENERATION) v }
 {
-    set_slot_word(w, c, k, S_GENERATION, v);
+    set_word::<Slots>(w, c, k, S_GENERATION, v);
 }
 
+#[tactic(auto, unfolding(tables::specs::Layout::slot_table))]
 pub fn put_point(w: &mut [u64], c: Counts, k: usize, v: u64)
     requires { Fits c w.old × IsRow c.edits k }
     ensures { w.new ≡ set w.old (place (slot_table c) k S_POINT) v }
 {
-    set_slot_word(w, c, k, S_POINT, v);
+    set_word::<Slots>(w, c, k, S_POINT, v);
 }
 
+#[tactic(auto, unfolding(tables::specs::Layout::lock_table))]
 pub fn put_low(w: &mut [u64], c: Counts, i: usize, v: u64)
     requires { Fits c w.old × IsRow c.locks i }
     ensures { w.new ≡ set w.old (place (lock_table c) i L_LOW) v }
 {
-    set_lock_word(w, c, i, L_LOW, v);
+    set_word::<Lock>(w, c, i, L_LOW, v);
 }
 
 // Stores of a row's words, all but its link.
 
+#[tactic(auto, unfolding(tables::specs::Layout::version_table))]
 pub fn put_version(w: &mut [u64], c: Counts, i: usize, point: u64, value: u64)
     requires { Fits c w.old × IsRow c.versions i }
     ensures { w.new ≡ version_stored c w.old i point value }
 {
-    set_version_word(w, c, i, V_POINT, point);
-    set_version_word(w, c, i, V_VALUE, value);
-    set_version_word(w, c, i, V_SPARE, 0);
+    set_word::<Version>(w, c, i, V_POINT, point);
+    set_word::<Version>(w, c, i, V_VALUE, value);
+    set_word::<Version>(w, c, i, V_SPARE, 0);
 }
 
 // A lock's mode and owner in one word. Owners are slots, so they fit.
@@ -105,15 +90,16 @@ fn lock_tag(l: Lock) -> u64
     l.mode + l.owner * MODES
 }
 
+#[tactic(auto, unfolding(tables::specs::Layout::lock_table))]
 pub fn put_lock(w: &mut [u64], c: Counts, i: usize, r: usize, l: Lock)
     requires { Fits c w.old × IsRow c.locks i × (l.mode < MODES) × (l.owner ≤ MAX_EDITS) }
     ensures { w.new ≡ lock_stored c w.old i r l }
 {
     let tag = lock_tag(l);
-    set_lock_word(w, c, i, L_LOW, l.low);
-    set_lock_word(w, c, i, L_HIGH, l.high);
-    set_lock_word(w, c, i, L_MODE, tag);
-    set_lock_word(w, c, i, L_RECORD, chains::word(r));
+    set_word::<Lock>(w, c, i, L_LOW, l.low);
+    set_word::<Lock>(w, c, i, L_HIGH, l.high);
+    set_word::<Lock>(w, c, i, L_MODE, tag);
+    set_word::<Lock>(w, c, i, L_RECORD, chains::word(r));
 }
 
 fn written_mark(b: bool) -> u64
@@ -122,15 +108,16 @@ fn written_mark(b: bool) -> u64
     if b { 1 } else { 0 }
 }
 
+#[tactic(auto, unfolding(tables::specs::Layout::access_table))]
 pub fn put_access(w: &mut [u64], c: Counts, i: usize, a: Access)
     requires { Fits c w.old × IsRow c.accesses i }
     ensures { w.new ≡ access_stored c w.old i a }
 {
     let mark = written_mark(a.written);
-    set_access_word(w, c, i, A_RECORD, a.rec);
-    set_access_word(w, c, i, A_FROM, a.from);
-    set_access_word(w, c, i, A_WRITTEN, mark);
-    set_access_word(w, c, i, A_VALUE, a.value);
+    set_word::<Access>(w, c, i, A_RECORD, a.rec);
+    set_word::<Access>(w, c, i, A_FROM, a.from);
+    set_word::<Access>(w, c, i, A_WRITTEN, mark);
+    set_word::<Access>(w, c, i, A_VALUE, a.value);
 }
 
 // The first free row comes to stand on record r's chain of versions after those with points above q. Replies the row,

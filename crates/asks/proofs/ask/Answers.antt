@@ -10,7 +10,7 @@ view-requires c = sound_header _ (sym c.requires ∙ c.if-good.true)
 pub returns-then-good : goal.returns-then-good
 returns-then-good c =
     asked_sound _ _ _ (sym c.requires ∙ c.if-good.true)
-    (rw c.point_of_word.ensures at c.view.ensures)
+    (rw c.from.ensures at c.view.ensures)
 
 pub returns-else-good : goal.returns-else-good
 returns-else-good c = asked_unsound _ _ _ (sym c.requires ∙ c.if-good.false)

@@ -4,4 +4,4 @@ use Rattle.asks.proofs.view_step.Goals as goal
 
 pub returns : goal.returns
 unfolding asked_at
-returns c = rw c.ask-reply.ensures at c.put_view.ensures
+returns c = rw (c.row_of.ensures, c.ask-reply.ensures) at c.put_row.ensures

@@ -1,21 +1,15 @@
-use Prim.Native.Nat.{◌-◌}
+-- `asks::views` meets its contract: after i turns the first i asks are told. Rests on Viewing.
 use native.Mathlib.Omega.{arith}
 use Rattle.asks.proofs.Viewing.{view_start, ask_fits, reply_fits, view_again, view_done}
 use Rattle.asks.proofs.views.Goals as goal
 
 pub loop-i-init : goal.loop-i-init
-loop-i-init c = view_start _ c.least-n.ensures
+loop-i-init c = view_start _ c.min-n.ensures
 
 pub view_step-requires : goal.view_step-requires
 view_step-requires c =
     let v = c.loop-i.invariant in
     (c.check-good.ensures, ask_fits v (omega arith), reply_fits v (omega arith))
-
-pub overflow_add-i : goal.overflow_add-i
-overflow_add-i c = omega arith
-
-pub loop-i-smaller : goal.loop-i-smaller
-loop-i-smaller c = omega arith
 
 pub loop-i-preserved : goal.loop-i-preserved
 loop-i-preserved c =

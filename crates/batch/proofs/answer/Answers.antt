@@ -1,11 +1,18 @@
 -- `answer` meets its contract: the call on sound words, and refusal 1 on others. Assumes nothing.
-use mathlib.Core.Path.{refl, ◌∙◌}
-use mathlib.Core.List.{[]}
-use Rattle.types.specs.Replies.{refusing}
-use Rattle.encoding.specs.Encoding.{NUMBERS}
-use Rattle.encoding.proofs.Rows.{told_row}
-use Rattle.store.proofs.Doing.{does_unsound}
+use mathlib.Core.Bool.{false}
+use mathlib.Core.List.{List}
+use Prim.Native.Nat.{ℕ}
+use mathlib.Core.Path.{◌≡◌, refl, ◌∙◌}
+use Rattle.std.specs.Prelude.{Err}
+use Rattle.types.specs.declared.Refusal.TheVariants.{Unsound}
+use Rattle.tables.specs.Words.{lent, sound_words}
+use Rattle.store.specs.Promises.{sound_or_refused}
+use Rattle.store.proofs.Doing.{does_refused}
 use Rattle.batch.proofs.answer.Goals as goal
+
+unsound : (w : List ℕ) → sound_words (lent w) ≡ false → Err Unsound ≡ sound_or_refused w
+unfolding sound_or_refused
+unsound w s = rw s refl
 
 pub perform-requires : goal.perform-requires
 perform-requires c =
@@ -28,12 +35,8 @@ pub returns-else-good : goal.returns-else-good
 returns-else-good c = (
   record {
     reply = _;
-    does = does_unsound (c.requires.0 ∙ c.if-good.false);
-    told = told_row NUMBERS 0 {q = refusing 1 []} (record {
-      number = c.refusal.ensures;
-      values
-          = refl;
-    }) c.row_0.ensures;
+    does = does_refused _ (unsound _ (c.requires.0 ∙ c.if-good.false)) refl;
+    told = c.row_of-else-good.ensures;
   },
   c.requires.1,
 )

@@ -1,14 +1,13 @@
--- `run` meets its contract: after i turns the first i calls are done and told. The measure is what is left. Assumes
--- nothing.
-use mathlib.Core.Path.{refl}
+-- `batch::run` meets its contract: it starts `steps` with an index that says nothing. Assumes nothing.
 use native.Mathlib.Omega.{arith}
+use Rattle.index.specs.Index.{INDEX}
 use Rattle.index.proofs.Unknown.{no_index, unknown_new}
 use Rattle.batch.proofs.run.Goals as goal
 
 pub steps-requires : goal.steps-requires
 steps-requires c = (
   c.check-good.ensures,
-  c.least-n.ensures,
+  c.min-n.ensures,
   no_index _ (λ e. omega (arith, e)),
 )
 
@@ -18,8 +17,8 @@ returns-then-n-lt-FEW c = c.steps.ensures
 pub steps-requires-2 : goal.steps-requires-2
 steps-requires-2 c = (
   c.check-good.ensures,
-  c.least-n.ensures,
-  unknown_new _ refl,
+  c.min-n.ensures,
+  unknown_new INDEX,
 )
 
 pub returns : goal.returns

@@ -1,4 +1,4 @@
-use Prim.Native.Nat.{◌-◌}
+-- `batch::steps` meets its contract: after i turns the first i calls are done and told. Rests on Running.
 use mathlib.Core.Path.{refl}
 use native.Mathlib.Omega.{arith}
 use Rattle.batch.proofs.Running.{call_fits, reply_fits, run_start, run_again, run_done}
@@ -21,12 +21,6 @@ step-requires c =
           (omega arith),
       c.loop-i.invariant.1,
     )
-
-pub overflow_add-i : goal.overflow_add-i
-overflow_add-i c = omega arith
-
-pub loop-i-smaller : goal.loop-i-smaller
-loop-i-smaller c = omega arith
 
 pub loop-i-preserved : goal.loop-i-preserved
 loop-i-preserved c = (

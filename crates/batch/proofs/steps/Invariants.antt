@@ -1,5 +1,4 @@
 -- `batch::steps` meets its contract. Rests on Running.
-use Prim.Native.Nat.{◌-◌}
 use mathlib.Core.Path.{◌≡◌}
 use lib.ListN.{length}
 use Rattle.tables.specs.Words.{lent, decode}
@@ -11,6 +10,3 @@ abbrev pub invariant-loop-i : goal.invariant-loop-i
 invariant-loop-i l =
     Running l.list l.initial.words l.initial.replies l.good l.n l.i l.words l.replies × Indexed (decode (lent l.words))
     l.ix × (length l.ix ≡ length l.initial.ix)
-
-abbrev pub decreases-loop-i : goal.decreases-loop-i
-decreases-loop-i l = l.n - l.i

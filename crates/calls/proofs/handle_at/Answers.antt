@@ -5,10 +5,10 @@ use native.Mathlib.Omega.{arith}
 use Rattle.calls.proofs.handle_at.Goals as goal
 
 pub returns-then-k-lt1 : goal.returns-then-k-lt1
-returns-then-k-lt1 c = c.make_handle.ensures ∙ handle_none _ _ _ c.if-k-lt1.true
+returns-then-k-lt1 c = c.of.ensures ∙ handle_none _ _ _ c.if-k-lt1.true
 
 pub returns-then-c-k : goal.returns-then-c-k
-returns-then-c-k c = c.make_handle-then-c-k.ensures ∙ handle_past _ _ _ c.if-c-k.true
+returns-then-c-k c = c.of-then-c-k.ensures ∙ handle_past _ _ _ c.if-c-k.true
 
 pub overflow_cast-g : goal.overflow_cast-g
 overflow_cast-g c =
@@ -19,6 +19,6 @@ overflow_cast-g c =
 
 pub returns : goal.returns
 returns c =
-    c.make_handle-2.ensures
+    c.of-2.ensures
     ∙ handle_here _ _ _ _ c.if-k-lt1.false c.if-c-k.false
     c.generation_of-g.ensures

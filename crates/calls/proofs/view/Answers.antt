@@ -1,6 +1,8 @@
 -- `calls::view` meets its contract: each refusal, and the newest version at or below the point. Rests on Viewing and
--- Answers.
-use Rattle.calls.proofs.Answers.{off, on}
+-- Checks.
+use mathlib.Core.Path.{ap, ◌∙◌}
+use Rattle.std.specs.Prelude.{Err}
+use Rattle.calls.proofs.Checks.{passed, record_out, record_refused}
 use Rattle.calls.proofs.Handles.{row_there}
 use Rattle.calls.proofs.Viewing.{header_there, header_counts, viewed_no_record, viewed_bad_point, viewed_below}
 use Rattle.calls.proofs.Viewing.{viewed}
@@ -9,45 +11,46 @@ use Rattle.calls.proofs.view.Goals as goal
 pub counts_of-c-requires : goal.counts_of-c-requires
 counts_of-c-requires c = header_there _ c.requires
 
-pub returns-then-not-has_record : goal.returns-then-not-has_record
-returns-then-not-has_record c =
-    viewed_no_record _ _ c.counts_of-c.ensures _ _
-    (off c.has_record.ensures c.if-not-has_record.true)
+pub returns-in_err-r : goal.returns-in_err-r
+returns-in_err-r c =
+    let r = record_refused _ _ c.record.ensures c.in_err-r.was in
+    rw (passed c.from_residual.result c.from_residual.ensures.1 ∙ ap Err r.1)
+    (viewed_no_record _ _ c.counts_of-c.ensures _ _ r.0)
 
 pub returns-then-q-gt-LAST : goal.returns-then-q-gt-LAST
 returns-then-q-gt-LAST c =
     viewed_bad_point _ _ c.counts_of-c.ensures _ _
-    (on c.has_record.ensures c.if-not-has_record.false) _
-    c.word_of_point-q.ensures c.if-q-gt-LAST.true
+    (record_out _ _ c.record.ensures c.in_ok-r.was).0 _
+    c.from-q.ensures c.if-q-gt-LAST.true
 
 pub floor_of-floor-requires : goal.floor_of-floor-requires
 floor_of-floor-requires c = (
   header_counts _ _ c.requires
       c.counts_of-c.ensures,
-  row_there _ _ (on c.has_record.ensures c.if-not-has_record.false),
+  (let r = record_out _ _ c.record.ensures c.in_ok-r.was in rw r.1 (row_there _ _ r.0)),
 )
 
 pub returns-then-q-floor : goal.returns-then-q-floor
 returns-then-q-floor c =
     viewed_below _ _ c.counts_of-c.ensures _ _
-    (on c.has_record.ensures c.if-not-has_record.false)
-    _ c.word_of_point-q.ensures _ c.if-q-gt-LAST.false
-    c.floor_of-floor.ensures c.if-q-floor.true
+    (record_out _ _ c.record.ensures c.in_ok-r.was).0
+    _ c.from-q.ensures _ c.if-q-gt-LAST.false
+    (rw (record_out _ _ c.record.ensures c.in_ok-r.was).1 at c.floor_of-floor.ensures)
+    c.if-q-floor.true
 
 pub newest_at-v-requires : goal.newest_at-v-requires
 newest_at-v-requires c = (
   header_counts _ _ c.requires
       c.counts_of-c.ensures,
-  row_there _ _ (on c.has_record.ensures
-      c.if-not-has_record.false),
+  (let r = record_out _ _ c.record.ensures c.in_ok-r.was in rw r.1 (row_there _ _ r.0)),
   c.if-q-gt-LAST.false,
 )
 
 pub returns : goal.returns
 returns c =
     viewed _ _ c.counts_of-c.ensures _ _
-    (on c.has_record.ensures
-    c.if-not-has_record.false) _
-    c.word_of_point-q.ensures _ c.if-q-gt-LAST.false
-    c.floor_of-floor.ensures _ _ c.if-q-floor.false c.newest_at-v.ensures
-    c.point_of_word.ensures
+    (record_out _ _ c.record.ensures c.in_ok-r.was).0 _
+    c.from-q.ensures _ c.if-q-gt-LAST.false
+    (rw (record_out _ _ c.record.ensures c.in_ok-r.was).1 at c.floor_of-floor.ensures) _ _
+    c.if-q-floor.false (rw (record_out _ _ c.record.ensures c.in_ok-r.was).1 at c.newest_at-v.ensures)
+    c.from.ensures

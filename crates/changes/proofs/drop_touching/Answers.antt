@@ -1,48 +1,33 @@
-use native.Mathlib.Omega.{arith}
-use Rattle.chains.proofs.Walks.{fuel_of}
+-- Answers for `changes::drop_touching`. Rests on Joins and Turns.
+use mathlib.Core.Path.{refl}
 use Rattle.changes.proofs.Turns.{lock_turns_row, lock_turns_ready}
 use Rattle.changes.proofs.Joins.{joins_start, joins_again, joins_end}
+use Rattle.changes.proofs.drop_touching.Goals.{then-hit, else-hit}
 use Rattle.changes.proofs.drop_touching.Goals as goal
 
-pub first_lock-cur-requires : goal.first_lock-cur-requires
-first_lock-cur-requires c = (c.requires.0.fits, c.requires.1)
-
-pub loop-c-init : goal.loop-c-init
-loop-c-init c =
-    joins_start _ _ c.requires.0 c.requires.1 c.first_lock-cur.ensures
-
-pub next_lock-nxt-requires : goal.next_lock-nxt-requires
-next_lock-nxt-requires c =
-    lock_turns_row c.loop-c.invariant.turns c.more.ensures
-    c.loop-c-test.true
+pub loop-i-init : goal.loop-i-init
+loop-i-init c =
+    joins_start _ _ c.requires.0 c.requires.1
+    (rw (c.lock_table-t.ensures, c.first_lock.ensures) at c.new-walk.ensures)
 
 pub lock_at-l-requires : goal.lock_at-l-requires
-lock_at-l-requires c =
-    lock_turns_row c.loop-c.invariant.turns
-    c.more.ensures c.loop-c-test.true
+lock_at-l-requires c = lock_turns_row c.loop-i.invariant.turns (rw c.lock_table-t.ensures at c.in-Some.ensures)
 
-pub unlink_lock-place-requires : goal.unlink_lock-place-requires
-unlink_lock-place-requires c =
-    lock_turns_ready c.loop-c.invariant.turns c.more.ensures c.loop-c-test.true
+pub unlink_turn-place-requires : goal.unlink_turn-place-requires
+unlink_turn-place-requires c =
+    lock_turns_ready c.loop-i.invariant.turns (rw c.lock_table-t.ensures at c.in-Some.ensures) c.lock_table-t.ensures
+    c.lock_heads-h.ensures
 
-pub overflow_sub-left : goal.overflow_sub-left
-overflow_sub-left c =
-    fuel_of _ _ _ c.more.ensures c.loop-c-test.true
-
-pub loop-c-smaller : goal.loop-c-smaller
-loop-c-smaller c =
-    omega (arith, fuel_of _ _ _ c.more.ensures c.loop-c-test.true)
-
-pub loop-c-preserved : goal.loop-c-preserved
-loop-c-preserved c =
-    joins_again c.loop-c.invariant c.more.ensures c.loop-c-test.true
-    c.next_lock-nxt.ensures
-    c.lock_at-l.ensures
+pub loop-i-preserved : goal.loop-i-preserved
+loop-i-preserved c =
+    joins_again c.loop-i.invariant c.lock_table-t.ensures c.lock_heads-h.ensures
+    (rw c.lock_table-t.ensures at c.in-Some.ensures) c.lock_at-l.ensures
     c.touches-hit.ensures
-    c.widened-row.ensures c.unlink_lock-place.ensures
-
-pub shape_of-w : goal.shape_of-w
-shape_of-w c = c.loop-c.invariant.turns.turns.elsewhere.size
+    (elim c.if-hit.branch [
+      | then-hit w ↦ rw (w.row-is, w.min.ensures, w.max.ensures, w.if-hit.true) refl
+      | else-hit w ↦ rw (w.row-is, w.if-hit.false) refl
+    ])
+    c.unlink_turn-place.ensures
 
 pub returns : goal.returns
-returns c = joins_end c.loop-c.invariant c.more.ensures c.loop-c-test.false
+returns c = joins_end c.loop-i.invariant (rw c.lock_table-t.ensures at c.in_default.ensures)

@@ -6,7 +6,7 @@ use Rattle.codes.proofs.refusal.Goals as goal
 
 pub returns-in-Held : goal.returns-in-Held
 returns-in-Held c =
-    rw (c.word_of_handle.ensures, c.refusal_number.ensures, c.in-Held.is) refl
+    rw (c.from.ensures, c.number.ensures, c.in-Held.is) refl
 
 pub returns : goal.returns
-returns c = c.refusal_number-2.ensures ∙ bare c.args.r (opened c.in_default.in_default-own.keys2)
+returns c = c.number-2.ensures ∙ bare c.args.r (opened c.in_default.in_default-own.keys2)

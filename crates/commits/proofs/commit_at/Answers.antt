@@ -39,7 +39,7 @@ finish_slot-requires c =
 pub returns : goal.returns
 returns c =
     at_done c.args.c c.args.w.now c.args.k c.requires.0 c.requires.1 c.args.finish c.args.t
-    (on c.version_room.ensures c.if-not-version_room.false) _ _ c.point_of_word.ensures
+    (on c.version_room.ensures c.if-not-version_room.false) _ _ c.from.ensures
     (committed_ends c.args.c c.args.w.now c.args.k
     c.requires.0 c.requires.1 c.args.t c.requires.2 (on c.version_room.ensures c.if-not-version_room.false) _ _
     c.save_versions.ensures c.set_state.ensures c.args.finish _ c.finish_slot.ensures)

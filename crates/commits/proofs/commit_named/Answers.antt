@@ -10,15 +10,15 @@ pub commit_at-requires : goal.commit_at-requires
 commit_at-requires c = (
   c.requires.0,
   c.requires.1,
-  named_common c.args.c c.args.w.now c.args.k c.requires.0 c.requires.1 c.args.finish c.args.p c.word_of_point-x.result
-      c.word_of_point-x.ensures c.in_common.result c.in_common.ensures c.if-in_common.true,
+  named_common c.args.c c.args.w.now c.args.k c.requires.0 c.requires.1 c.args.finish c.args.p c.from-x.result
+      c.from-x.ensures c.in_common.result c.in_common.ensures c.if-in_common.true,
   c.requires.2,
 )
 
 pub returns-then-in_common : goal.returns-then-in_common
 returns-then-in_common c =
-    named_in c.args.c c.args.w.now c.args.k c.requires.0 c.requires.1 c.args.finish c.args.p c.word_of_point-x.result
-    c.word_of_point-x.ensures c.in_common.result c.in_common.ensures c.if-in_common.true _ _ c.commit_at.ensures
+    named_in c.args.c c.args.w.now c.args.k c.requires.0 c.requires.1 c.args.finish c.args.p c.from-x.result
+    c.from-x.ensures c.in_common.result c.in_common.ensures c.if-in_common.true _ _ c.commit_at.ensures
 
 pub earliest-t-requires : goal.earliest-t-requires
 earliest-t-requires c =
@@ -33,12 +33,12 @@ no_point-requires c = (
 
 pub returns-then-t-gt-LAST : goal.returns-then-t-gt-LAST
 returns-then-t-gt-LAST c =
-    named_none c.args.c c.args.w.now c.args.k c.requires.0 c.requires.1 c.args.finish c.args.p c.word_of_point-x.result
-    c.word_of_point-x.ensures c.in_common.result c.in_common.ensures c.earliest-t.result c.earliest-t.ensures
+    named_none c.args.c c.args.w.now c.args.k c.requires.0 c.requires.1 c.args.finish c.args.p c.from-x.result
+    c.from-x.ensures c.in_common.result c.in_common.ensures c.earliest-t.result c.earliest-t.ensures
     c.if-t-gt-LAST.true _ _ c.no_point.ensures
 
 pub returns : goal.returns
 returns c =
-    named_out c.args.c c.args.w.now c.args.k c.requires.0 c.requires.1 c.args.finish c.args.p c.word_of_point-x.result
-    c.word_of_point-x.ensures c.in_common.result c.in_common.ensures c.if-in_common.false c.earliest-t.result
+    named_out c.args.c c.args.w.now c.args.k c.requires.0 c.requires.1 c.args.finish c.args.p c.from-x.result
+    c.from-x.ensures c.in_common.result c.in_common.ensures c.if-in_common.false c.earliest-t.result
     c.earliest-t.ensures c.if-t-gt-LAST.false

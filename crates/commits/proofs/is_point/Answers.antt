@@ -5,11 +5,11 @@ use Rattle.commits.proofs.is_point.Goals as goal
 
 pub returns-then-x-lt1 : goal.returns-then-x-lt1
 returns-then-x-lt1 c =
-    rw (lt-leb 1 c.args.p.0 (rw c.word_of_point-x.ensures at c.if-x-lt1.true)) refl
+    rw (lt-leb 1 c.args.p.0 (rw c.from-x.ensures at c.if-x-lt1.true)) refl
 
 pub returns : goal.returns
 returns c =
     rw (
-      le-leb 1 c.args.p.0 (rw c.word_of_point-x.ensures at c.if-x-lt1.false),
-      c.word_of_point-x.ensures,
+      le-leb 1 c.args.p.0 (rw c.from-x.ensures at c.if-x-lt1.false),
+      c.from-x.ensures,
     ) refl

@@ -1,17 +1,15 @@
 -- `refuse_ended` meets its contract: 1 by what View replies, else 3. Rests on Leaves.
-use Rattle.desk.proofs.Leaves.{ended_at, ended_one, ended_other}
+use borrow.Author.Rules.{rules}
+use Rattle.desk.proofs.Leaves.{ended_seen, ended_one, ended_other}
 use Rattle.desk.proofs.refuse_ended.Goals as goal
 
-pub returns-in-At : goal.returns-in-At
-returns-in-At c =
-    ended_at _ c.point_of_word.ensures _ c.view-reply.ensures _ _ c.in-At.is
+pub returns-in-Err-Unsound : goal.returns-in-Err-Unsound
+returns-in-Err-Unsound c =
+    let a = c.in-Err-Unsound in
+    ended_one _ c.from.ensures _ c.view.ensures (rw a.field-0-is at a.is)
 
-pub returns-then-refusal_number-eq1 : goal.returns-then-refusal_number-eq1
-returns-then-refusal_number-eq1 c =
-    ended_one _ c.point_of_word.ensures _ c.view-reply.ensures _ c.in-Refused.is _ c.refusal_number.ensures
-    c.if-refusal_number-eq1.true
+pub returns-in_default : goal.returns-in_default
+returns-in_default c = ended_other _ c.from.ensures _ c.view.ensures _ c.in_default.is (search rules)
 
-pub returns-else-refusal_number-eq1 : goal.returns-else-refusal_number-eq1
-returns-else-refusal_number-eq1 c =
-    ended_other _ c.point_of_word.ensures _ c.view-reply.ensures _ c.in-Refused.is _ c.refusal_number.ensures
-    c.if-refusal_number-eq1.false
+pub returns-in_default-2 : goal.returns-in_default-2
+returns-in_default-2 c = ended_seen _ c.from.ensures _ c.view.ensures _ c.in_default.is

@@ -1,38 +1,29 @@
--- `endings::abort` meets its contract. Rests on EndActs, on Acting and Answers of `calls`.
+-- `endings::abort` meets its contract. Rests on EndActs, on Acting and Checks of `calls`.
 use Rattle.calls.proofs.Acting.{has_header, ready, indexed_at}
+use Rattle.calls.proofs.Checks.{passed, open_out}
 use Rattle.endings.proofs.Noted.{with_index}
-use Rattle.calls.proofs.Answers.{off, on}
-use Rattle.endings.proofs.EndActs.{abort_refused, abort_too_late, open_needs, abort_acts}
+use Rattle.endings.proofs.EndActs.{abort_refused, open_needs, abort_acts}
 use Rattle.endings.proofs.abort.Goals as goal
 
 pub counts_of-c-requires : goal.counts_of-c-requires
 counts_of-c-requires c = has_header _ c.requires.0
 
-pub known-requires : goal.known-requires
-known-requires c =
+pub open_slot-requires : goal.open_slot-requires
+open_slot-requires c =
     (ready _ c.requires.0 _ c.counts_of-c.ensures).well.fits
 
-pub returns-then-not-known : goal.returns-then-not-known
-returns-then-not-known c =
-    abort_refused _ _ c.requires.0 c.counts_of-c.ensures _ _ (off c.known.ensures c.if-not-known.true)
-
-pub is_open-requires : goal.is_open-requires
-is_open-requires c =
-    (ready _ c.requires.0 _ c.counts_of-c.ensures).well.fits
-
-pub returns-then-not-is_open : goal.returns-then-not-is_open
-returns-then-not-is_open c =
-    abort_too_late _ _ c.requires.0 c.counts_of-c.ensures _ (on c.known.ensures c.if-not-known.false) _
-    (off c.is_open.ensures c.if-not-is_open.true)
+pub returns-in_err-k : goal.returns-in_err-k
+returns-in_err-k c =
+    rw (passed c.from_residual.result c.from_residual.ensures.1)
+    (abort_refused _ _ c.requires.0 c.counts_of-c.ensures _ _ c.open_slot.ensures c.in_err-k.was)
 
 pub end_aborted-requires : goal.end_aborted-requires
 end_aborted-requires c =
-    with_index (open_needs _ _ c.requires.0 c.counts_of-c.ensures _
-    (on c.known.ensures c.if-not-known.false) (on c.is_open.ensures c.if-not-is_open.false) _ c.slot.ensures)
-    (indexed_at _ _ c.counts_of-c.ensures
-    c.requires.1)
+    let o = open_out _ _ c.open_slot.ensures c.in_ok-k.was in
+    with_index (open_needs _ _ c.requires.0 c.counts_of-c.ensures _ o.0 o.1 _ o.2)
+    (indexed_at _ _ c.counts_of-c.ensures c.requires.1)
 
 pub returns : goal.returns
 returns c =
-    abort_acts _ _ c.requires.0 c.counts_of-c.ensures _ (on c.known.ensures c.if-not-known.false) _
-    (on c.is_open.ensures c.if-not-is_open.false) _ c.slot.ensures _ c.end_aborted.ensures
+    let o = open_out _ _ c.open_slot.ensures c.in_ok-k.was in
+    abort_acts _ _ c.requires.0 c.counts_of-c.ensures _ o.0 _ o.1 _ o.2 _ c.end_aborted.ensures

@@ -1,16 +1,16 @@
-use Prim.Native.Nat.{◌-◌}
+-- Answers for `endings::free_locks`. Rests on FreeLoop and on Says of `index`.
 use native.Mathlib.Omega.{arith}
 use Rattle.index.proofs.Says.{turn_within}
 use Rattle.endings.proofs.FreeLoop.{free_start_lem, free_again, free_end}
 use Rattle.endings.proofs.free_locks.Goals as goal
 
-pub turns-n-requires : goal.turns-n-requires
-turns-n-requires c =
+pub turns-i-end-requires : goal.turns-i-end-requires
+turns-i-end-requires c =
     omega (arith, c.requires.1.high, c.requires.0.fits.ranged.edits_high)
 
 pub loop-i-init : goal.loop-i-init
 loop-i-init c =
-    free_start_lem _ _ _ _ _ c.requires.0 c.requires.1 c.requires.2 c.turns-n.ensures
+    free_start_lem _ _ _ _ _ c.requires.0 c.requires.1 c.requires.2 c.turns-i-end.ensures
 
 pub turn-requires : goal.turn-requires
 turn-requires c = (

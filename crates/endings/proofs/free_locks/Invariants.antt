@@ -1,12 +1,8 @@
--- `endings::free_locks` meets its contract. Rests on FreeLoop.
-use Prim.Native.Nat.{◌-◌}
+-- `endings::free_locks` meets its contract. The loop's invariant is Freeing. Rests on FreeLoop.
 use Rattle.tables.specs.Decode.{decode_at}
 use Rattle.endings.specs.Steps.{freed_all}
 use Rattle.endings.proofs.FreeLoop.{Freeing}
 use Rattle.endings.proofs.free_locks.Given as goal
 
 abbrev pub invariant-loop-i : goal.invariant-loop-i
-invariant-loop-i l = Freeing l.k l.c l.ix (freed_all l.k (decode_at l.c l.initial.w)) l.w l.n l.i
-
-abbrev pub decreases-loop-i : goal.decreases-loop-i
-decreases-loop-i l = l.n - l.i
+invariant-loop-i l = Freeing l.k l.c l.ix (freed_all l.k (decode_at l.c l.initial.w)) l.w l.i-end l.i

@@ -4,9 +4,9 @@ use Rattle.exports.proofs.zohetiwa_abort.Goals as goal
 
 pub returns : goal.returns
 returns c =
-    answered c.abort.ensures
+    answered c.done.ensures
     (rw (
-      c.handle_of_word.ensures,
+      c.from.ensures,
       c.finish.ensures,
     )
     at c.abort-reply.ensures)

@@ -6,7 +6,7 @@ pub returns : goal.returns
 returns c =
     answered c.commit.ensures
     (rw (
-      c.handle_of_word.ensures,
+      c.from.ensures,
       c.finish.ensures,
     )
     at c.commit-reply.ensures)

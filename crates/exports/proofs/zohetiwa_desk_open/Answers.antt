@@ -6,6 +6,6 @@ use Rattle.exports.proofs.zohetiwa_desk_open.Goals as goal
 pub returns : goal.returns
 returns c =
     opened_as c.open.ensures (rw (
-      c.point_of_word.ensures,
+      c.from.ensures,
       c.setting.ensures,
     ) at c.open-reply.ensures)

@@ -3,4 +3,4 @@ use Rattle.codes.proofs.Telling.{answered}
 use Rattle.exports.proofs.zohetiwa_format.Goals as goal
 
 pub returns : goal.returns
-returns c = answered c.format.ensures c.format-reply.ensures
+returns c = answered c.done.ensures c.format-reply.ensures

@@ -5,5 +5,5 @@ use Rattle.exports.proofs.zohetiwa_point.Goals as goal
 pub returns : goal.returns
 returns c =
     answered c.point.ensures
-    (made c.reading_of.ensures
-    c.seat_of.ensures c.point-reply.ensures)
+    (made c.from.ensures
+    c.from-2.ensures c.point-reply.ensures)

@@ -6,5 +6,5 @@ pub returns : goal.returns
 returns c =
     answered c.purge.ensures
     (rw
-    c.point_of_word.ensures
+    c.from.ensures
     at c.purge-reply.ensures)

@@ -4,5 +4,5 @@ use Rattle.exports.proofs.zohetiwa_settle.Goals as goal
 
 pub returns : goal.returns
 returns c =
-    answered c.settle.ensures
-    (rw c.handle_of_word.ensures at c.settle-reply.ensures)
+    answered c.done.ensures
+    (rw c.from.ensures at c.settle-reply.ensures)

@@ -6,5 +6,5 @@ pub returns : goal.returns
 returns c =
     answered c.view.ensures
     (rw
-    c.point_of_word.ensures
+    c.from.ensures
     at c.view-reply.ensures)

@@ -4,5 +4,5 @@ use Rattle.exports.proofs.zohetiwa_write.Goals as goal
 
 pub returns : goal.returns
 returns c =
-    answered c.write.ensures
-    (rw c.handle_of_word.ensures at c.write-reply.ensures)
+    answered c.done.ensures
+    (rw c.from.ensures at c.write-reply.ensures)

@@ -5,15 +5,16 @@ use Rattle.tables.proofs.Header.{good_ranged}
 use Rattle.format.specs.Format.{format_fits}
 use Rattle.format.proofs.format_fits.Goals as goal
 
-pub returns-then-not-good_counts : goal.returns-then-not-good_counts
-unfolding format_fits
-returns-then-not-good_counts c = rw (sym c.good_counts.ensures ∙ c.if-not-good_counts.true)
-
 pub size_of-requires : goal.size_of-requires
-size_of-requires c = good_ranged _ (sym c.good_counts.ensures ∙ c.if-not-good_counts.false)
+size_of-requires c = good_ranged _ (sym c.good_counts.ensures ∙ c.if-good_counts.true)
 
-pub returns : goal.returns
+pub returns-then-good_counts : goal.returns-then-good_counts
 unfolding format_fits
-returns c =
-    rw (sym c.good_counts.ensures ∙ c.if-not-good_counts.false)
+returns-then-good_counts c =
+    rw (sym c.good_counts.ensures ∙ c.if-good_counts.true)
     (ap (eqb c.args.n) c.size_of.ensures)
+
+pub returns-else-good_counts : goal.returns-else-good_counts
+unfolding format_fits
+returns-else-good_counts c =
+    rw (sym c.good_counts.ensures ∙ c.if-good_counts.false) c.if-good_counts.false

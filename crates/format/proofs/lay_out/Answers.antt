@@ -12,20 +12,20 @@ write_header-requires c =
       arith,
       size_least c.args.c,
       c.requires.1,
-      c.clear.auto.w,
+      c.fill.ensures.len,
     )
 
 pub link_rows-requires : goal.link_rows-requires
 link_rows-requires c =
     rw c.version_table.ensures
     (versions_lie_lem _ _ (c.write_header.auto.w
-    ∙ c.clear.auto.w ∙ c.requires.1))
+    ∙ c.fill.ensures.len ∙ c.requires.1))
 
 pub link_rows-requires-2 : goal.link_rows-requires-2
 link_rows-requires-2 c =
     rw c.lock_table.ensures
     (locks_lie_lem _ _ (c.link_rows.auto.w ∙ c.write_header.auto.w
-    ∙ c.clear.auto.w ∙ c.requires.1))
+    ∙ c.fill.ensures.len ∙ c.requires.1))
 
 pub link_rows-requires-3 : goal.link_rows-requires-3
 link_rows-requires-3 c =
@@ -33,7 +33,7 @@ link_rows-requires-3 c =
     (accesses_lie _ _ (c.link_rows-2.auto.w
     ∙ c.link_rows.auto.w
     ∙ c.write_header.auto.w
-    ∙ c.clear.auto.w ∙ c.requires.1))
+    ∙ c.fill.ensures.len ∙ c.requires.1))
 
 pub returns : goal.returns
 unfolding formatted_words
@@ -46,6 +46,6 @@ returns c =
       c.link_rows.ensures,
       c.version_table.ensures,
       c.write_header.ensures,
-      c.clear.ensures,
+      c.fill.ensures.after (λ y e. e),
       blank_words_lem c.args.c _ c.requires.1,
     )

@@ -1,19 +1,10 @@
-use Prim.Native.Nat.{◌-◌}
+-- `format::link_rows` meets its contract. Rests on Laying.
 use native.Mathlib.Omega.{arith}
 use Rattle.format.proofs.Laying.{link_start, link_again, link_done, link_lies}
 use Rattle.format.proofs.link_rows.Goals as goal
 
 pub loop-i-init : goal.loop-i-init
 loop-i-init c = link_start _ _
-
-pub overflow_add-i : goal.overflow_add-i
-overflow_add-i c = omega arith
-
-pub next_free-next-requires : goal.next_free-next-requires
-next_free-next-requires c = omega arith
-
-pub overflow_add-i-in-loop-i : goal.overflow_add-i-in-loop-i
-overflow_add-i-in-loop-i c = omega arith
 
 pub put-requires : goal.put-requires
 put-requires c = (
@@ -22,16 +13,8 @@ put-requires c = (
   c.requires.within,
 )
 
-pub overflow_add-i-in-loop-i-2 : goal.overflow_add-i-in-loop-i-2
-overflow_add-i-in-loop-i-2 c = omega arith
-
-pub loop-i-smaller : goal.loop-i-smaller
-loop-i-smaller c = omega arith
-
 pub loop-i-preserved : goal.loop-i-preserved
-loop-i-preserved c =
-    link_again c.loop-i.invariant (omega arith)
-    c.next_free-next.ensures c.put.ensures
+loop-i-preserved c = link_again c.loop-i.invariant (omega arith) c.next_free.ensures c.put.ensures
 
 pub shape_of-w : goal.shape_of-w
 shape_of-w c = c.loop-i.invariant.size

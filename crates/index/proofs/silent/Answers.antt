@@ -1,10 +1,11 @@
 -- `index::silent` meets its contract. Rests on Says.
-use mathlib.Core.Path.{sym}
+use mathlib.Core.Path.{sym, ◌∙◌}
+use borrow.Author.Tests.{ne_eqb}
 use Rattle.index.proofs.Says.{mark_says, no_mark}
 use Rattle.index.proofs.silent.Goals as goal
 
-pub returns-then-ix-ne-INDEX : goal.returns-then-ix-ne-INDEX
-returns-then-ix-ne-INDEX c = sym (no_mark _ c.if-ix-ne-INDEX.true _ _)
+pub returns-then-ix-eq-INDEX : goal.returns-then-ix-eq-INDEX
+returns-then-ix-eq-INDEX c = sym (mark_says _ c.if-ix-eq-INDEX.true _ _)
 
-pub returns : goal.returns
-returns c = sym (mark_says _ c.if-ix-ne-INDEX.false _ _)
+pub returns-else-ix-eq-INDEX : goal.returns-else-ix-eq-INDEX
+returns-else-ix-eq-INDEX c = ne_eqb _ _ c.if-ix-eq-INDEX.false ∙ sym (no_mark _ c.if-ix-eq-INDEX.false _ _)

@@ -5,7 +5,7 @@ use Rattle.index.proofs.touch.Goals as goal
 
 pub returns-then-r-lt-MARKS : goal.returns-then-r-lt-MARKS
 returns-then-r-lt-MARKS c =
-    touch_marked _ _ _ _ _ _ (c.wide.ensures ∙ c.slot_of.ensures) c.wide-r.ensures c.mark.ensures
+    touch_marked _ _ _ _ _ _ (c.wide.ensures ∙ c.slot.ensures) c.wide-r.ensures c.mark.ensures
 
 pub returns-else-r-lt-MARKS : goal.returns-else-r-lt-MARKS
 returns-else-r-lt-MARKS c = touch_none _ _ _ _ c.wide-r.ensures c.if-r-lt-MARKS.false

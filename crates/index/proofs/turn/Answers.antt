@@ -1,6 +1,5 @@
 -- `index::turn` meets its contract. Rests on Says.
 use mathlib.Core.Path.{sym, ◌∙◌}
-use mir.Facts.{Fits-widen}
 use native.Mathlib.Omega.{arith}
 use Rattle.index.proofs.Says.{known_size, count_known, turn_known, turn_unknown}
 use Rattle.index.proofs.turn.Goals as goal
@@ -32,9 +31,6 @@ bounds-ix-k c =
       count_known _ _ (sym c.known.ensures ∙ c.if-known.true),
       known_size _ _ (sym c.known.ensures ∙ c.if-known.true),
     )
-
-pub overflow_cast-result : goal.overflow_cast-result
-overflow_cast-result c = Fits-widen tt (c.shared_slice_known-then-known-1.given _)
 
 pub returns-then-known : goal.returns-then-known
 returns-then-known c = sym (turn_known _ _ (sym c.known.ensures ∙ c.if-known.true) _)

@@ -1,8 +1,10 @@
--- `locking::lock` meets its contract: each refusal, and what `lock_wanted` makes. Rests on Locking.
-use Rattle.calls.proofs.Answers.{off, on}
+-- `locking::lock` meets its contract: each refusal, and what `lock_wanted` makes. Rests on Locking and Checks.
+use mathlib.Core.Path.{ap, ◌∙◌}
+use Rattle.std.specs.Prelude.{Err}
 use Rattle.calls.proofs.Acting.{has_header, ready, slot_row}
+use Rattle.calls.proofs.Checks.{passed, open_out, record_out, record_refused}
 use Rattle.calls.proofs.Handles.{row_there}
-use Rattle.locking.proofs.Locking.{locked_no_edit, locked_ended, locked_no_record, locked_crossed}
+use Rattle.locking.proofs.Locking.{locked_closed, locked_no_record, locked_crossed}
 use Rattle.locking.proofs.Locking.{locked_too_large, locked_below_lem, lock_acts}
 use native.Mathlib.Omega.{arith}
 use Rattle.locking.proofs.lock.Goals as goal
@@ -10,94 +12,86 @@ use Rattle.locking.proofs.lock.Goals as goal
 pub counts_of-c-requires : goal.counts_of-c-requires
 counts_of-c-requires c = has_header _ c.requires
 
-pub known-requires : goal.known-requires
-known-requires c = (ready _ c.requires _ c.counts_of-c.ensures).well.fits
+pub open_slot-requires : goal.open_slot-requires
+open_slot-requires c = (ready _ c.requires _ c.counts_of-c.ensures).well.fits
 
-pub returns-then-not-known : goal.returns-then-not-known
-returns-then-not-known c =
-    locked_no_edit _ _ c.requires
-    c.counts_of-c.ensures _ _ _ _ _ (off c.known.ensures c.if-not-known.true)
+pub returns-in_err-k : goal.returns-in_err-k
+returns-in_err-k c =
+    rw (passed c.from_residual.result c.from_residual.ensures.1)
+    (locked_closed _ _ c.requires c.counts_of-c.ensures _ _ _ _ _ c.open_slot.ensures c.in_err-k.was)
 
-pub is_open-requires : goal.is_open-requires
-is_open-requires c =
-    (ready _ c.requires _
-    c.counts_of-c.ensures).well.fits
-
-pub returns-then-not-is_open : goal.returns-then-not-is_open
-returns-then-not-is_open c =
-    locked_ended _ _ c.requires c.counts_of-c.ensures _ _ _ _ _
-    (on c.known.ensures c.if-not-known.false)
-    (off c.is_open.ensures c.if-not-is_open.true)
-
-pub returns-then-not-has_record : goal.returns-then-not-has_record
-returns-then-not-has_record c =
-    locked_no_record _ _ c.requires
-    c.counts_of-c.ensures _ _ _ _ _
-    (on c.known.ensures
-    c.if-not-known.false)
-    (on c.is_open.ensures c.if-not-is_open.false)
-    (off c.has_record.ensures c.if-not-has_record.true)
+pub returns-in_err-r : goal.returns-in_err-r
+returns-in_err-r c =
+    let o = open_out _ _ c.open_slot.ensures c.in_ok-k.was in
+    let r = record_refused _ _ c.record.ensures c.in_err-r.was in
+    rw (passed c.from_residual-in_err-r.result c.from_residual-in_err-r.ensures.1 ∙ ap Err r.1)
+    (locked_no_record _ _ c.requires c.counts_of-c.ensures _ _ _ _ _ o.0 o.1 r.0)
 
 pub returns-then-to-from : goal.returns-then-to-from
 returns-then-to-from c =
+    let o = open_out _ _ c.open_slot.ensures c.in_ok-k.was in
+    let r = record_out _ _ c.record.ensures c.in_ok-r.was in
     locked_crossed _ _ c.requires c.counts_of-c.ensures _ _ _ _ _
-    (on c.known.ensures c.if-not-known.false)
-    (on c.is_open.ensures
-    c.if-not-is_open.false)
-    (on c.has_record.ensures c.if-not-has_record.false) _ _
-    c.word_of_point-from.ensures c.word_of_point-to.ensures c.if-to-from.true
+    o.0
+    o.1
+    r.0 _ _
+    c.from-from.ensures c.from-to.ensures c.if-to-from.true
 
 pub returns-then-to-gt-LAST : goal.returns-then-to-gt-LAST
 returns-then-to-gt-LAST c =
+    let o = open_out _ _ c.open_slot.ensures c.in_ok-k.was in
+    let r = record_out _ _ c.record.ensures c.in_ok-r.was in
     locked_too_large _ _ c.requires c.counts_of-c.ensures _ _ _ _ _
-    (on c.known.ensures c.if-not-known.false)
-    (on c.is_open.ensures c.if-not-is_open.false)
-    (on c.has_record.ensures c.if-not-has_record.false)
-    _ _ c.word_of_point-from.ensures c.word_of_point-to.ensures
+    o.0
+    o.1
+    r.0
+    _ _ c.from-from.ensures c.from-to.ensures
     c.if-to-from.false c.if-to-gt-LAST.true
 
 pub floor_of-requires : goal.floor_of-requires
-floor_of-requires c = (
-  (ready _ c.requires _ c.counts_of-c.ensures).well.fits,
-  row_there _ _ (on c.has_record.ensures
-      c.if-not-has_record.false),
-)
+floor_of-requires c =
+    let o = open_out _ _ c.open_slot.ensures c.in_ok-k.was in
+    let r = record_out _ _ c.record.ensures c.in_ok-r.was in (
+      (ready _ c.requires _ c.counts_of-c.ensures).well.fits,
+      rw r.1 (row_there _ _ r.0),
+    )
 
 pub returns-then-from-floor_of : goal.returns-then-from-floor_of
 returns-then-from-floor_of c =
+    let o = open_out _ _ c.open_slot.ensures c.in_ok-k.was in
+    let r = record_out _ _ c.record.ensures c.in_ok-r.was in
     locked_below_lem _ _ c.requires c.counts_of-c.ensures _ _ _ _ _
-    (on c.known.ensures c.if-not-known.false)
-    (on c.is_open.ensures c.if-not-is_open.false)
-    (on c.has_record.ensures
-    c.if-not-has_record.false) _ _
-    c.word_of_point-from.ensures
-    c.word_of_point-to.ensures c.if-to-from.false
-    c.if-to-gt-LAST.false _ c.floor_of.ensures c.if-from-floor_of.true
+    o.0
+    o.1
+    r.0 _ _
+    c.from-from.ensures
+    c.from-to.ensures c.if-to-from.false
+    c.if-to-gt-LAST.false _ (rw r.1 at c.floor_of.ensures) c.if-from-floor_of.true
 
 pub lock_wanted-requires : goal.lock_wanted-requires
-lock_wanted-requires c = (
-  ready _ c.requires _ c.counts_of-c.ensures,
-  rw c.slot.ensures
-      (slot_row _ _ _ (on c.known.ensures
-      c.if-not-known.false)),
-  row_there _ _ (on c.has_record.ensures
-      c.if-not-has_record.false),
-  omega (arith, c.if-from-floor_of.false),
-  c.if-to-from.false,
-  c.if-to-gt-LAST.false,
-)
+lock_wanted-requires c =
+    let o = open_out _ _ c.open_slot.ensures c.in_ok-k.was in
+    let r = record_out _ _ c.record.ensures c.in_ok-r.was in (
+      ready _ c.requires _ c.counts_of-c.ensures,
+      rw o.2 (slot_row _ _ _ o.0),
+      rw r.1 (row_there _ _ r.0),
+      omega (arith, c.if-from-floor_of.false),
+      c.if-to-from.false,
+      c.if-to-gt-LAST.false,
+    )
 
 pub returns : goal.returns
 returns c =
+    let o = open_out _ _ c.open_slot.ensures c.in_ok-k.was in
+    let r = record_out _ _ c.record.ensures c.in_ok-r.was in
     lock_acts _ _ c.requires
     c.counts_of-c.ensures _ _ _ _ _
-    (on c.known.ensures
-    c.if-not-known.false)
-    (on c.is_open.ensures c.if-not-is_open.false)
-    (on c.has_record.ensures c.if-not-has_record.false) _ _ c.word_of_point-from.ensures
-    c.word_of_point-to.ensures
+    o.0
+    o.1
+    r.0 _ _ c.from-from.ensures
+    c.from-to.ensures
     c.if-to-from.false
     c.if-to-gt-LAST.false _
-    c.floor_of.ensures
-    c.if-from-floor_of.false _ _ _ c.slot.ensures
-    c.lock_wanted.ensures
+    (rw r.1 at c.floor_of.ensures)
+    c.if-from-floor_of.false _ _ _ o.2
+    (rw r.1 at c.lock_wanted.ensures)

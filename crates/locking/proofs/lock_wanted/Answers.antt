@@ -13,7 +13,7 @@ pub judge-requires : goal.judge-requires
 judge-requires c = (
   c.requires.0,
   wanted_by_small _ _ c.requires.0 _ _ _ _ _ _ c.lock_grant.ensures _
-      c.in-Judged.is,
+      c.in-Err.is,
 )
 
 pub lock_room-requires : goal.lock_room-requires
@@ -23,7 +23,7 @@ pub returns-then-not-lock_room : goal.returns-then-not-lock_room
 returns-then-not-lock_room c =
     wanted_no_room _ _ c.requires.0 _ _ _ _ _ _
     c.lock_grant.ensures _ _
-    c.in-Taken.is (off c.lock_room.ensures c.if-not-lock_room.true)
+    c.in-Ok.is (off c.lock_room.ensures c.if-not-lock_room.true)
 
 pub add_lock-requires : goal.add_lock-requires
 add_lock-requires c = (
@@ -34,15 +34,15 @@ add_lock-requires c = (
   lock_free _ _ (on c.lock_room.ensures c.if-not-lock_room.false),
 )
 
-pub returns-in-Judged : goal.returns-in-Judged
-returns-in-Judged c =
+pub returns-in-Err : goal.returns-in-Err
+returns-in-Err c =
     wanted_blocked _ _ c.requires.0 _ _ _ _ _ _ c.lock_grant.ensures _
-    c.in-Judged.is _ _ c.requires.4 c.judge.ensures
+    c.in-Err.is _ _ c.requires.4 c.judge.ensures
 
 pub returns-else-not-lock_room : goal.returns-else-not-lock_room
 returns-else-not-lock_room c =
     wanted_done _ _ c.requires.0 _ _ _ _ _ _ c.lock_grant.ensures _ _
-    c.in-Taken.is
+    c.in-Ok.is
     (on c.lock_room.ensures c.if-not-lock_room.false) _ _ _
-    c.add_lock.ensures.becomes c.point_of_word.ensures
-    c.point_of_word-in-Taken.ensures
+    c.add_lock.ensures.becomes c.from.ensures
+    c.from-in-Ok.ensures

@@ -1,4 +1,7 @@
--- `purges::purge` meets its contract. Rests on PurgeActs, on Acting of `calls`.
+-- `purges::purge` meets its contract. Rests on PurgeActs, on Acting and Checks of `calls`.
+use mathlib.Core.Path.{refl, ap, ◌∙◌}
+use Rattle.std.specs.Prelude.{Err}
+use Rattle.calls.proofs.Checks.{passed, record_out, record_refused}
 use Rattle.calls.proofs.Acting.{has_header, ready}
 use Rattle.purges.proofs.PurgeActs.{purge_refused, purge_bad_point, purge_row, purge_needs, purge_acts}
 use Rattle.purges.proofs.purge.Goals as goal
@@ -6,51 +9,44 @@ use Rattle.purges.proofs.purge.Goals as goal
 pub counts_of-c-requires : goal.counts_of-c-requires
 counts_of-c-requires c = has_header _ c.requires
 
-pub returns-then-not-has_record : goal.returns-then-not-has_record
-returns-then-not-has_record c =
-    purge_refused _ _ c.requires c.counts_of-c.ensures
-    c.args.rec c.has_record.result
-    c.has_record.ensures _ (c.if-not-has_record.true)
+pub returns-in_err-r : goal.returns-in_err-r
+returns-in_err-r c =
+    let r = record_refused _ _ c.record.ensures c.in_err-r.was in
+    rw (passed c.from_residual.result c.from_residual.ensures.1 ∙ ap Err r.1)
+    (purge_refused _ _ c.requires c.counts_of-c.ensures c.args.rec _ refl _ r.0)
 
 pub returns-then-p-gt-LAST : goal.returns-then-p-gt-LAST
 returns-then-p-gt-LAST c =
     purge_bad_point _ _ c.requires
     c.counts_of-c.ensures
     c.args.rec
-    c.has_record.result c.has_record.ensures
-    (c.if-not-has_record.false) _ c.word_of_point-p.result
-    c.word_of_point-p.ensures c.if-p-gt-LAST.true
+    _ refl (record_out _ _ c.record.ensures c.in_ok-r.was).0 _ c.from-p.result
+    c.from-p.ensures c.if-p-gt-LAST.true
 
 pub newest_at-v-requires : goal.newest_at-v-requires
 newest_at-v-requires c = (
   (ready _ c.requires _ c.counts_of-c.ensures).well.fits,
   purge_row _ _ c.requires c.counts_of-c.ensures
-      c.args.rec c.has_record.result
-      c.has_record.ensures
-      (c.if-not-has_record.false) _
-      c.word_of_point-p.result c.word_of_point-p.ensures
-      c.if-p-gt-LAST.false c.wide-r.result c.wide-r.ensures,
+      c.args.rec _ refl (record_out _ _ c.record.ensures c.in_ok-r.was).0 _
+      c.from-p.result c.from-p.ensures
+      c.if-p-gt-LAST.false _ (record_out _ _ c.record.ensures c.in_ok-r.was).1,
   c.if-p-gt-LAST.false,
 )
 
 pub purge_to-requires : goal.purge_to-requires
 purge_to-requires c =
     purge_needs _ _ c.requires c.counts_of-c.ensures
-    c.args.rec c.has_record.result
-    c.has_record.ensures
-    (c.if-not-has_record.false) _
-    c.word_of_point-p.result
-    c.word_of_point-p.ensures c.if-p-gt-LAST.false
-    c.wide-r.result c.wide-r.ensures c.newest_at-v.result
+    c.args.rec _ refl (record_out _ _ c.record.ensures c.in_ok-r.was).0 _
+    c.from-p.result
+    c.from-p.ensures c.if-p-gt-LAST.false
+    _ (record_out _ _ c.record.ensures c.in_ok-r.was).1 c.newest_at-v.result
     c.newest_at-v.ensures
 
 pub returns : goal.returns
 returns c =
     purge_acts _ _ c.requires c.counts_of-c.ensures c.args.rec
-    c.has_record.result c.has_record.ensures
-    (c.if-not-has_record.false) _ c.word_of_point-p.result
-    c.word_of_point-p.ensures c.if-p-gt-LAST.false
-    c.wide-r.result
-    c.wide-r.ensures
+    _ refl (record_out _ _ c.record.ensures c.in_ok-r.was).0 _ c.from-p.result
+    c.from-p.ensures c.if-p-gt-LAST.false
+    _ (record_out _ _ c.record.ensures c.in_ok-r.was).1
     c.newest_at-v.result c.newest_at-v.ensures _ _
     c.purge_to.ensures

@@ -1,61 +1,63 @@
--- `reading::read` meets its contract: each refusal, and what `read_open` makes. Rests on Reading.
-use Rattle.calls.proofs.Answers.{off, on}
+-- `reading::read` meets its contract: each refusal, and what `read_open` makes. Rests on Reading and Checks.
+use mathlib.Core.Path.{ap, ◌∙◌}
+use Rattle.std.specs.Prelude.{Err}
 use Rattle.calls.proofs.Acting.{has_header, ready, slot_row, indexed_at}
+use Rattle.calls.proofs.Checks.{passed, open_out, record_out, record_refused}
 use Rattle.calls.proofs.Handles.{row_there}
-use Rattle.reading.proofs.Reading.{reads_no_edit, reads_ended, reads_no_record, reads_zero, reads_too_large}
+use Rattle.reading.proofs.Reading.{reads_closed, reads_no_record, reads_zero, reads_too_large}
 use Rattle.reading.proofs.Reading.{read_acts}
 use Rattle.reading.proofs.read.Goals as goal
 
 pub counts_of-c-requires : goal.counts_of-c-requires
 counts_of-c-requires c = has_header _ c.requires.0
 
-pub known-requires : goal.known-requires
-known-requires c =
+pub open_slot-requires : goal.open_slot-requires
+open_slot-requires c =
     (ready _ c.requires.0 _ c.counts_of-c.ensures).well.fits
 
-pub returns-then-not-known : goal.returns-then-not-known
-returns-then-not-known c =
-    reads_no_edit _ _ c.requires.0 c.counts_of-c.ensures _ _ _ _ (off c.known.ensures c.if-not-known.true)
+pub returns-in_err-k : goal.returns-in_err-k
+returns-in_err-k c =
+    rw (passed c.from_residual.result c.from_residual.ensures.1)
+    (reads_closed _ _ c.requires.0 c.counts_of-c.ensures _ _ _ _ c.open_slot.ensures c.in_err-k.was)
 
-pub is_open-requires : goal.is_open-requires
-is_open-requires c =
-    (ready _ c.requires.0 _ c.counts_of-c.ensures).well.fits
-
-pub returns-then-not-is_open : goal.returns-then-not-is_open
-returns-then-not-is_open c =
-    reads_ended _ _ c.requires.0 c.counts_of-c.ensures _ _ _ _ (on c.known.ensures c.if-not-known.false)
-    (off c.is_open.ensures c.if-not-is_open.true)
-
-pub returns-then-not-has_record : goal.returns-then-not-has_record
-returns-then-not-has_record c =
-    reads_no_record _ _ c.requires.0 c.counts_of-c.ensures _ _ _ _
-    (on c.known.ensures c.if-not-known.false) (on c.is_open.ensures c.if-not-is_open.false)
-    (off c.has_record.ensures c.if-not-has_record.true)
+pub returns-in_err-r : goal.returns-in_err-r
+returns-in_err-r c =
+    let o = open_out _ _ c.open_slot.ensures c.in_ok-k.was in
+    let r = record_refused _ _ c.record.ensures c.in_err-r.was in
+    rw (passed c.from_residual-in_err-r.result c.from_residual-in_err-r.ensures.1 ∙ ap Err r.1)
+    (reads_no_record _ _ c.requires.0 c.counts_of-c.ensures _ _ _ _ o.0 o.1 r.0)
 
 pub returns-then-n-lt1 : goal.returns-then-n-lt1
 returns-then-n-lt1 c =
-    reads_zero _ _ c.requires.0 c.counts_of-c.ensures _ _ _ _ (on c.known.ensures c.if-not-known.false)
-    (on c.is_open.ensures c.if-not-is_open.false) (on c.has_record.ensures c.if-not-has_record.false) _
-    c.word_of_point-n.ensures c.if-n-lt1.true
+    let o = open_out _ _ c.open_slot.ensures c.in_ok-k.was in
+    let r = record_out _ _ c.record.ensures c.in_ok-r.was in
+    reads_zero _ _ c.requires.0 c.counts_of-c.ensures _ _ _ _ o.0
+    o.1 r.0 _
+    c.from-n.ensures c.if-n-lt1.true
 
 pub returns-then-n-gt-LAST : goal.returns-then-n-gt-LAST
 returns-then-n-gt-LAST c =
-    reads_too_large _ _ c.requires.0 c.counts_of-c.ensures _ _ _ _ (on c.known.ensures c.if-not-known.false)
-    (on c.is_open.ensures c.if-not-is_open.false) (on c.has_record.ensures c.if-not-has_record.false) _
-    c.word_of_point-n.ensures c.if-n-lt1.false c.if-n-gt-LAST.true
+    let o = open_out _ _ c.open_slot.ensures c.in_ok-k.was in
+    let r = record_out _ _ c.record.ensures c.in_ok-r.was in
+    reads_too_large _ _ c.requires.0 c.counts_of-c.ensures _ _ _ _ o.0
+    o.1 r.0 _
+    c.from-n.ensures c.if-n-lt1.false c.if-n-gt-LAST.true
 
 pub read_open-requires : goal.read_open-requires
-read_open-requires c = (
-  ready _ c.requires.0 _ c.counts_of-c.ensures,
-  rw c.slot.ensures (slot_row _ _ _ (on c.known.ensures c.if-not-known.false)),
-  row_there _ _ (on
-      c.has_record.ensures c.if-not-has_record.false),
-  c.if-n-gt-LAST.false,
-  indexed_at _ _ c.counts_of-c.ensures c.requires.1,
-)
+read_open-requires c =
+    let o = open_out _ _ c.open_slot.ensures c.in_ok-k.was in
+    let r = record_out _ _ c.record.ensures c.in_ok-r.was in (
+      ready _ c.requires.0 _ c.counts_of-c.ensures,
+      rw o.2 (slot_row _ _ _ o.0),
+      rw r.1 (row_there _ _ r.0),
+      c.if-n-gt-LAST.false,
+      indexed_at _ _ c.counts_of-c.ensures c.requires.1,
+    )
 
 pub returns : goal.returns
 returns c =
-    read_acts _ _ c.requires.0 c.counts_of-c.ensures _ _ _ _ (on c.known.ensures c.if-not-known.false)
-    (on c.is_open.ensures c.if-not-is_open.false) (on c.has_record.ensures c.if-not-has_record.false) _
-    c.word_of_point-n.ensures c.if-n-lt1.false c.if-n-gt-LAST.false _ _ _ c.slot.ensures c.read_open.ensures
+    let o = open_out _ _ c.open_slot.ensures c.in_ok-k.was in
+    let r = record_out _ _ c.record.ensures c.in_ok-r.was in
+    read_acts _ _ c.requires.0 c.counts_of-c.ensures _ _ _ _ o.0
+    o.1 r.0 _
+    c.from-n.ensures c.if-n-lt1.false c.if-n-gt-LAST.false _ _ _ o.2 (rw r.1 at c.read_open.ensures)

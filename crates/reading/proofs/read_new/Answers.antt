@@ -34,23 +34,23 @@ pub judge-requires : goal.judge-requires
 judge-requires c =
     let small =
     new_by_small _ _ c.requires.0 _ _ _ _ c.requires.2 _ c.floor_of.ensures c.if-m-floor_of.false _
-    c.newest_below-v.ensures _ c.read_grant.ensures _ c.in-Judged.is in
+    c.newest_below-v.ensures _ c.read_grant.ensures _ c.in-Err.is in
     (c.requires.0, small)
 
 pub read_taken-requires : goal.read_taken-requires
 read_taken-requires c =
     (c.requires.0, c.requires.1, c.requires.2, c.requires.4)
 
-pub returns-in-Judged : goal.returns-in-Judged
-returns-in-Judged c =
+pub returns-in-Err : goal.returns-in-Err
+returns-in-Err c =
     new_blocked _ _ c.requires.0 _ _ _ _ c.requires.2 _ c.floor_of.ensures c.if-m-floor_of.false _
-    c.newest_below-v.ensures _ c.read_grant.ensures _ c.in-Judged.is _ _
+    c.newest_below-v.ensures _ c.read_grant.ensures _ c.in-Err.is _ _
     c.judge.ensures
 
-pub returns-in-Taken : goal.returns-in-Taken
-returns-in-Taken c =
+pub returns-in-Ok : goal.returns-in-Ok
+returns-in-Ok c =
     new_taken _ _ c.requires.0 _ _ _ _ c.requires.2 _
     c.floor_of.ensures
     c.if-m-floor_of.false _ c.newest_below-v.ensures _
     c.read_grant.ensures _ _ _ _
-    c.in-Taken.is c.read_taken.ensures
+    c.in-Ok.is c.read_taken.ensures

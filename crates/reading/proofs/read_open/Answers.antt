@@ -32,7 +32,7 @@ version_on-v-requires c = (
 pub returns-then-a-gt0 : goal.returns-then-a-gt0
 returns-then-a-gt0 c =
     opened_again _ _ c.requires.0 _ _ _ _ c.requires.1 _ (c.access_in-a.ensures c.args.k c.access_row-i.ensures)
-    c.if-a.false _ _ c.requires.2 c.if-a-gt0.true c.version_on-v.ensures c.point_of_word.ensures
+    c.if-a.false _ _ c.requires.2 c.if-a-gt0.true c.version_on-v.ensures c.from.ensures
 
 pub read_new-requires : goal.read_new-requires
 read_new-requires c = (

@@ -56,4 +56,4 @@ returns c =
     c.if-not-access_room.false)
     (on c.lock_room.ensures c.if-not-lock_room.false) _
     c.set_access.ensures _ _ _ c.add_lock.ensures.becomes
-    c.point_of_word.ensures c.point_of_word-2.ensures
+    c.from.ensures c.from-2.ensures

@@ -1,32 +1,19 @@
-use Prim.Native.Nat.{◌-◌}
-use native.Mathlib.Omega.{arith}
+-- `record_clauses::all_pass` meets its contract: one record after the other. Rests on Counting.
+use Rattle.std.proofs.Common.{rules, arith, ℕ, ◌≡◌, Bool, true, false, List, refl}
+use Rattle.std.proofs.lemmas.Iterator.{cases_from_all, YieldsList-from_range}
+use Rattle.types.specs.declared.Counts.{Counts}
+use Rattle.tables.specs.Decode.{record_at, edits_of}
 use Rattle.clauses.specs.Clauses.{locks_pass, all_pass}
-use Rattle.clauses.proofs.Counting.{up_start, up_again, up_fail, up_end}
+use Rattle.clauses.proofs.Counting.{all_ranged}
 use Rattle.record_clauses.proofs.all_pass.Goals as goal
 
-pub loop-r-init : goal.loop-r-init
-loop-r-init c = up_start
-
-pub locks_pass-requires : goal.locks_pass-requires
-locks_pass-requires c = (c.requires, omega arith)
-
-pub returns-then-not-locks_pass : goal.returns-then-not-locks_pass
-unfolding all_pass
-returns-then-not-locks_pass c =
-    up_fail c.loop-r.invariant (omega arith) c.locks_pass.ensures
-    (c.if-not-locks_pass.true)
-
-pub overflow_add-r : goal.overflow_add-r
-overflow_add-r c = omega (arith, c.requires.ranged.records_high)
-
-pub loop-r-smaller : goal.loop-r-smaller
-loop-r-smaller c = omega arith
-
-pub loop-r-preserved : goal.loop-r-preserved
-loop-r-preserved c =
-    up_again c.loop-r.invariant (omega arith) c.locks_pass.ensures
-    (c.if-not-locks_pass.false)
+abbrev passes : Counts → List ℕ → ℕ → Bool
+passes c w r = locks_pass (edits_of c w) (record_at c w r)
 
 pub returns : goal.returns
 unfolding all_pass
-returns c = up_end c.loop-r.invariant (omega arith)
+returns c =
+    all_ranged (passes c.args.c c.args.w.now) c.args.c.records c.all.result
+    (cases_from_all _ _ _ (λ r. passes c.args.c c.args.w.now r ≡ true) (λ r. passes c.args.c c.args.w.now r ≡ false)
+    c.all.ensures.ran (YieldsList-from_range 0 c.args.c.records c.args.c.records refl (omega arith))
+    (λ r q k. search rules) (λ r q k. search rules))

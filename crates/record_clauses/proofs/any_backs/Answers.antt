@@ -1,80 +1,39 @@
-use mathlib.Core.Path.{sym, ◌∙◌}
-use native.Mathlib.Omega.{arith}
-use Rattle.chains.proofs.Walks.{row_of, fuel_of}
+-- The walk starts at the record's lock rows, each row met is one of them, and a turn goes on past a row that does not
+-- back.
+use mathlib.Core.Path.{refl, sym, ap, ◌∙◌}
+use mathlib.Core.List.{map}
+use Rattle.chains.specs.Walker.{rows_left}
 use Rattle.meaning.specs.Lists.{any}
-use Rattle.tables.proofs.Loops.{locks_start, lock_rows_start, any_on, any_out, any_done}
-use Rattle.tables.specs.Decode.{lock_at, edits_of}
 use Rattle.meaning.specs.Sound.{backs}
-use Rattle.clauses.proofs.Marks.{ahead_start, ahead_here, ahead_on}
+use Rattle.tables.specs.Decode.{lock_at, edits_of}
+use Rattle.tables.specs.Rows.{locks_lie}
+use Rattle.clauses.proofs.Steps.{or_on}
+use Rattle.clauses.proofs.Marks.{lock_row, lock_walk, locks_listed, ahead_start, ahead_here, ahead_on}
 use Rattle.record_clauses.proofs.any_backs.Goals as goal
 
-pub first_lock-cur-requires : goal.first_lock-cur-requires
-first_lock-cur-requires c = (c.requires.0, c.requires.1)
+pub new-i-items-requires : goal.new-i-items-requires
+new-i-items-requires c = rw c.lock_table.ensures (locks_lie c.args.c c.args.w.now c.requires.0)
 
-pub loop-c-init : goal.loop-c-init
-loop-c-init c = (
-  locks_start c.args.c c.args.w.now c.args.r
-      (any (backs (edits_of c.args.c c.args.w.now)
-      c.args.r c.args.p))
-      c.first_lock-cur.ensures,
-  ahead_start (lock_rows_start c.args.c c.args.w.now
-      c.args.r (λ rs. rs) c.first_lock-cur.ensures),
-)
+pub loop-i-init : goal.loop-i-init
+loop-i-init c =
+    let e = ap rows_left c.into_iter-i-iterator.ensures.into_iter_gives
+    ∙ lock_walk c.args.c c.args.w.now c.args.r c.new-i-items.ensures c.lock_table.ensures c.first_lock.ensures in
+    let p = backs (edits_of c.args.c c.args.w.now) c.args.r c.args.p in (
+      ap (λ rs. any p (map (lock_at c.args.c c.args.w.now) rs)) e
+          ∙ ap (any p) (locks_listed c.args.c c.args.w.now c.args.r),
+      ahead_start e,
+    )
 
 pub row_backs-requires : goal.row_backs-requires
-row_backs-requires c = (
-  c.requires.0,
-  row_of _ _ _ c.more.ensures c.loop-c-test.true,
-  c.requires.2,
-  ahead_here c.loop-c.invariant.1 c.more.ensures c.loop-c-test.true,
-)
+row_backs-requires c =
+    let on = ahead_here c.loop-i.invariant.1 c.in-Some.ensures.steps in
+    (c.requires.0, lock_row c.args.c c.args.w.now c.args.r _ on, c.requires.2, on)
 
-pub returns-then-row_backs : goal.returns-then-row_backs
-returns-then-row_backs c =
-    any_out (backs (edits_of c.args.c
-    c.args.w.now)
-    c.args.r
-    c.args.p)
-    (lock_at c.args.c
-    c.args.w.now)
-    c.loop-c.invariant.0 c.more.ensures
-    c.loop-c-test.true (sym c.row_backs.ensures ∙ c.if-row_backs.true)
-
-pub next_lock-cur-requires : goal.next_lock-cur-requires
-next_lock-cur-requires c = (
-  c.requires.0,
-  row_of _ _ _ c.more.ensures c.loop-c-test.true,
-)
-
-pub overflow_sub-left : goal.overflow_sub-left
-overflow_sub-left c = fuel_of _ _ _ c.more.ensures c.loop-c-test.true
-
-pub loop-c-smaller : goal.loop-c-smaller
-loop-c-smaller c =
-    omega
-    (arith, fuel_of _ _ _ c.more.ensures c.loop-c-test.true)
-
-pub loop-c-preserved : goal.loop-c-preserved
-loop-c-preserved c = (
-  any_on (backs (edits_of c.args.c
-      c.args.w.now)
-      c.args.r
-      c.args.p)
-      (lock_at c.args.c
-      c.args.w.now)
-      c.loop-c.invariant.0 c.more.ensures
-      c.loop-c-test.true (sym c.row_backs.ensures ∙ c.if-row_backs.false)
-      c.next_lock-cur.ensures,
-  ahead_on c.loop-c.invariant.1
-      c.more.ensures c.loop-c-test.true
-      c.next_lock-cur.ensures,
-)
-
-pub returns : goal.returns
-returns c =
-    any_done (backs (edits_of c.args.c
-    c.args.w.now)
-    c.args.r c.args.p)
-    (lock_at c.args.c
-    c.args.w.now)
-    c.loop-c.invariant.0 c.more.ensures c.loop-c-test.false
+pub loop-i-preserved : goal.loop-i-preserved
+loop-i-preserved c =
+    let p = backs (edits_of c.args.c c.args.w.now) c.args.r c.args.p in (
+      or_on (sym c.row_backs.ensures ∙ c.if-row_backs.false) refl
+          ∙ sym (ap (λ rs. any p (map (lock_at c.args.c c.args.w.now) rs)) c.in-Some.ensures.steps)
+          ∙ c.loop-i.invariant.0,
+      ahead_on c.loop-i.invariant.1 c.in-Some.ensures.steps,
+    )

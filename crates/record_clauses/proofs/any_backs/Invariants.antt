@@ -1,20 +1,16 @@
--- `record_clauses::any_backs` meets its contract: some entry of the chain passes. Rests on Marks, on Walks
--- and Loops of `chains`, on Loops of `tables`.
+-- `record_clauses::any_backs`: whether a lock still to come backs is the answer, and those rows are rows of the chain,
+-- so that the marks tell of them. Rests on Marks of `clauses`.
+use mathlib.Core.Path.{◌≡◌}
 use mathlib.Core.List.{map}
-use Rattle.chains.specs.Table.{link}
-use Rattle.chains.proofs.Loops.{Walk}
+use Rattle.chains.specs.Walker.{rows_left}
 use Rattle.meaning.specs.Lists.{any}
-use Rattle.tables.specs.Layout.{lock_table}
-use Rattle.tables.specs.Decode.{lock_at, lock_rows, record_at, edits_of}
 use Rattle.meaning.specs.Sound.{backs}
+use Rattle.tables.specs.Decode.{lock_at, lock_rows, record_at, edits_of}
 use Rattle.clauses.proofs.Marks.{Ahead}
 use Rattle.record_clauses.proofs.any_backs.Given as goal
 
-abbrev pub invariant-loop-c : goal.invariant-loop-c
-invariant-loop-c l =
-    Walk (link (lock_table l.c) l.w) l.n (λ rs. any (backs (edits_of l.c l.w) l.r l.p) (map (lock_at l.c l.w) rs))
-    (any (backs (edits_of l.c l.w) l.r l.p) (record_at l.c l.w l.r).locks) l.cur l.left
-    × Ahead (link (lock_table l.c) l.w) l.n (lock_rows l.c l.w l.r) l.cur l.left
-
-abbrev pub decreases-loop-c : goal.decreases-loop-c
-decreases-loop-c l = l.left
+abbrev pub invariant-loop-i : goal.invariant-loop-i
+invariant-loop-i l =
+    (any (backs (edits_of l.c l.w) l.r l.p) (map (lock_at l.c l.w) (rows_left l.i-iterator))
+    ≡ any (backs (edits_of l.c l.w) l.r l.p) (record_at l.c l.w l.r).locks)
+    × Ahead (lock_rows l.c l.w l.r) (rows_left l.i-iterator)

@@ -1,41 +1,28 @@
-use Prim.Native.Nat.{◌-◌}
-use mathlib.Core.Path.{◌∙◌}
-use native.Mathlib.Omega.{arith}
-use Rattle.clauses.proofs.Counting.{up_start, up_again, up_fail, up_end}
+-- `record_clauses::records_sound_with` meets its contract: one record after the other. Rests on Counting and Slots.
+use Rattle.std.proofs.Common.{rules, arith, ℕ, ◌≡◌, ◌∙◌, Bool, true, false, List, refl}
+use Rattle.std.proofs.lemmas.Iterator.{cases_from_all, serves_from_Range, YieldsList-from_range}
+use Rattle.types.specs.declared.Counts.{Counts}
+use Rattle.meaning.specs.Sound.{sound_rec}
+use Rattle.tables.specs.Decode.{record_at, edits_of}
+use Rattle.clauses.proofs.Counting.{all_ranged}
 use Rattle.clauses.proofs.Slots.{records_all, pass_at}
 use Rattle.record_clauses.proofs.records_sound_with.Goals as goal
 
-pub loop-r-init : goal.loop-r-init
-loop-r-init c = up_start
+abbrev sound : Counts → List ℕ → ℕ → Bool
+sound c w r = sound_rec (edits_of c w) r (record_at c w r)
 
-pub record_sound-requires : goal.record_sound-requires
-record_sound-requires c = (
-  c.requires.0,
-  omega arith,
-  c.requires.1 _ (omega arith),
-  pass_at c.args.c c.args.w.now
-      c.requires.2 _ (omega arith),
-)
-
-pub returns-then-not-record_sound : goal.returns-then-not-record_sound
-returns-then-not-record_sound c =
-    up_fail c.loop-r.invariant (omega arith) c.record_sound.ensures
-    (c.if-not-record_sound.true)
-    ∙ records_all c.args.c
-    c.args.w.now
-
-pub overflow_add-r : goal.overflow_add-r
-overflow_add-r c = omega (arith, c.requires.0.ranged.records_high)
-
-pub loop-r-smaller : goal.loop-r-smaller
-loop-r-smaller c = omega arith
-
-pub loop-r-preserved : goal.loop-r-preserved
-loop-r-preserved c =
-    up_again c.loop-r.invariant (omega arith) c.record_sound.ensures
-    (c.if-not-record_sound.false)
+pub all-requires-clause-callable : goal.all-requires-clause-callable
+all-requires-clause-callable c =
+    serves_from_Range (λ r q k. search rules)
+    (λ r low high.
+    let p = pass_at c.args.c c.args.w.now c.requires.2 r high in
+    let m = c.requires.1 r high in
+    search rules)
 
 pub returns : goal.returns
 returns c =
-    up_end c.loop-r.invariant (omega arith)
+    all_ranged (sound c.args.c c.args.w.now) c.args.c.records c.all.result
+    (cases_from_all _ _ _ (λ r. sound c.args.c c.args.w.now r ≡ true) (λ r. sound c.args.c c.args.w.now r ≡ false)
+    c.all.ensures.ran (YieldsList-from_range 0 c.args.c.records c.args.c.records refl (omega arith))
+    (λ r q k. search rules) (λ r q k. search rules))
     ∙ records_all c.args.c c.args.w.now

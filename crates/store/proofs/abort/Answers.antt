@@ -1,23 +1,17 @@
--- `abort` meets its contract: on sound words it does what the call on them acts, and unsound words are refused. Assumes
--- nothing.
-use mathlib.Core.Path.{sym, ◌∙◌}
-use Rattle.store.proofs.Doing.{does_sound, does_unsound}
+-- `abort` meets its contract: on sound words it does what the call on them acts, and unsound words are refused. Rests
+-- on Doing.
+use Rattle.calls.proofs.Checks.{passed}
+use Rattle.store.proofs.Doing.{does_sound, checked_sound, does_refused}
 use native.Mathlib.Omega.{arith}
 use Rattle.index.proofs.Unknown.{no_index}
 use Rattle.store.proofs.abort.Goals as goal
 
+pub returns-in_err-check : goal.returns-in_err-check
+returns-in_err-check c =
+    rw (passed c.from_residual.result c.from_residual.ensures.1) (does_refused _ c.check.ensures c.in_err-check.was)
+
 pub abort-requires : goal.abort-requires
-abort-requires c = (
-  sym c.check.ensures ∙ c.if-check.true,
-  no_index _ (λ e. omega (
-    arith,
-    e,
-  )),
-)
+abort-requires c = (checked_sound _ c.check.ensures c.in_ok-check.was, no_index _ (λ e. omega (arith, e)))
 
-pub returns-then-check : goal.returns-then-check
-returns-then-check c =
-    does_sound (sym c.check.ensures ∙ c.if-check.true) c.abort.ensures
-
-pub returns-else-check : goal.returns-else-check
-returns-else-check c = does_unsound (sym c.check.ensures ∙ c.if-check.false)
+pub returns : goal.returns
+returns c = does_sound (checked_sound _ c.check.ensures c.in_ok-check.was) c.abort.ensures

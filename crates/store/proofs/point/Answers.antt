@@ -2,4 +2,4 @@
 use Rattle.store.proofs.point.Goals as goal
 
 pub returns : goal.returns
-returns c = c.make_point.ensures
+returns c = c.of.ensures

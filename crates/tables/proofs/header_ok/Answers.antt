@@ -6,16 +6,15 @@ use Rattle.tables.proofs.header_ok.Goals as goal
 pub returns-then-w-lt-HEADER : goal.returns-then-w-lt-HEADER
 returns-then-w-lt-HEADER c = sym (header_short _ c.if-w-lt-HEADER.true)
 
-pub returns-then-not-good_counts : goal.returns-then-not-good_counts
-returns-then-not-good_counts c =
-    sym (header_bad _ _ c.counts_of-c.ensures
-    (sym c.good_counts.ensures ∙ c.if-not-good_counts.true))
-
 pub size_of-requires : goal.size_of-requires
-size_of-requires c = good_ranged _ (sym c.good_counts.ensures ∙ c.if-not-good_counts.false)
+size_of-requires c = good_ranged _ (sym c.good_counts.ensures ∙ c.if-good_counts.true)
 
-pub returns : goal.returns
-returns c =
+pub returns-then-good_counts : goal.returns-then-good_counts
+returns-then-good_counts c =
     rw c.size_of.ensures
-    (sym (header_size _ _ c.counts_of-c.ensures
-    (sym c.good_counts.ensures ∙ c.if-not-good_counts.false)))
+    (sym (header_size _ _ c.counts_of-c.ensures (sym c.good_counts.ensures ∙ c.if-good_counts.true)))
+
+pub returns-else-good_counts : goal.returns-else-good_counts
+returns-else-good_counts c =
+    rw c.if-good_counts.false
+    (sym (header_bad _ _ c.counts_of-c.ensures (sym c.good_counts.ensures ∙ c.if-good_counts.false)))

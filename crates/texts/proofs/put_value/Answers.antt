@@ -9,17 +9,17 @@ use Rattle.texts.proofs.put_value.Goals as goal
 
 pub put_number-requires : goal.put_number-requires
 put_number-requires c =
-    let d = decimal_long c.in-Written.x (omega arith) in
+    let d = decimal_long c.in-Some.x (omega arith) in
     omega (arith, c.requires)
 
-pub returns-in-Never : goal.returns-in-Never
+pub returns-in-None : goal.returns-in-None
 unfolding value_text
-returns-in-Never c =
+returns-in-None c =
     appended_as c.put.ensures
-    (sym (ap value_text c.in-Never.is)) refl
+    (sym (ap value_text c.in-None.is)) refl
 
-pub returns-in-Written : goal.returns-in-Written
+pub returns-in-Some : goal.returns-in-Some
 unfolding value_text
-returns-in-Written c =
+returns-in-Some c =
     appended_as c.put_number.ensures
-    (sym (ap value_text c.in-Written.is)) refl
+    (sym (ap value_text c.in-Some.is)) refl

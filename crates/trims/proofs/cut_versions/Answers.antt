@@ -1,67 +1,37 @@
-use native.Mathlib.Omega.{arith}
+-- Answers for `trims::cut_versions`. Rests on Turns and Freed, on Versions and Lists of `changes`.
+use mathlib.Core.Path.{refl, ap}
 use lib.Dec.{ltb}
-use Rattle.chains.proofs.Walks.{fuel_of}
 use Rattle.changes.proofs.Versions.{drop_versions_law}
 use Rattle.trims.proofs.Freed.{frees_versions}
 use Rattle.changes.proofs.Lists.{drop_keep}
 use Rattle.trims.proofs.Turns.{not_below}
-use Rattle.trims.proofs.Turns.{version_turns_start, version_turns_few}
+use Rattle.trims.proofs.Turns.{version_turns_start}
 use Rattle.trims.proofs.Turns.{version_turns_row, version_turns_ready, version_turns_again, version_turns_end}
 use Rattle.trims.proofs.cut_versions.Goals as goal
 
-pub first_version-cur-requires : goal.first_version-cur-requires
-first_version-cur-requires c = (c.requires.0.fits, c.requires.1)
+pub loop-i-init : goal.loop-i-init
+loop-i-init c =
+    version_turns_start (λ x. ltb x.point _) c.requires.0 c.requires.1
+    (rw (c.version_table-t.ensures, c.first_version.ensures) at c.new-walk.ensures)
 
-pub loop-c-init : goal.loop-c-init
-loop-c-init c =
-    version_turns_start (λ x. ltb x.point _) c.requires.0 c.requires.1 c.first_version-cur.ensures
+pub version_at-requires : goal.version_at-requires
+version_at-requires c = version_turns_row c.loop-i.invariant (rw c.version_table-t.ensures at c.in-Some.ensures)
 
-pub next_version-nxt-requires : goal.next_version-nxt-requires
-next_version-nxt-requires c =
-    version_turns_row c.loop-c.invariant c.more.ensures c.loop-c-test.true
+pub unlink_turn-place-requires : goal.unlink_turn-place-requires
+unlink_turn-place-requires c =
+    version_turns_ready c.loop-i.invariant (rw c.version_table-t.ensures at c.in-Some.ensures)
+    c.version_table-t.ensures c.version_heads-h.ensures
 
-pub is_below-below-requires : goal.is_below-below-requires
-is_below-below-requires c =
-    version_turns_row c.loop-c.invariant c.more.ensures c.loop-c-test.true
-
-pub unlink_version-place-requires : goal.unlink_version-place-requires
-unlink_version-place-requires c =
-    version_turns_ready c.loop-c.invariant c.more.ensures c.loop-c-test.true
-
-pub with_turn-freed-requires : goal.with_turn-freed-requires
-with_turn-freed-requires c = version_turns_few
-    c.loop-c.invariant
-
-pub overflow_sub-left : goal.overflow_sub-left
-overflow_sub-left c = omega (
-  arith,
-  fuel_of _ _ _
-      c.more.ensures
-      c.loop-c-test.true,
-)
-
-pub loop-c-smaller : goal.loop-c-smaller
-loop-c-smaller c = omega (
-  arith,
-  fuel_of _ _ _
-      c.more.ensures
-      c.loop-c-test.true,
-)
-
-pub loop-c-preserved : goal.loop-c-preserved
-loop-c-preserved c =
-    version_turns_again c.loop-c.invariant c.more.ensures c.loop-c-test.true
-    c.next_version-nxt.ensures
-    c.is_below-below.ensures
-    c.unlink_version-place.ensures c.with_turn-freed.ensures
-
-pub shape_of-w : goal.shape_of-w
-shape_of-w c = c.loop-c.invariant.turns.elsewhere.size
+pub loop-i-preserved : goal.loop-i-preserved
+loop-i-preserved c =
+    version_turns_again c.loop-i.invariant (rw c.version_table-t.ensures at c.in-Some.ensures)
+    c.version_table-t.ensures c.version_heads-h.ensures
+    (ap (λ x. ltb x.point c.args.v) c.version_at.ensures) c.unlink_turn-place.ensures refl
 
 pub returns : goal.returns
 returns c =
-    let i = c.loop-c.invariant in
+    let i = c.loop-i.invariant in
     frees_versions _ _ c.requires.1 i.lost
     (drop_versions_law c.requires.0 c.requires.1 (λ x. ltb x.point _)
-    (version_turns_end i c.more.ensures c.loop-c-test.false)
+    (version_turns_end i (rw c.version_table-t.ensures at c.in_default.ensures))
     (drop_keep (λ x. ltb x.point _) _ (λ x. not_below _ x.point) _))

@@ -1,24 +1,17 @@
--- `trims::trim_row` meets its contract. Rests on nothing.
-use mathlib.Core.Path.{refl, ap, ◌∙◌}
+-- `trims::trim_row` meets its contract: whether the lock is emptied is found by its owner first. Rests on nothing.
+use mathlib.Core.Path.{refl, sym, ap, ◌∙◌}
+use borrow.Author.Tests.{eq-eqb, ne_eqb}
 use Rattle.meaning.specs.Points.{emptied}
 use Rattle.trims.proofs.trim_row.Goals as goal
 
-pub raised_low-requires : goal.raised_low-requires
-raised_low-requires c = c.requires.2
+pub returns-then-l-eq-SETTLED : goal.returns-then-l-eq-SETTLED
+returns-then-l-eq-SETTLED c = record {
+  verdict = sym (ap (emptied _) (sym c.lock_at-l.ensures) ∙ rw (eq-eqb _ _ c.if-l-eq-SETTLED.true) refl);
+  stored = rw (c.put_low.ensures, c.raised_low.ensures, c.lock_at-l.ensures) refl;
+}
 
-pub put_low-requires : goal.put_low-requires
-put_low-requires c = (
-  c.requires.0,
-  c.requires.1,
-)
-
-pub returns : goal.returns
-returns c = record {
-  verdict = c.is_emptied.ensures ∙ ap (emptied _)
-      c.lock_at-l.ensures;
-  stored = rw (
-    c.put_low.ensures,
-    c.raised_low.ensures,
-    c.lock_at-l.ensures,
-  ) refl;
+pub returns-else-l-eq-SETTLED : goal.returns-else-l-eq-SETTLED
+returns-else-l-eq-SETTLED c = record {
+  verdict = sym (ap (emptied _) (sym c.lock_at-l.ensures) ∙ rw (ne_eqb _ _ c.if-l-eq-SETTLED.false) refl);
+  stored = rw (c.put_low.ensures, c.raised_low.ensures, c.lock_at-l.ensures) refl;
 }

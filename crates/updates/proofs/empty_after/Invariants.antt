@@ -5,10 +5,10 @@ use Rattle.chains.specs.Change.{Split}
 use Rattle.chains.proofs.Turns.{TurnInv, every_row}
 use Rattle.updates.proofs.empty_after.Given as goal
 
-abbrev pub invariant-loop-t : goal.invariant-loop-t
-invariant-loop-t l =
+abbrev pub invariant-loop-i : goal.invariant-loop-i
+invariant-loop-i l =
     (ks ys : List ℕ) → Split l.t l.h l.initial.w l.a l.p ks ys → TurnInv l.t l.h every_row l.initial.w l.a l.b ks
-    ys l.w l.p l.cur l.left
+    ys l.w l.p l.walk
 
-abbrev pub decreases-loop-t : goal.decreases-loop-t
-decreases-loop-t l = l.left
+abbrev pub decreases-loop-i : goal.decreases-loop-i
+decreases-loop-i l = l.walk.left

@@ -4,10 +4,10 @@ use Rattle.chains.specs.Table.{rows_of, holds}
 use Rattle.chains.proofs.Turns.{TurnInv}
 use Rattle.updates.proofs.unlink_if.Given as goal
 
-abbrev pub invariant-loop-t : goal.invariant-loop-t
-invariant-loop-t l =
+abbrev pub invariant-loop-i : goal.invariant-loop-i
+invariant-loop-i l =
     TurnInv l.t l.h (holds l.t l.initial.w l.o l.v) l.initial.w l.a l.b [] (rows_of l.t l.h l.initial.w l.a)
-    l.w l.place l.cur l.left
+    l.w l.place l.walk
 
-abbrev pub decreases-loop-t : goal.decreases-loop-t
-decreases-loop-t l = l.left
+abbrev pub decreases-loop-i : goal.decreases-loop-i
+decreases-loop-i l = l.walk.left

@@ -1,6 +1,6 @@
--- `chains::free_start` meets its contract. Rests on nothing.
-use mathlib.Core.Path.{refl}
+use mathlib.Core.Path.{◌∙◌, ap}
+use Rattle.chains.specs.Cursor.{start}
 use Rattle.chains.proofs.partition.free_start.Goals as goal
 
 pub returns : goal.returns
-returns c = rw c.head_of.ensures refl
+returns c = c.new.ensures ∙ ap (start c.args.t) c.head_of.ensures

@@ -2,10 +2,8 @@
 use Rattle.chains.specs.Partition.{Advanced}
 use Rattle.chains.proofs.partition.mark_chain.Given as goal
 
-abbrev pub invariant-loop-t : goal.invariant-loop-t
-invariant-loop-t l =
-    Advanced l.t l.w l.initial.marks (record { row = l.head; left = l.room }) l.marks
-    (record { row = l.cur; left = l.left })
+abbrev pub invariant-loop-row : goal.invariant-loop-row
+invariant-loop-row l = Advanced l.t l.w l.initial.marks l.initial.walk l.marks l.walk
 
-abbrev pub decreases-loop-t : goal.decreases-loop-t
-decreases-loop-t l = l.left
+abbrev pub decreases-loop-row : goal.decreases-loop-row
+decreases-loop-row l = l.walk.left

@@ -1,11 +1,7 @@
 -- `chains::partition_from` meets its contract: the free chain's rest, then one chain after the other. The loop's
 -- invariant is PartInv. Rests on Parts.
-use Prim.Native.Nat.{suc, ◌-◌}
 use Rattle.chains.proofs.Parts.{PartInv}
 use Rattle.chains.proofs.partition.partition_from.Given as goal
 
 abbrev pub invariant-loop-k : goal.invariant-loop-k
 invariant-loop-k l = PartInv l.t l.h l.w l.marks l.room l.k
-
-abbrev pub decreases-loop-k : goal.decreases-loop-k
-decreases-loop-k l = suc l.m - l.k

@@ -1,7 +1,6 @@
 -- `chains::partitions_with` meets its contract: the walks of the free chains have begun, and each table is checked from
 -- where its walk is. Rests on Parts.
 use mathlib.Core.Path.{refl, sym, ◌∙◌}
-use borrow.Author.Tests.{not-true, not-false}
 use Rattle.chains.proofs.Parts.{can_start, begun}
 use Rattle.chains.proofs.partition.partitions_with.Goals as goal
 

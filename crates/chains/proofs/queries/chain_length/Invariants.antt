@@ -3,8 +3,8 @@ use Rattle.chains.specs.Table.{link}
 use Rattle.chains.proofs.Loops.{LengthInv}
 use Rattle.chains.proofs.queries.chain_length.Given as goal
 
-abbrev pub invariant-loop-t : goal.invariant-loop-t
-invariant-loop-t l = LengthInv (link l.t l.w) l.n l.head l.cur l.left
+abbrev pub invariant-loop : goal.invariant-loop
+invariant-loop l = LengthInv (link l.t l.w) l.t.count l.head l.walk.row l.walk.left
 
-abbrev pub decreases-loop-t : goal.decreases-loop-t
-decreases-loop-t l = l.left
+abbrev pub decreases-loop : goal.decreases-loop
+decreases-loop l = l.walk.left

@@ -1,54 +1,20 @@
-use native.Mathlib.Omega.{arith}
-use Rattle.chains.specs.Table.{chain}
-use Rattle.chains.proofs.Walks.{row_of, fuel_of}
-use Rattle.chains.proofs.Loops.{find_start, find_again, find_hit, find_end}
-use Rattle.chains.proofs.Tests.{holds_yes, holds_no}
+use mathlib.Core.Path.{◌∙◌, ap, sym}
+use lib.Dec.{eqb}
+use borrow.Author.Tests.{tests}
+use Rattle.std.proofs.Common.{rules, ℕ}
+use Rattle.std.specs.Option.{option_map}
+use Rattle.std.proofs.lemmas.Iterator.Search.{find_from_yields_List}
+use Rattle.std.proofs.lemmas.Iterator.Consumers.{YieldsList-from_first}
+use Rattle.chains.specs.Table.{holds}
+use Rattle.chains.specs.Walker.{fields_left}
+use Rattle.chains.proofs.Fielded.{find_words, option_map_same}
 use Rattle.chains.proofs.queries.first_with.Goals as goal
 
-pub loop-t-init : goal.loop-t-init
-unfolding chain
-loop-t-init c = find_start _ _ _ _
-
-pub get-requires : goal.get-requires
-get-requires c = (
-  c.requires.0,
-  row_of _ _ _ c.more.ensures c.loop-t-test.true,
-  c.requires.1,
-)
-
-pub returns-then-get-v : goal.returns-then-get-v
-returns-then-get-v c =
-    find_hit c.loop-t.invariant c.more.ensures
-    c.loop-t-test.true
-    (holds_yes c.args.t
-    c.args.w.now
-    c.args.o
-    c.args.v _ _ c.get.ensures c.if-get-v.true)
-
-pub next_of-cur-requires : goal.next_of-cur-requires
-next_of-cur-requires c = (
-  c.requires.0,
-  row_of _ _ _ c.more.ensures c.loop-t-test.true,
-)
-
-pub overflow_sub-left : goal.overflow_sub-left
-overflow_sub-left c = fuel_of _ _ _ c.more.ensures c.loop-t-test.true
-
-pub loop-t-smaller : goal.loop-t-smaller
-loop-t-smaller c =
-    omega
-    (arith, fuel_of _ _ _ c.more.ensures c.loop-t-test.true)
-
-pub loop-t-preserved : goal.loop-t-preserved
-loop-t-preserved c =
-    find_again c.loop-t.invariant c.more.ensures
-    c.loop-t-test.true
-    (holds_no c.args.t
-    c.args.w.now
-    c.args.o
-    c.args.v _ _ c.get.ensures
-    c.if-get-v.false)
-    c.next_of-cur.ensures
-
 pub returns : goal.returns
-returns c = find_end c.loop-t.invariant c.more.ensures c.loop-t-test.false
+unfolding holds
+returns c =
+    search rules ∙ ap (option_map (λ (e : ℕ × ℕ). e.0))
+    (sym (option_map_same _)
+    ∙ find_from_yields_List (λ (e : ℕ × ℕ). eqb e.1 c.args.v) c.find.new.self _ _ c.find.ensures.ran
+    (YieldsList-from_first (λ e. e) fields_left _ c.new.ensures) (λ x b q k. search (rules, tests)))
+    ∙ find_words c.args.t c.args.w.now c.args.o (λ x. eqb x c.args.v) _

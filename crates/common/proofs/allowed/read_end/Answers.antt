@@ -1,5 +1,4 @@
 -- `common::allowed::read_end` meets its contract. Rests on Reach and Common.
-use native.Mathlib.Omega.{arith}
 use Rattle.meaning.specs.Points.{own_on}
 use Rattle.tables.specs.Decode.{records_of}
 use Rattle.common.proofs.Common.{own_reach}
@@ -11,15 +10,6 @@ returns-then-a-eq0 c =
     read_end_none (own_on (records_of c.args.c c.args.w.now)
     c.args.k c.args.a)
     c.args.a c.if-a-eq0.true
-
-pub first_free-requires : goal.first_free-requires
-first_free-requires c = (
-  c.requires.0,
-  omega (arith, c.wide.ensures, c.requires.1),
-  c.requires.2,
-  omega arith,
-  c.requires.3 _ (omega (arith, c.wide.ensures, c.requires.1)),
-)
 
 pub returns : goal.returns
 returns c =

@@ -1,18 +1,12 @@
 -- `common::lifting::up_from` meets its contract. Rests on Reach and Common.
-use borrow.Author.Tests.{not-false, not-true}
+use borrow.Author.Tests.{not-false}
 use mathlib.Core.Path.{ap, ◌∙◌}
 use Rattle.meaning.specs.Points.{own_on, writes}
 use Rattle.tables.specs.Decode.{records_of}
 use Rattle.common.specs.Commit.{first_under}
 use Rattle.common.proofs.Common.{own_on_lem}
-use Rattle.common.proofs.Reach.{up_stays, up_asks}
+use Rattle.common.proofs.Reach.{up_asks}
 use Rattle.common.proofs.lifting.up_from.Goals as goal
-
-pub returns-then-not-a : goal.returns-then-not-a
-returns-then-not-a c =
-    up_stays (own_on (records_of c.args.c c.args.w.now)
-    c.args.k c.args.a)
-    c.args.a c.args.low (not-true _ c.if-not-a.true)
 
 pub returns : goal.returns
 returns c =

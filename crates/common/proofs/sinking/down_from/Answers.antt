@@ -1,18 +1,12 @@
 -- `common::sinking::down_from` meets its contract. Rests on Reach and Common.
-use borrow.Author.Tests.{not-false, not-true}
+use borrow.Author.Tests.{not-false}
 use mathlib.Core.Path.{ap, ◌∙◌}
 use Rattle.meaning.specs.Points.{own_on, writes}
 use Rattle.tables.specs.Decode.{records_of}
 use Rattle.common.specs.Commit.{last_under}
 use Rattle.common.proofs.Common.{own_on_lem}
-use Rattle.common.proofs.Reach.{down_stays, down_asks}
+use Rattle.common.proofs.Reach.{down_asks}
 use Rattle.common.proofs.sinking.down_from.Goals as goal
-
-pub returns-then-not-a : goal.returns-then-not-a
-returns-then-not-a c =
-    down_stays (own_on (records_of c.args.c c.args.w.now)
-    c.args.k c.args.a)
-    c.args.a c.args.high (not-true _ c.if-not-a.true)
 
 pub returns : goal.returns
 returns c =

@@ -11,72 +11,21 @@ returns-then-p-a c =
     c.args.k c.args.p c.args.a
     c.if-p-a.true
 
-pub read_end-end-requires : goal.read_end-end-requires
-read_end-end-requires c = (
-  c.requires.0,
-  c.requires.1,
-  omega (arith, c.requires.2, c.if-p-a.false),
-  c.requires.3,
-)
-
 pub overflow_sub-end : goal.overflow_sub-end
 overflow_sub-end c =
     omega (
       arith,
       c.read_end-end.ensures,
-      read_end_pos (own_on
-          (records_of c.args.c c.args.w.now)
-          c.args.k c.args.a)
-          c.args.a
+      read_end_pos (own_on (records_of c.args.c c.args.w.now) c.args.k c.args.a) c.args.a
           (omega (arith, c.requires.2, c.if-p-a.false)),
     )
 
 pub returns-then-q-a : goal.returns-then-q-a
 returns-then-q-a c =
-    before_miss (records_of c.args.c
-    c.args.w.now)
-    c.args.k
-    c.args.p
-    c.args.a
-    c.requires.2
-    c.if-p-a.false c.read_end-end.ensures
-    c.smaller-high.ensures c.down_from-q.ensures
-    (omega (
-      arith,
-      c.read_end-end.ensures,
-      read_end_pos (own_on (records_of c.args.c
-          c.args.w.now)
-          c.args.k
-          c.args.a)
-          c.args.a
-          (omega (
-            arith,
-            c.requires.2,
-            c.if-p-a.false,
-          )),
-    )) c.if-q-a.true
+    before_miss (records_of c.args.c c.args.w.now) c.args.k c.args.p c.args.a c.requires.2 c.if-p-a.false
+    c.read_end-end.ensures c.smaller-high.ensures c.down_from-q.ensures c.if-q-a.true
 
 pub returns : goal.returns
 returns c =
-    before_hit (records_of c.args.c
-    c.args.w.now)
-    c.args.k
-    c.args.p
-    c.args.a
-    c.requires.2
-    c.if-p-a.false c.read_end-end.ensures
-    c.smaller-high.ensures c.down_from-q.ensures
-    (omega (
-      arith,
-      c.read_end-end.ensures,
-      read_end_pos (own_on (records_of c.args.c
-          c.args.w.now)
-          c.args.k
-          c.args.a)
-          c.args.a
-          (omega (
-            arith,
-            c.requires.2,
-            c.if-p-a.false,
-          )),
-    )) c.if-q-a.false
+    before_hit (records_of c.args.c c.args.w.now) c.args.k c.args.p c.args.a c.requires.2 c.if-p-a.false
+    c.read_end-end.ensures c.smaller-high.ensures c.down_from-q.ensures c.if-q-a.false

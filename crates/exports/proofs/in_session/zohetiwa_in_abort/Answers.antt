@@ -7,7 +7,7 @@ abort-reply-requires c = c.requires
 
 pub returns : goal.returns
 returns c =
-    answered c.abort.ensures (rw (
-      c.handle_of_word.ensures,
+    answered c.done.ensures (rw (
+      c.from.ensures,
       c.finish.ensures,
     ) at c.abort-reply.ensures)

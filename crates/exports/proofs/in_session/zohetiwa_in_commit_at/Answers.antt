@@ -8,7 +8,7 @@ commit-reply-requires c = c.requires
 pub returns : goal.returns
 returns c =
     answered c.commit.ensures (rw (
-      c.handle_of_word-h.ensures,
-      named_at c.point_of_word.ensures,
+      c.from-h.ensures,
+      named_at c.from.ensures,
       c.finish.ensures,
     ) at c.commit-reply.ensures)

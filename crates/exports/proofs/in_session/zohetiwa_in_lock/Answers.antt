@@ -8,8 +8,8 @@ lock-reply-requires c = c.requires
 pub returns : goal.returns
 returns c =
     answered c.lock.ensures (rw (
-      c.handle_of_word-h.ensures,
-      c.point_of_word-from.ensures,
-      c.point_of_word-to.ensures,
+      c.from-h.ensures,
+      c.from-from.ensures,
+      c.from-to.ensures,
       c.extent.ensures,
     ) at c.lock-reply.ensures)

@@ -7,4 +7,4 @@ purge-reply-requires c = c.requires
 
 pub returns : goal.returns
 returns c =
-    answered c.purge.ensures (rw c.point_of_word.ensures at c.purge-reply.ensures)
+    answered c.purge.ensures (rw c.from.ensures at c.purge-reply.ensures)

@@ -8,7 +8,7 @@ read-reply-requires c = c.requires
 pub returns : goal.returns
 returns c =
     answered c.read.ensures (rw (
-      c.handle_of_word-h.ensures,
-      c.point_of_word-upto.ensures,
+      c.from-h.ensures,
+      c.from-upto.ensures,
       c.extent.ensures,
     ) at c.read-reply.ensures)

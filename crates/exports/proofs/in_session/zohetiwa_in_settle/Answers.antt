@@ -7,5 +7,5 @@ settle-reply-requires c = c.requires
 
 pub returns : goal.returns
 returns c =
-    answered c.settle.ensures (rw c.handle_of_word.ensures at
+    answered c.done.ensures (rw c.from.ensures at
     c.settle-reply.ensures)

@@ -7,4 +7,4 @@ view-reply-requires c = c.requires
 
 pub returns : goal.returns
 returns c =
-    answered c.view.ensures (rw c.point_of_word.ensures at c.view-reply.ensures)
+    answered c.view.ensures (rw c.from.ensures at c.view-reply.ensures)

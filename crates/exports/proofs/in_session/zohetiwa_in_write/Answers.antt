@@ -7,5 +7,5 @@ write-reply-requires c = c.requires
 
 pub returns : goal.returns
 returns c =
-    answered c.write.ensures (rw c.handle_of_word.ensures at
+    answered c.done.ensures (rw c.from.ensures at
     c.write-reply.ensures)

@@ -5,15 +5,15 @@ use Rattle.lookups.proofs.edits.is_open.Goals as goal
 pub returns-then-not-slot_used : goal.returns-then-not-slot_used
 returns-then-not-slot_used c =
     open_no c.args.c c.args.w.now
-    c.args.h.0 c.slot_of-k.result
-    c.slot_of-k.ensures c.slot_used.ensures (c.if-not-slot_used.true)
+    c.args.h.0 c.slot-k.result
+    c.slot-k.ensures c.slot_used.ensures (c.if-not-slot_used.true)
 
 pub state_of-requires : goal.state_of-requires
 state_of-requires c = (
   c.requires,
   rw c.wide.ensures
       (used_row c.args.c
-      c.args.w.now c.slot_of-k.result
+      c.args.w.now c.slot-k.result
       c.slot_used.ensures (c.if-not-slot_used.false)),
 )
 
@@ -21,6 +21,6 @@ pub returns : goal.returns
 returns c =
     open_is c.args.c
     c.args.w.now
-    c.args.h.0 c.slot_of-k.result
-    c.slot_of-k.ensures c.slot_used.ensures
+    c.args.h.0 c.slot-k.result
+    c.slot-k.ensures c.slot_used.ensures
     (c.if-not-slot_used.false) c.wide.ensures c.state_of.ensures

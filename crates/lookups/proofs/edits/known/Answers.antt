@@ -5,15 +5,15 @@ use Rattle.lookups.proofs.edits.known.Goals as goal
 pub returns-then-not-slot_used : goal.returns-then-not-slot_used
 returns-then-not-slot_used c =
     known_no c.args.c c.args.w.now
-    c.args.h.0 c.slot_of-k.result
-    c.slot_of-k.ensures c.slot_used.ensures (c.if-not-slot_used.true)
+    c.args.h.0 c.slot-k.result
+    c.slot-k.ensures c.slot_used.ensures (c.if-not-slot_used.true)
 
 pub generation_of-requires : goal.generation_of-requires
 generation_of-requires c = (
   c.requires,
   rw c.wide.ensures
       (used_row c.args.c
-      c.args.w.now c.slot_of-k.result
+      c.args.w.now c.slot-k.result
       c.slot_used.ensures (c.if-not-slot_used.false)),
 )
 
@@ -22,7 +22,7 @@ returns c =
     known_is c.args.c
     c.args.w.now
     c.args.h.0
-    c.slot_of-k.result
-    c.slot_of-k.ensures
+    c.slot-k.result
+    c.slot-k.ensures
     c.slot_used.ensures (c.if-not-slot_used.false)
-    c.wide.ensures c.generation_of.ensures c.generation_of-2.ensures
+    c.wide.ensures c.generation_of.ensures c.generation.ensures

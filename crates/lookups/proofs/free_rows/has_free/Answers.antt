@@ -1,32 +1,17 @@
-use native.Mathlib.Omega.{arith}
-use Rattle.chains.proofs.Cells.{lies, heads_lie}
-use Rattle.chains.proofs.Walks.{row_of, fuel_of}
-use Rattle.lookups.proofs.Rooms.{counting_start, counting_on, counting_says}
+use mathlib.Core.Path.{◌∙◌, ap}
+use Rattle.std.proofs.lemmas.Iterator.{YieldsList-from_take}
+use Rattle.std.proofs.lemmas.Iterator.Consumers.{YieldsList-at, YieldsList-from_first, count_from_yields_List}
+use Rattle.chains.specs.Table.{chain, rows_of}
+use Rattle.chains.specs.Walker.{rows_left}
+use Rattle.lookups.proofs.Rooms.{enough_free}
 use Rattle.lookups.proofs.free_rows.has_free.Goals as goal
 
-pub head_of-cur-requires : goal.head_of-cur-requires
-head_of-cur-requires c = (heads_lie c.requires.0, omega arith)
-
-pub loop-t-init : goal.loop-t-init
-loop-t-init c = counting_start _ _ _ _
-
-pub next_of-cur-requires : goal.next_of-cur-requires
-next_of-cur-requires c =
-    (lies c.requires.0, row_of _ _ _ c.more.ensures c.loop-t-test.true)
-
-pub overflow_sub-left : goal.overflow_sub-left
-overflow_sub-left c = fuel_of _ _ _ c.more.ensures c.loop-t-test.true
-
-pub loop-t-smaller : goal.loop-t-smaller
-loop-t-smaller c = omega (arith, fuel_of _ _ _ c.more.ensures c.loop-t-test.true)
-
-pub loop-t-preserved : goal.loop-t-preserved
-loop-t-preserved c =
-    counting_on c.loop-t.invariant c.more.ensures c.loop-t-test.true
-    (fuel_of _ _ _ c.more.ensures c.loop-t-test.true) c.next_of-cur.ensures
-
 pub returns : goal.returns
+unfolding rows_of
 returns c =
-    counting_says _ _ _ c.requires.1
-    c.head_of-cur.ensures c.loop-t.invariant c.more.ensures
-    c.loop-t-test.false
+    enough_free _ _ _ c.requires.1 c.args.most
+    (count_from_yields_List c.take.result _ c.count.ensures.ran
+    (YieldsList-from_take c.args.most
+    (YieldsList-at c.take.ensures.source
+    (YieldsList-from_first (λ i. i) rows_left _ (c.new.ensures ∙ ap (chain c.args.t c.args.w.now) c.head_of.ensures)))
+    c.take.ensures.count))

@@ -1,59 +1,31 @@
+use mathlib.Core.Path.{◌∙◌, ap}
+use mathlib.Core.Logic.{inl}
 use native.Mathlib.Omega.{arith}
-use Rattle.chains.proofs.Walks.{row_of, fuel_of}
+use lib.ListN.{length}
+use borrow.Author.Tests.{tests}
+use Rattle.std.proofs.Common.{rules}
+use Rattle.std.proofs.lemmas.Iterator.Consumers.{YieldsList-at, YieldsList-from_first, YieldsList-from_filter}
+use Rattle.std.proofs.lemmas.Iterator.Consumers.{count_from_yields_List}
 use Rattle.types.specs.declared.Access.{Access}
-use Rattle.tables.specs.Decode.{access_at}
-use Rattle.lookups.proofs.Rooms.{count_start, count_on, count_done, count_bound}
+use Rattle.tables.specs.Decode.{slot_at}
+use Rattle.tables.specs.Walked.{values_left}
+use Rattle.tables.proofs.Chained.{keep_list}
+use Rattle.tables.proofs.Decoded.{accesses_few}
 use Rattle.lookups.proofs.free_rows.written_count.Goals as goal
 
-pub first_access-cur-requires : goal.first_access-cur-requires
-first_access-cur-requires c = (c.requires.0, c.requires.1)
-
-pub loop-c-init : goal.loop-c-init
-loop-c-init c = (count_start _ _ _ c.first_access-cur.ensures, omega arith)
-
-pub access_at-a-requires : goal.access_at-a-requires
-access_at-a-requires c =
-    (c.requires.0, row_of _ _ _ c.more.ensures c.loop-c-test.true)
-
-pub count_if-m-requires : goal.count_if-m-requires
-count_if-m-requires c =
-    omega (
-      arith,
-      c.loop-c.invariant.1,
-      c.requires.0.ranged.accesses_high,
-      fuel_of _ _ _ c.more.ensures c.loop-c-test.true,
-    )
-
-pub next_access-cur-requires : goal.next_access-cur-requires
-next_access-cur-requires c = (
-  c.requires.0,
-  row_of _ _ _ c.more.ensures c.loop-c-test.true,
-)
-
-pub overflow_sub-left : goal.overflow_sub-left
-overflow_sub-left c = fuel_of _ _ _ c.more.ensures c.loop-c-test.true
-
-pub loop-c-smaller : goal.loop-c-smaller
-loop-c-smaller c =
-    omega
-    (arith, fuel_of _ _ _ c.more.ensures c.loop-c-test.true)
-
-pub loop-c-preserved : goal.loop-c-preserved
-loop-c-preserved c = (
-  count_on (λ (a : Access). a.written)
-      (access_at c.args.c
-      c.args.w.now) _
-      c.loop-c.invariant.0 c.more.ensures
-      c.loop-c-test.true c.count_if-m.ensures c.access_at-a.ensures
-      c.next_access-cur.ensures,
-  count_bound c.access_at-a.result.written _ _ c.count_if-m.ensures
-      c.loop-c.invariant.1
-      (fuel_of _ _ _ c.more.ensures c.loop-c-test.true),
-)
+pub count-requires-clause-fits : goal.count-requires-clause-fits
+count-requires-clause-fits c = inl (omega (
+  arith,
+  accesses_few c.args.c c.args.w.now c.args.k,
+  c.requires.0.ranged.accesses_high,
+  ap (λ s. length (values_left s)) c.filter.ensures.source,
+  ap length c.accesses.ensures,
+))
 
 pub returns : goal.returns
 returns c =
-    count_done (λ (a : Access). a.written)
-    (access_at c.args.c
-    c.args.w.now)
-    c.loop-c.invariant.0 c.more.ensures c.loop-c-test.false
+    count_from_yields_List c.filter.result _ c.count.ensures.ran
+    (YieldsList-from_filter _ (λ (a : Access). a.written)
+    (YieldsList-at c.filter.ensures.source (YieldsList-from_first (λ a. a) values_left _ c.accesses.ensures))
+    c.filter.ensures.closure (λ x b q k. search (rules, tests)))
+    ∙ ap length (keep_list (λ (a : Access). a.written) (slot_at c.args.c c.args.w.now c.args.k).accesses)

@@ -1,69 +1,15 @@
-use native.Mathlib.Omega.{arith}
 use mathlib.Core.Path.{◌∙◌}
 use lib.Dec.{ltb}
-use borrow.Author.Tests.{lt-ltb, le-ltb}
-use Rattle.chains.proofs.Walks.{row_of, fuel_of}
-use Rattle.meaning.specs.Lists.{find}
-use Rattle.meaning.specs.Store.{first, newest_below}
+use borrow.Author.Tests.{tests}
+use Rattle.std.proofs.Common.{rules}
 use Rattle.types.specs.declared.Version.{Version}
-use Rattle.tables.specs.Decode.{version_at}
-use Rattle.tables.proofs.Loops.{versions_start, find_on, find_out, find_done}
-use Rattle.lookups.proofs.Found.{of_entry}
+use Rattle.meaning.specs.Store.{first, newest_below}
+use Rattle.tables.proofs.Chained.{find_row}
 use Rattle.lookups.proofs.versions.newest_below.Goals as goal
 
-pub loop-c-init : goal.loop-c-init
-unfolding newest_below
-loop-c-init c =
-    versions_start _ _ _ (find (λ v. ltb v.point c.args.m) first) c.first_version-cur.ensures
-
-pub version_at-v-requires : goal.version_at-v-requires
-version_at-v-requires c =
-    (c.requires.0, row_of _ _ _ c.more.ensures c.loop-c-test.true)
-
-pub returns-then-v-m : goal.returns-then-v-m
-returns-then-v-m c =
-    c.version_at-v.ensures
-    ∙ find_out
-    (λ (v : Version). ltb v.point c.args.m)
-    (version_at c.args.c
-    c.args.w.now) first
-    c.loop-c.invariant c.more.ensures
-    c.loop-c-test.true
-    (of_entry
-    (λ (v : Version). ltb v.point c.args.m)
-    c.version_at-v.ensures (lt-ltb _ _ c.if-v-m.true))
-
-pub next_version-cur-requires : goal.next_version-cur-requires
-next_version-cur-requires c = (
-  c.requires.0,
-  row_of _ _ _ c.more.ensures c.loop-c-test.true,
-)
-
-pub overflow_sub-left : goal.overflow_sub-left
-overflow_sub-left c =
-    fuel_of _ _ _ c.more.ensures
-    c.loop-c-test.true
-
-pub loop-c-smaller : goal.loop-c-smaller
-loop-c-smaller c =
-    omega (
-      arith,
-      fuel_of _ _ _ c.more.ensures
-          c.loop-c-test.true,
-    )
-
-pub loop-c-preserved : goal.loop-c-preserved
-loop-c-preserved c =
-    find_on (λ (v : Version). ltb v.point c.args.m) (version_at c.args.c c.args.w.now) first
-    c.loop-c.invariant
-    c.more.ensures c.loop-c-test.true
-    (of_entry (λ (v : Version). ltb v.point c.args.m) c.version_at-v.ensures
-    (le-ltb _ _ c.if-v-m.false))
-    c.next_version-cur.ensures
-
 pub returns : goal.returns
+unfolding newest_below
 returns c =
-    find_done (λ (v : Version). ltb v.point c.args.m)
-    (version_at c.args.c
-    c.args.w.now) first c.loop-c.invariant
-    c.more.ensures c.loop-c-test.false
+    c.unwrap_or.ensures
+    ∙ find_row (λ (v : Version). ltb v.point c.args.m) c.find.new.self _ first c.find.ensures.ran c.versions.ensures
+    (λ x b q k. search (rules, tests))

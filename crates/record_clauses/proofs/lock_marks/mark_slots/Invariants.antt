@@ -1,12 +1,8 @@
 -- `record_clauses::lock_marks::mark_slots` meets its contract. Rests on Marking and Marks.
-use Prim.Native.Nat.{◌-◌, ◌≤◌}
 use mathlib.Core.Path.{◌≡◌}
 use lib.ListN.{length}
 use Rattle.clauses.specs.Marks.{MARKS, mark_slots}
 use Rattle.record_clauses.proofs.lock_marks.mark_slots.Given as goal
 
 abbrev pub invariant-loop-k : goal.invariant-loop-k
-invariant-loop-k l = (l.marks ≡ mark_slots l.c l.w l.initial.marks l.k) × (length l.marks ≡ MARKS) × (l.k ≤ l.n)
-
-abbrev pub decreases-loop-k : goal.decreases-loop-k
-decreases-loop-k l = l.n - l.k
+invariant-loop-k l = (l.marks ≡ mark_slots l.c l.w l.initial.marks l.k) × (length l.marks ≡ MARKS)

@@ -1,32 +1,20 @@
-use Prim.Native.Nat.{◌-◌}
-use native.Mathlib.Omega.{arith}
-use Rattle.tables.specs.Words.{locks_named}
-use Rattle.clauses.proofs.Counting.{up_start, up_again, up_fail, up_end}
+-- `soundness::word_clauses::locks_named` meets its contract: one record after the other. Rests on Counting.
+use Rattle.std.proofs.Common.{rules, arith, ℕ, ◌≡◌, Bool, true, false, List, refl}
+use Rattle.std.proofs.lemmas.Iterator.{cases_from_all, YieldsList-from_range}
+use Rattle.chains.specs.Lists.{all_of}
+use Rattle.types.specs.declared.Counts.{Counts}
+use Rattle.tables.specs.Decode.{lock_rows}
+use Rattle.tables.specs.Words.{names_record, locks_named}
+use Rattle.clauses.proofs.Counting.{all_ranged}
 use Rattle.soundness.proofs.word_clauses.locks_named.Goals as goal
 
-pub loop-r-init : goal.loop-r-init
-loop-r-init c = up_start
-
-pub record_named-requires : goal.record_named-requires
-record_named-requires c = (c.requires, omega arith)
-
-pub returns-then-not-record_named : goal.returns-then-not-record_named
-unfolding locks_named
-returns-then-not-record_named c =
-    up_fail c.loop-r.invariant (omega arith) c.record_named.ensures
-    (c.if-not-record_named.true)
-
-pub overflow_add-r : goal.overflow_add-r
-overflow_add-r c = omega (arith, c.requires.ranged.records_high)
-
-pub loop-r-smaller : goal.loop-r-smaller
-loop-r-smaller c = omega arith
-
-pub loop-r-preserved : goal.loop-r-preserved
-loop-r-preserved c =
-    up_again c.loop-r.invariant (omega arith) c.record_named.ensures
-    (c.if-not-record_named.false)
+abbrev named : Counts → List ℕ → ℕ → Bool
+named c w r = all_of (names_record c w r) (lock_rows c w r)
 
 pub returns : goal.returns
 unfolding locks_named
-returns c = up_end c.loop-r.invariant (omega arith)
+returns c =
+    all_ranged (named c.args.c c.args.w.now) c.args.c.records c.all.result
+    (cases_from_all _ _ _ (λ r. named c.args.c c.args.w.now r ≡ true) (λ r. named c.args.c c.args.w.now r ≡ false)
+    c.all.ensures.ran (YieldsList-from_range 0 c.args.c.records c.args.c.records refl (omega arith))
+    (λ r q k. search rules) (λ r q k. search rules))

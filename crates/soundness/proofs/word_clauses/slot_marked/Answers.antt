@@ -1,47 +1,39 @@
+-- The test of the written marks is `all` over that word of the slot's access rows. Rests on Fielded of `chains` and on
+-- Rows of `tables`.
+use mathlib.Core.Path.{◌≡◌, refl, ◌∙◌}
+use mathlib.Core.List.{List}
 use native.Mathlib.Omega.{arith}
-use Rattle.clauses.proofs.Counting.{most_yes, most_no}
+use lib.Dec.{leb}
+use borrow.Author.Tests.{tests}
+use Rattle.std.proofs.Common.{rules, ℕ}
+use Rattle.std.proofs.lemmas.Iterator.Search.{all_from_yields_List}
+use Rattle.std.proofs.lemmas.Iterator.Consumers.{YieldsList-from_first}
+use Rattle.chains.specs.declared.Table.{Table}
 use Rattle.chains.specs.Lists.{all_of}
-use Rattle.chains.proofs.Walks.{row_of, fuel_of}
-use Rattle.chains.proofs.Loops.{all_again, all_fail, all_end}
-use Rattle.tables.specs.Words.{marked}
-use Rattle.tables.proofs.Loops.{access_rows_start}
+use Rattle.chains.specs.Table.{field, chain, rows_of}
+use Rattle.chains.specs.Walker.{fields_left}
+use Rattle.chains.proofs.Fielded.{all_words}
+use Rattle.tables.specs.Layout.{access_table, A_WRITTEN}
+use Rattle.tables.specs.Decode.{access_rows}
+use Rattle.tables.specs.Rows.{accesses_lie}
 use Rattle.soundness.proofs.word_clauses.slot_marked.Goals as goal
 
-pub loop-c-init : goal.loop-c-init
-loop-c-init c = record {
-  walk = access_rows_start c.args.c c.args.w.now
-      c.args.k (all_of (marked c.args.c c.args.w.now))
-      c.first_access-cur.ensures;
-}
+-- the same test along the same chain
+along : (w : List ℕ) {t u : Table} {h g : ℕ} → t ≡ u → h ≡ g
+    → all_of (λ i. leb (field t w i A_WRITTEN) 1) (chain t w h)
+    ≡ all_of (λ i. leb (field u w i A_WRITTEN) 1) (chain u w g)
+along w p q = rw (p, q) refl
 
-pub access_mark-requires : goal.access_mark-requires
-access_mark-requires c =
-    (c.requires.0, row_of _ _ _ c.more.ensures c.loop-c-test.true)
-
-pub returns-then-access_mark-gt1 : goal.returns-then-access_mark-gt1
-returns-then-access_mark-gt1 c =
-    all_fail c.loop-c.invariant c.more.ensures
-    c.loop-c-test.true (most_no 1 c.access_mark.ensures c.if-access_mark-gt1.true)
-
-pub next_access-cur-requires : goal.next_access-cur-requires
-next_access-cur-requires c = (
-  c.requires.0,
-  row_of _ _ _ c.more.ensures c.loop-c-test.true,
-)
-
-pub overflow_sub-left : goal.overflow_sub-left
-overflow_sub-left c = fuel_of _ _ _ c.more.ensures c.loop-c-test.true
-
-pub loop-c-smaller : goal.loop-c-smaller
-loop-c-smaller c =
-    omega
-    (arith, fuel_of _ _ _ c.more.ensures c.loop-c-test.true)
-
-pub loop-c-preserved : goal.loop-c-preserved
-loop-c-preserved c =
-    all_again c.loop-c.invariant c.more.ensures
-    c.loop-c-test.true (most_yes 1 c.access_mark.ensures (omega arith))
-    c.next_access-cur.ensures
+pub new-requires : goal.new-requires
+unfolding access_table
+new-requires c =
+    let e = c.access_table.ensures in
+    rw e (accesses_lie c.args.c c.args.w.now c.requires.0, omega arith)
 
 pub returns : goal.returns
-returns c = all_end c.loop-c.invariant c.more.ensures c.loop-c-test.false
+unfolding access_rows rows_of
+returns c =
+    all_from_yields_List (λ (e : ℕ × ℕ). leb e.1 1) c.all.new.self _ _ c.all.ensures.ran
+    (YieldsList-from_first (λ e. e) fields_left _ c.new.ensures) (λ x b q k. search (rules, tests))
+    ∙ all_words c.access_table.result c.args.w.now A_WRITTEN (λ x. leb x 1) _
+    ∙ along c.args.w.now c.access_table.ensures c.first_access.ensures

@@ -7,8 +7,8 @@ pub returns : goal.returns
 unfolding access_at
 returns c =
     rw (
-      c.access_word-rec.ensures,
-      c.access_word-from.ensures,
-      c.access_word-mark.ensures,
-      c.access_word-value.ensures,
+      c.word-rec.ensures,
+      c.word-from.ensures,
+      c.word-mark.ensures,
+      c.word-value.ensures,
     ) refl

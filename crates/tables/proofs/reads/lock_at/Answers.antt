@@ -5,4 +5,4 @@ use Rattle.tables.proofs.reads.lock_at.Goals as goal
 
 pub returns : goal.returns
 unfolding lock_at
-returns c = rw (c.lock_word-low.ensures, c.lock_word-high.ensures, c.lock_word-tag.ensures) refl
+returns c = rw (c.word-low.ensures, c.word-high.ensures, c.word-tag.ensures) refl

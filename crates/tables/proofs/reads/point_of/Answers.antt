@@ -4,4 +4,4 @@ use Rattle.tables.proofs.reads.point_of.Goals as goal
 
 pub returns : goal.returns
 unfolding slot_at
-returns c = c.slot_word.ensures
+returns c = c.word.ensures

@@ -6,4 +6,4 @@ use Rattle.tables.proofs.reads.version_at.Goals as goal
 pub returns : goal.returns
 unfolding version_at
 returns c =
-    rw (c.version_word-point.ensures, c.version_word-value.ensures, c.version_word-spare.ensures) refl
+    rw (c.word-point.ensures, c.word-value.ensures, c.word-spare.ensures) refl

@@ -1,1 +1,0 @@
--- Proofs of the program's loops stand with their functions; it has no laws of its own. Rests on nothing.

@@ -1,1 +1,0 @@
--- The program has no definitions of its own. Rests on nothing.

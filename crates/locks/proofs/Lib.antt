@@ -1,2 +1,0 @@
--- A law of ends for the proofs of the functions. Rests on nothing.
-pub mod Ends

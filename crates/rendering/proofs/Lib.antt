@@ -1,1 +1,0 @@
--- The crate has no laws of its own. Rests on nothing.

@@ -1,1 +1,0 @@
--- The crate has no definitions of its own: a line is `line_of` of the crate `replies`. Rests on nothing.
