@@ -16,7 +16,9 @@ that no item has any more: a function that was only given another name needs tha
 The text is read by patterns, with comments, `ghost` lines and what stands in texts and byte characters blanked. An
 item is a `fn`, `struct`, `enum` or `const`; it ends at the `}` that is as far in as its first line (rt fmt sees to
 that). A place is kept if a comment with `Kept:` stands on its line or right above it, or in it where it is a type; a
-place in a function's body needs the comment there. A place is a declaration or a loop, not each use of it. One place
+place in a function's body needs the comment there. A comment `Kept, WORDS: REASON` in a file's head, before its first
+item, keeps the places of point 5 in that file whose kind and text have these words. A place is a declaration or a
+loop, not each use of it. One place
 may count under more than one point, and once for each kind. Where no pattern tells a place from others, its name stands
 in a list below; where a pattern can say so, it counts only while it has the old form. A name is crate::item, or
 crate::file::item outside lib.rt and main.rt; a method's name is without its type.
@@ -55,7 +57,8 @@ Point 5, parameters that travel together, facts said again
   fact      a fact (a factor of `requires`) in the contract of a function, where three or more functions of the
             repository say it; `.now`, `.old`, `.entry` and outer brackets do not count
 Point 6, buffers with a length beside, parallel arrays, searches of sorted lists, arenas
-  length    a struct of LENGTHS, or a function that takes no slice or a slice and a size or answers a size
+  length    a struct of LENGTHS, or a function that takes a slice and a size, or a slice and answers a size, or makes
+            the buffer; a method of a type that holds the buffer counts nothing
   parallel  a function with the parameters of a group of PARALLEL, and what PARALLEL_ITEMS names
   numbered  an array of which constants name the places (NUMBERED)
   sorted    a function of SORTED, which searches a sorted chain by hand
@@ -78,6 +81,8 @@ BARE = "Never Missing Malformed Broken Emptied Empty Free Done NoPoint".split()
 
 # Real enums: more than a value or none, and not a value or a refusal.
 REAL_ENUMS = {
+    "types::State": "the states of a slot",
+    "types::Mode": "the modes of a lock",
     "types::Extent": "two flags of a call",
     "types::Pick": "three choices of a point",
     "types::Finish": "two flags of a call",
@@ -108,6 +113,7 @@ KIND_PARAMS = "mode state kind part keep latest".split()
 KIND_FROM = {"slot_clauses::row_stands", "slot_clauses::has_version", "slot_clauses::is_present"}
 KIND_RESULTS = {
     "tables::reads::state_of": "a slot's state",
+    "tables::views::state": "a slot's state",
     "tables::reads::access_mark": "0 or 1",
     "codes::mark": "0 or 1",
     "codes::bits": "0 for no value",
@@ -126,19 +132,21 @@ REFUSAL_NUMBERS = set(
 COUNTING_EXPORTS = {"exports::zohetiwa_batch", "exports::zohetiwa_views"}  # they answer how many
 
 SENTINELS = {
-    "chains::next_of": "0 ends the chain",
+    "chains::next_of": "0 ends the chain", "chains::placed::link": "0 ends the chain",
     "chains::head_of": "0 for an empty chain",
     "chains::next_after": "0 ends the chain",
     "chains::partition::mark_chain": "0 where the check fails, else what is left + 1",
     "chains::queries::largest": "0 for no row",
     "chains::queries::first_with": "0 for no row",
     "chains::queries::find_place": "0 for the start of the chain",
+    "chains::placed::find_place": "0 for the start of the chain",
     "updates::move_first": "0 for no row",
     "updates::insert_sorted": "0 for no row",
     "updates::unlink_turn": "0 for the start of the chain",
     "tables::reads::first_version": "0 for no row",
     "tables::reads::first_lock": "0 for no row",
     "tables::reads::first_access": "0 for no row",
+    "tables::views::first": "0 for no row",
     "tables::reads::next_version": "0 for no row",
     "tables::reads::next_lock": "0 for no row",
     "tables::reads::next_access": "0 for no row",
@@ -219,7 +227,8 @@ FAMILIES = [
     ("a word of a row, by table", "tables::reads::record_word tables::reads::slot_word tables::reads::version_word "
      "tables::reads::lock_word tables::reads::access_word"),
     ("a word of a row, by offset", "tables::reads::floor_of tables::reads::state_of tables::reads::generation_of "
-     "tables::reads::point_of tables::reads::lock_record tables::reads::access_mark"),
+     "tables::reads::point_of tables::reads::lock_record tables::reads::access_mark tables::views::floor "
+     "tables::views::state tables::views::generation tables::views::point"),
     ("a row by value", "tables::reads::version_at tables::reads::lock_at tables::reads::access_at"),
     ("the first row of a chain", "tables::reads::first_version tables::reads::first_lock tables::reads::first_access"),
     ("the row after a row", "tables::reads::next_version tables::reads::next_lock tables::reads::next_access"),
@@ -322,7 +331,7 @@ STEPS = [
      "soundness::word_clauses::slot_marked record_clauses::versions_backed common::allowed::all_allow"),
     ("the first row of a chain that passes", "chains::queries::first_with lookups::accesses::access_row "
      "lookups::versions::newest_below lookups::versions::version_on"),
-    ("a fold along a chain", "chains::queries::largest common::lifting::first_write common::sinking::last_write "
+    ("a fold along a chain", "chains::queries::largest common::ends::first_write common::lifting::first_write "
      "common::lifting::raise common::sinking::lower lookups::free_rows::written_count"),
     ("a step for each access of a slot", "commits::save_versions endings::leave_rows "
      "record_clauses::lock_marks::mark_slot"),
@@ -336,6 +345,9 @@ STEPS = [
     ("a line of two fields", "lines::parsing::abort lines::parsing::purge lines::parsing::view"),
     ("a line of three fields", "lines::parsing::write lines::parsing::commit"),
 ]
+
+# Members that are instances of one function once they call it.
+INSTANCES = {"trims::trim_locks": "free_rows", "trims::cut_versions": "free_rows"}
 
 # ---- Point 4
 
@@ -361,7 +373,8 @@ CONVERT = {n: "" for n in (
     "types::word_of_handle types::refusal_number types::make_point types::make_handle chains::wide chains::word "
     "tables::header_word calls::slot codes::extent codes::finish codes::refusal codes::mark codes::bits "
     "writes::written_mark writes::lock_tag tables::reads::version_at tables::reads::lock_at tables::reads::access_at "
-    "tables::counts_of sessions::setting sessions::flag sessions::session_of sessions::open sessions::read "
+    "tables::rows::read tables::counts_of sessions::setting sessions::flag sessions::session_of sessions::open "
+    "sessions::read "
     "sessions::write sessions::commit damage::state::reads damage::state::writes damage::counts encoding::call_of "
     "encoding::row_0 encoding::row_3 encoding::of_begin encoding::of_lock encoding::of_read encoding::of_commit "
     "encoding::of_purge encoding::of_view encoding::row_of telling::point telling::begin telling::lock telling::read "
@@ -442,7 +455,7 @@ PARALLEL = [
     ("marks of three tables", r"ma: .*", r"mb: .*", r"mc: .*"),
     ("heads of three tables", r"ha: Heads", r"hb: Heads", r"hc: Heads"),
     ("list and replies", r"(list|calls|asks): &\[u64\]", r"replies: &mut \[u64\]"),
-    ("marks beside rows", r"(marks|stamps): &(mut )?\[u8; \w+\]"),
+    ("marks beside rows", r"(marks|stamps): &(mut )?\[(u8|bool); \w+\]"),
 ]
 PARALLEL_ITEMS = {
     "chains::partition::partitions_ok": "three arrays of marks", "record_clauses::records_sound": "marks beside rows",
@@ -453,7 +466,9 @@ NUMBERED = {
     "sessions": "HANDLE LOW HIGH WIDTH LATEST",
 }
 SORTED = {
-    "chains::queries::find_place": "the place in a sorted chain", "updates::insert_sorted": "put in its order",
+    "chains::queries::find_place": "the place in a sorted chain",
+    "chains::placed::find_place": "the place in a sorted chain", "writes::insert": "put in its order",
+    "updates::insert_sorted": "put in its order",
     "writes::insert_version": "put in its order", "writes::insert_lock": "put in its order",
     "blocking::first_free": "along rising locks", "blocking::nearest": "along rising locks",
     "lookups::versions::newest_below": "along falling versions",
@@ -461,11 +476,12 @@ SORTED = {
     "lookups::versions::version_stands": "along falling versions", "slot_clauses::has_version": "the same",
     "index::silent": "a set of records as marks",
 }
-ARENA_TYPES = "Table Heads Cursor Tables Cursors".split()
+ARENA_TYPES = "Table Heads Cursor Tables Cursors Placed Linked Pair".split()
 ARENA = set(
     "tables::reads::first_version tables::reads::first_lock tables::reads::first_access tables::reads::next_version "
     "tables::reads::next_lock tables::reads::next_access tables::version_table tables::lock_table "
-    "tables::access_table tables::version_heads tables::lock_heads tables::access_heads writes::insert_version "
+    "tables::access_table tables::version_heads tables::lock_heads tables::access_heads tables::views::first "
+    "tables::parts::table tables::rows::heads writes::insert_version "
     "writes::insert_lock slots::take_access slots::empty_accesses changes::unlink_lock trims::unlink_version "
     "chains::more format::next_free refusals::link_place refusals::further refusals::last_row refusals::circle".split()
 )
@@ -481,7 +497,8 @@ SWITCHES = {
 }
 OFFSETS = {
     "chains::queries::larger", "chains::queries::largest", "chains::queries::all_with", "chains::queries::first_with",
-    "chains::queries::find_place", "updates::insert_sorted", "updates::unlink_if",
+    "chains::queries::find_place", "chains::placed::find_place", "updates::insert_sorted", "writes::insert",
+    "updates::unlink_if",
 }
 
 # ---- The text
@@ -581,7 +598,7 @@ def items_of(path, text):
             head = "\n".join(lines[n:start])
         cut = re.search(r"^\s*(requires|ensures)\b", head, re.M)
         sig, contract = (head[:cut.start()], head[cut.start():]) if cut else (head, "")
-        open_at = re.search(rf"fn {name}(<[^(]*>)?\(", sig).end() - 1
+        open_at = re.search(rf"fn {name}(<(?:[^()]|\([^()]*\))*?>)?\(", sig).end() - 1
         inside, after = bracketed(sig, open_at)
         arrow = sig[after:].strip()
         yield Item("extern" if extern else "fn", f"{prefix}::{name}", crate, path, n + 1, sig,
@@ -617,6 +634,13 @@ def named(items, names, kind):
 
 def is_kept(p, texts):
     lines = texts[p.path].split("\n")
+    if p.kind in ("together", "fact"):
+        for t in lines:
+            if re.match(r"(pub )?(fn|struct|enum|const|trait|impl|extern|type)\b", t):
+                break
+            m = re.match(r"// Kept, ([^:]+): \S", t)
+            if m and m[1] in f"{p.kind} {p.what}":
+                return True
     at = p.line - 1
     end = at
     if re.match(r"\s*(pub(\([^)]*\))? )?(struct|enum) .*\{$", lines[at]):
@@ -664,7 +688,8 @@ def point_1(items):
         if i.crate not in ("types", "codes"):
             for n, line in lines_with(i, r"\brefusal_number\("):
                 yield place(i, "refusal", f"{i.name}: a refusal by its number", n)
-        if i.name in SENTINELS and not re.match(r"(io::Result<)?(Option|Result)\b", i.result):
+        optional = any("Option<" in p for p in i.params)  # the caller says what there is not
+        if i.name in SENTINELS and not optional and not re.match(r"(io::Result<)?(Option|Result)\b", i.result):
             yield place(i, "sentinel", f"{i.name} ({SENTINELS[i.name]})")
         for n, line in lines_with(i, r"let \w+::\w+\(.*\) = .* else \{"):
             yield place(i, "by hand", f"{i.name}: {line}", n)
@@ -683,12 +708,17 @@ def point_1(items):
                 yield place(i, "guard", f"{i.name}: {r}", n)
 
 
+def calls_shared(i):
+    """Whether a member of a family calls the one function that stands for all of them."""
+    return i.name in INSTANCES and re.search(rf"\b{INSTANCES[i.name]}\(", i.body[1])
+
+
 def point_2(items):
     by_name = {i.name: i for i in items}
     counted = set()
     for kind, families in (("twins", FAMILIES), ("step", STEPS)):
         for what, members in families:
-            there = [by_name[m] for m in members.split() if m in by_name]
+            there = [by_name[m] for m in members.split() if m in by_name and not calls_shared(by_name[m])]
             for i in there[1:]:
                 if i.name not in counted:
                     counted.add(i.name)
@@ -788,21 +818,23 @@ def point_6(items):
     for i in items:
         slices = any("[" in p for p in i.params)
         sized = re.search(r"\b(usize|Run|Answered)\b", " ".join([i.result, *i.params]))
-        if i.what == "struct" or is_fn(i) and (sized or not slices):
+        method = (i.params or [""])[0].endswith("self")
+        if i.what == "struct" or is_fn(i) and (sized and slices or "[0u" in i.body[1] and not method):
             yield from named([i], LENGTHS, "length")
     fns = [i for i in items if is_fn(i)]
     for what, *patterns in PARALLEL:
         for i in fns:
             if all(any(re.fullmatch(q, p) for p in i.params) for q in patterns):
                 yield place(i, "parallel", f"{what}: {i.name}")
-    yield from named(fns, PARALLEL_ITEMS, "parallel")
+    yield from named([i for i in fns if re.search(r"\[0\w*; ", i.body[1])], PARALLEL_ITEMS, "parallel")
     for i in items:
         if i.what == "const" and i.name.split("::")[-1] in NUMBERED.get(i.crate, "").split():
             yield place(i, "numbered", i.name)
     yield from named(fns, SORTED, "sorted")
     for i in items:
-        typed = any(re.search(r"\b(Tables?|Heads|Cursors?)\b", p) for p in i.params)
-        if i.what == "struct" and i.name.split("::")[-1] in ARENA_TYPES or is_fn(i) and (typed or i.name in ARENA):
+        typed = any(re.search(r"\b(Tables?|Heads|Cursors?|Placed|Linked|Pair)\b(?!<)", p) for p in i.params)
+        own = i.what == "struct" and i.crate in ("chains", "updates") and i.name.split("::")[-1] in ARENA_TYPES
+        if own or is_fn(i) and (typed or i.name in ARENA):
             yield place(i, "arena", i.name)
 
 

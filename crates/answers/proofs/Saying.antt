@@ -5,14 +5,16 @@ use native.Mathlib.Omega.{arith}
 use mathlib.Core.Path.{◌≡◌, refl, sym, ap, subst, ◌∙◌}
 use mathlib.Core.Bool.{Bool, true, false, cond, ◌&&◌, false≢true}
 use mathlib.Core.List.{List, [], ◌++◌}
-use lib.ListN.{length, take, drop, length-append, length-drop, take-append-drop}
+use lib.ListN.{length, take, drop, length-append, length-drop}
 use lib.Dec.{leb, eqb}
 use lib.Seq.{length-take-le, take_at}
-use borrow.Author.Rules.{rules}
-use borrow.Author.Tests.{leb-true, eq-eqb, ne_eqb}
+use borrow.Author.Tests.{leb-true, eq-eqb}
+use Rattle.std.specs.Prelude.{Result, Ok, Err, is_ok}
 use Rattle.meaning.specs.Calls.{act}
 use Rattle.meaning.specs.Records.{good_counts}
-use Rattle.types.specs.Replies.{Reply, refused, refusing, ok}
+use Rattle.types.specs.Replies.{Reply, refused, refusing, ok, of_refusal}
+use Rattle.types.specs.declared.Refusal.{Refusal}
+use Rattle.types.specs.declared.Refusal.TheVariants.{BadFormat}
 use Rattle.types.specs.declared.Call.{Call}
 use Rattle.types.specs.declared.Counts.{Counts}
 use Rattle.tables.specs.Layout.{size_of, header_ok, counts_of}
@@ -26,6 +28,7 @@ use Rattle.replies.specs.declared.Line.TheVariants as L
 use Rattle.fields.specs.Fields.{Parsed}
 use Rattle.meaning.proofs.Lists.{and_left, and_right}
 use Rattle.answers.specs.Script.{Has, nothing, one, Stands, Said, Says, Answers, called, kept, formatted, said}
+use Rattle.answers.specs.Script.{LaidOut, Refused}
 use Rattle.format_room.specs.Room.{room_for, words_for}
 
 -- no words are no sound store
@@ -68,101 +71,97 @@ pub call_answers : (c : Call) (w p : List ℕ) (used : ℕ) {r : Reply} {l : Lin
 call_answers c w p used {r} {l} h e d s =
     subst (λ (x : List ℕ). Says (called c) (take used w) l x) (sym (front p w used h e)) (call_says c d s)
 
--- Format is lent no more words than there are
-within : (b : Bool) (n room : ℕ) → (b ≡ true → n ≤ room) → cond b n 0 ≤ room
-within true n room h = h refl
-within false n room h = search rules
+-- the words that Format is lent, and what it does with them
+abbrev ok_or_0 : Result ℕ Refusal → ℕ
+ok_or_0 (Ok n) = n
+ok_or_0 (Err r) = 0
 
-spoilt : (a b : Bool) → b ≡ false → (a && b) ≡ false
-spoilt true b h = h
-spoilt false b h = refl
+abbrev err_or_bad : Result ℕ Refusal → Refusal
+err_or_bad (Ok n) = BadFormat
+err_or_bad (Err r) = r
 
-pub words_inside : (room : ℕ) (c : Counts) {n : ℕ} → n ≡ words_for room c → n ≤ room
-unfolding words_for room_for
-words_inside room c {n} e =
-    subst (λ (k : ℕ). k ≤ room) (sym e)
-    (within (room_for room c) (size_of c) room
-    (λ h. leb-true (size_of c) room (and_right (good_counts c) (leb (size_of c) room) h)))
+found_by : (k : ℕ) {n : ℕ} (b : Bool) → Ok n ≡ cond b (Ok k) (Err BadFormat) → (b ≡ true) × (n ≡ k)
+found_by k true e = (refl, ap ok_or_0 e)
+found_by k false e = absurd (false≢true (sym (ap is_ok e)))
 
--- whether Format takes the words that it is lent
+missed_by : (k : ℕ) {r : Refusal} (b : Bool) → Err r ≡ cond b (Ok k) (Err BadFormat) → (b ≡ false) × (r ≡ BadFormat)
+missed_by k true e = absurd (false≢true (ap is_ok e))
+missed_by k false e = (refl, ap err_or_bad e)
+
 module _ (c : Counts) (room : ℕ) where
   good : room_for room c ≡ true → good_counts c ≡ true
   unfolding room_for
   good h = and_left (good_counts c) (leb (size_of c) room) h
 
-  all_lent : room_for room c ≡ true → words_for room c ≡ size_of c
-  unfolding words_for
-  all_lent h = ap (λ b. cond b (size_of c) 0) h
-
-  none_lent : room_for room c ≡ false → words_for room c ≡ 0
-  unfolding words_for
-  none_lent h = ap (λ b. cond b (size_of c) 0) h
+  fits : room_for room c ≡ true → size_of c ≤ room
+  unfolding room_for
+  fits h = leb-true (size_of c) room (and_right (good_counts c) (leb (size_of c) room) h)
 
   taken : room_for room c ≡ true → format_fits c (size_of c) ≡ true
   unfolding format_fits
   taken h = ap (λ b. b && eqb (size_of c) (size_of c)) (good h) ∙ eq-eqb (size_of c) (size_of c) refl
 
-  not_taken : format_fits c 0 ≡ false
-  unfolding format_fits size_of
-  not_taken = spoilt (good_counts c) (eqb 0 (size_of c)) (ne_eqb 0 (size_of c) (λ e. omega (arith, e)))
+  found : {n : ℕ} → Ok n ≡ words_for room c → (room_for room c ≡ true) × (n ≡ size_of c)
+  unfolding words_for
+  found e = found_by (size_of c) (room_for room c) e
 
-  module _ (w p : List ℕ) (n : ℕ) {r : Reply} (e : n ≡ words_for room c) (h : n ≤ length w)
-      (f : Formats c (take n w) p r) where
-    done : room_for room c ≡ true → (r ≡ ok) × (p ≡ formatted_words c)
-    done b = f.done (ap (format_fits c) (length-take-le n w h ∙ e ∙ all_lent b) ∙ taken b)
+pub no_words : (c : Counts) (w : List ℕ) {r : Refusal} → Err r ≡ words_for (length w) c → Refused c w w r
+unfolding words_for
+no_words c w e =
+    let m = missed_by (size_of c) (room_for (length w) c) e in record { no_room = m.0; refusal = m.1; same = refl }
 
-    undone : room_for room c ≡ false → (r ≡ refusing 16 []) × (p ≡ take n w)
-    undone b = f.refused (ap (format_fits c) (length-take-le n w h ∙ e ∙ none_lent b) ∙ not_taken)
+module _ (c : Counts) (w : List ℕ) (n : ℕ) (e : Ok n ≡ words_for (length w) c) where
+  pub words_inside : n ≤ length w
+  words_inside = let f = found c (length w) e in omega (arith, f.1, fits c (length w) f.0)
 
-    laid : (b : Bool) → room_for room c ≡ b → r ≡ ok → (b ≡ true) × (p ≡ formatted_words c)
-    laid true b q = (refl, (done b).1)
-    laid false b q = absurd (false≢true (ap refused (sym q ∙ (undone b).0)))
+  done : {p : List ℕ} {r : Reply} → Formats c (take n w) p r → (r ≡ ok) × (p ≡ formatted_words c)
+  done f =
+      let g = found c (length w) e in
+      f.done (ap (format_fits c) (length-take-le n w words_inside ∙ g.1) ∙ taken c (length w) g.0)
 
-    stayed : (b : Bool) → room_for room c ≡ b → refused r ≡ true → (b ≡ false) × (r ≡ refusing 16 []) × (p ≡ take n w)
-    stayed true b q = absurd (false≢true (sym (ap refused (done b).0) ∙ q))
-    stayed false b q = (refl, (undone b).0, (undone b).1)
+  pub laid_out : (p : List ℕ) {r : Reply} → length (p ++ drop n w) ≡ length w → Formats c (take n w) p r
+      → LaidOut c w (p ++ drop n w) n
+  laid_out p s f = record {
+    room = (found c (length w) e).0;
+    inside = subst (λ (k : ℕ). n ≤ k) (sym s) words_inside;
+    store = front p w n words_inside s ∙ (done f).1;
+  }
 
--- Format done, and Format refused, by what it promises
-pub done_answers : (c : Counts) (w p : List ℕ) (n used : ℕ) {r : Reply} → n ≡ words_for (length w) c
-    → length (p ++ drop n w) ≡ length w → Formats c (take n w) p r → r ≡ ok
-    → Answers (formatted c (room_for (length w) c)) w used L.Ok (p ++ drop n w) n
-done_answers c w p n used e s f q =
-    let h = words_inside (length w) c e in
-    let l = laid c (length w) w p n e h f (room_for (length w) c) refl q in
-    let x = front p w n h s ∙ l.1 in
-    let g = good c (length w) l.0 in
+  pub never_refused : {X : Type 0} {p : List ℕ} {r : Reply} → Formats c (take n w) p r → refused r ≡ true → X
+  never_refused f q = absurd (false≢true (sym (ap refused (done f).0) ∙ q))
+
+-- a line by what it is
+pub laid_out_answers : (c : Counts) {w w' : List ℕ} {n used : ℕ} → LaidOut c w w' n
+    → Answers (formatted c (room_for (length w) c)) w used L.Ok w' n
+laid_out_answers c {w} {w'} {n} {used} d =
+    let g = good c (length w) d.room in
     record {
-      inside = subst (λ (k : ℕ). n ≤ k) (sym s) h;
+      inside = d.inside;
       says =
-          subst (λ (b : Bool). Says (formatted c b) (take used w) L.Ok (take n (p ++ drop n w))) (sym l.0)
+          subst (λ (b : Bool). Says (formatted c b) (take used w) L.Ok (take n w')) (sym d.room)
           (record {
             line = λ k st. refl;
             leaves =
                 λ k st. (
-                  ap (λ y. sound_words (lent y)) x ∙ formatted_sound c g,
-                  ap (λ y. decode (lent y)) x ∙ formatted_fresh c g,
+                  ap (λ y. sound_words (lent y)) d.store ∙ formatted_sound c g,
+                  ap (λ y. decode (lent y)) d.store ∙ formatted_fresh c g,
                 );
           });
     }
 
-pub refused_answers : (c : Counts) (w p : List ℕ) (n used : ℕ) {r : Reply} {l : Line} → used ≤ length w
-    → n ≡ words_for (length w) c → length (p ++ drop n w) ≡ length w → Formats c (take n w) p r → refused r ≡ true
-    → l ≡ line_of r → Answers (formatted c (room_for (length w) c)) w used l (p ++ drop n w) used
-refused_answers c w p n used {r} {l} u e s f q o =
-    let h = words_inside (length w) c e in
-    let k = stayed c (length w) w p n e h f (room_for (length w) c) refl q in
-    let x = ap (λ (y : List ℕ). y ++ drop n w) k.2 ∙ take-append-drop n w in
+pub refused_answers : (c : Counts) {w w' : List ℕ} {used : ℕ} {r : Refusal} {l : Line} → used ≤ length w
+    → Refused c w w' r → l ≡ line_of (of_refusal r) → Answers (formatted c (room_for (length w) c)) w used l w' used
+refused_answers c {w} {w'} {used} {r} {l} u d o =
     record {
-      inside = subst (λ (m : ℕ). used ≤ m) (sym s) u;
+      inside = subst (λ (y : List ℕ). used ≤ length y) (sym d.same) u;
       says =
-          subst (λ (b : Bool). Says (formatted c b) (take used w) l (take used (p ++ drop n w))) (sym k.0)
+          subst (λ (b : Bool). Says (formatted c b) (take used w) l (take used w')) (sym d.no_room)
           (record {
-            line = λ m st. o ∙ ap line_of k.1;
-            leaves = λ m st. subst (λ (y : List ℕ). Stands m (take used y)) (sym x) st;
+            line = λ m st. o ∙ ap (λ x. line_of (of_refusal x)) d.refusal;
+            leaves = λ m st. subst (λ (y : List ℕ). Stands m (take used y)) (sym d.same) st;
           });
     }
 
--- a line by what it is
 pub malformed_answers : {w : List ℕ} {used : ℕ} → used ≤ length w → Answers kept w used L.Malformed w used
 malformed_answers u = record { inside = u; says = record { line = λ h s. refl; leaves = λ h s. s } }
 

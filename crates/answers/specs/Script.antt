@@ -7,6 +7,9 @@ use Rattle.meaning.specs.Calls.{act}
 use Rattle.types.specs.declared.Call.{Call}
 use Rattle.types.specs.declared.Counts.{Counts}
 use Rattle.tables.specs.Words.{lent, decode, sound_words}
+use Rattle.types.specs.declared.Refusal.{Refusal}
+use Rattle.types.specs.declared.Refusal.TheVariants.{BadFormat}
+use Rattle.format.specs.Format.{formatted_words}
 use Rattle.format_room.specs.Room.{room_for}
 use Rattle.replies.specs.Lines.{line_of}
 use Rattle.replies.specs.declared.Line.{Line}
@@ -53,3 +56,15 @@ pub record Says (f : Has → Said) (before : List ℕ) (l : Line) (after : List 
 pub record Answers (f : Has → Said) (words : List ℕ) (used : ℕ) (l : Line) (words' : List ℕ) (used' : ℕ) : Type 0 where
   pub inside : used' ≤ length words'
   pub says : Says f (take used words) l (take used' words')
+
+-- Format lays out a store of n words
+pub record LaidOut (c : Counts) (words words' : List ℕ) (n : ℕ) : Type 0 where
+  pub room : room_for (length words) c ≡ true
+  pub inside : n ≤ length words'
+  pub store : take n words' ≡ formatted_words c
+
+-- Format is refused, and leaves every word
+pub record Refused (c : Counts) (words words' : List ℕ) (r : Refusal) : Type 0 where
+  pub no_room : room_for (length words) c ≡ false
+  pub refusal : r ≡ BadFormat
+  pub same : words' ≡ words

@@ -3,55 +3,38 @@
 // `tables`, `format`, `format_room`, `store`, `replies`, `fields`, `lines` and `rendering`.
 #![tactic(auto)]
 
-ghost use Rattle.std.specs.Prelude.{◌≤◌, length, take};
+ghost use Rattle.std.specs.Prelude.{◌≤◌, MatchResult, length};
 ghost use Rattle.lines.specs.Calls.{parsed};
-ghost use Rattle.answers.specs.Script.{Says, Answers, called, formatted, said};
-ghost use Rattle.format_room.specs.Room.{room_for};
+ghost use Rattle.answers.specs.Script.{Answers, LaidOut, Refused, said};
 
 use fields::Command;
 use format_room::words_for;
 use lines::parse;
 use rendering::line_of_answer;
-use replies::{Line, line_of_refusal};
+use replies::Line;
 use store::perform;
-use types::{Call, Counts};
+use types::{Counts, Refusal};
 
 // The line to print, and how many words are in use after it.
+// Kept: a store that lends its words would hide from the caller what they are once it is given up.
 #[derive(Clone, Copy)]
 pub struct Answered {
     pub line: Line,
     pub used: usize,
 }
 
-// Format: the words in use stay the same if it is refused.
-fn run_format(words: &mut [u64], used: usize, c: Counts) -> Answered
-    requires { used ≤ length words.old }
-    ensures { Answers (formatted c (room_for (length words.old) c)) words.old used result.line
-        words.new result.used }
+// Format: how many words the store has that it lays out.
+// Kept: the words and the counts are what Format takes.
+fn lay_out(words: &mut [u64], c: Counts) -> Result<usize, Refusal>
+    ensures { MatchResult result (LaidOut c words.old words.new) (Refused c words.old words.new) }
 {
-    let n = words_for(c, words.len());
-    let reply = format::format(&mut words[..n], c);
-    match reply {
-        Ok(()) => Answered {
-            line: Line::Ok,
-            used: n,
-        },
-        Err(r) => Answered {
-            line: line_of_refusal(r),
-            used,
-        },
-    }
+    let n = words_for(c, words.len())?;
+    format::format(&mut words[..n], c)?;
+    Ok(n)
 }
 
-// Any other call, on the words in use.
-fn run_call(words: &mut [u64], used: usize, call: Call) -> Line
-    requires { used ≤ length words.old }
-    ensures { Says (called call) (take used words.old) result (take used words.new) }
-{
-    line_of_answer(perform(&mut words[..used], call))
-}
-
-// What a line prints, and how many words are in use after it.
+// What a line prints, and how many words are in use after it: as many as before, if it lays out no store.
+// Kept: the words stay the caller's, who knows after the call what each of them is.
 pub fn answer(words: &mut [u64], used: usize, line: &[u8]) -> Answered
     requires { used ≤ length words.old }
     ensures { Answers (said (length words.old) (parsed line.now)) words.old used result.line
@@ -62,9 +45,18 @@ pub fn answer(words: &mut [u64], used: usize, line: &[u8]) -> Answered
             line: Line::Malformed,
             used,
         },
-        Some(Command::Format(c)) => run_format(words, used, c),
+        Some(Command::Format(c)) => match lay_out(words, c) {
+            Ok(n) => Answered {
+                line: Line::Ok,
+                used: n,
+            },
+            Err(r) => Answered {
+                line: Line::from(r),
+                used,
+            },
+        },
         Some(Command::Call(call)) => Answered {
-            line: run_call(words, used, call),
+            line: line_of_answer(perform(&mut words[..used], call)),
             used,
         },
     }

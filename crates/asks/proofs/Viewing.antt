@@ -1,18 +1,37 @@
 -- The many views ask by ask: after i turns the first i asks are answered and told. Rests on Rows of `encoding`.
 use Prim.Native.Nat.{ℕ, ◌+◌, ◌*◌, ◌/◌, ◌≤◌, ◌<◌, min}
 use mathlib.Core.Path.{◌≡◌, refl}
-use mathlib.Core.Bool.{true, false}
+use mathlib.Core.Bool.{Bool, true, false, cond}
 use mathlib.Core.List.{List, [], ◌∷◌, ◌++◌}
 use native.Mathlib.Omega.{arith}
 use native.Mathlib.Numerals.{add-one}
-use lib.ListN.{length}
+use lib.ListN.{length, get_or}
 use lib.Seq.{sets}
+use Rattle.std.specs.Simd.{first_chunks}
 use Rattle.types.specs.Replies.{Reply, refusing}
 use Rattle.meaning.specs.Records.{viewing}
 use Rattle.tables.specs.Words.{lent, decode, sound_words}
 use Rattle.encoding.specs.Encoding.{row_of}
 use Rattle.asks.specs.Views.{ASK_WORDS, VIEW_NUMBERS, VIEW_WORDS, asked, asked_at, replies_of, Views}
-use Rattle.encoding.proofs.Rows.{Told, told_none, told_more}
+use Rattle.encoding.proofs.Rows.{Told, told_none, told_more, chunk_at, chunk_first}
+use Rattle.view.specs.Seen.{Viewed}
+
+-- what View shows is the reply to an ask
+pub asked_as : (r p : ℕ) (w : List ℕ) {q : Reply} → Viewed r p w q → q ≡ asked r p w
+unfolding asked
+asked_as r p w {q} v = go (sound_words (lent w)) refl
+  where
+    go : (b : Bool) → sound_words (lent w) ≡ b → q ≡ cond b (viewing r p (decode (lent w))).reply (refusing 1 [])
+    go true s = v.reply s
+    go false s = v.unsound s
+
+-- the ask of a row is that of its words
+pub asked_row : (words list : List ℕ) (n i : ℕ) → i < n
+    → (let row = get_or (first_chunks ASK_WORDS n list) i [] in asked (get_or row 0 0) (get_or row 1 0) words)
+    ≡ asked_at words list i
+unfolding asked_at
+asked_row words list n i h =
+    rw (chunk_first ASK_WORDS n i list h (omega arith), chunk_at ASK_WORDS n i 1 list h (omega arith)) refl
 
 -- what View replies on sound words and on others
 pub asked_sound : (r p : ℕ) (w : List ℕ) {q : Reply} → sound_words (lent w) ≡ true

@@ -1,34 +1,22 @@
 // Many views after one check of the words: a lent list of asks and a lent area for their replies. An ask is a row of
 // ASK_WORDS words, a record and a point; its reply a row of VIEW_WORDS words. Rests on the crates `types`, `meaning`,
-// `tables`, `soundness`, `calls`, `codes` and `encoding`.
+// `tables`, `codes`, `encoding` and `view`.
 #![tactic(auto)]
 
 ghost use Rattle.std.specs.Prelude.{◌+◌, ◌*◌, ◌≤◌, ◌≡◌, length};
 ghost use Rattle.std.proofs.lemmas.List.Edits.{sets};
 ghost use Rattle.types.specs.Replies.{of_view};
-ghost use Rattle.tables.specs.Words.{lent, sound_words};
 ghost use Rattle.encoding.specs.Encoding.{row_of};
-ghost use Rattle.asks.specs.Views.{ASK_WORDS, VIEW_NUMBERS, VIEW_WORDS, asked, asked_at, Views};
+ghost use Rattle.asks.specs.Views.{ASK_WORDS, VIEW_NUMBERS, VIEW_WORDS, asked_at, Views};
 
 use codes::{bits, mark, refusal};
 use encoding::put_row;
 use types::{Point, Refusal, Seen};
+use view::Chart;
 
 const ASK_WORDS: usize = 2;
 
 const VIEW_WORDS: usize = 4;
-
-// What View replies on words of which it is known whether they are sound.
-fn ask(words: &[u64], good: bool, rec: u64, p: u64) -> Result<Seen, Refusal>
-    requires { good ≡ sound_words (lent words.now) }
-    ensures { of_view result ≡ asked rec p words.now }
-{
-    if good {
-        calls::view(words, rec, Point::from(p))
-    } else {
-        Err(Refusal::Unsound)
-    }
-}
 
 // The row of a reply: its code, and its numbers or as many zeros.
 fn row_of(r: Result<Seen, Refusal>) -> [u64; VIEW_WORDS]
@@ -41,27 +29,28 @@ fn row_of(r: Result<Seen, Refusal>) -> [u64; VIEW_WORDS]
 }
 
 // Ask i of the list, and its reply in row i.
-fn view_step(words: &[u64], good: bool, list: &[u64], i: usize, replies: &mut [u64])
-    requires { (good ≡ sound_words (lent words.now))
-        × ((i + 1) * ASK_WORDS ≤ length list.now)
+// Kept: list and replies are two arrays of the C interface.
+fn view_step(chart: Chart<'_>, list: &[u64], i: usize, replies: &mut [u64])
+    requires { ((i + 1) * ASK_WORDS ≤ length list.now)
         × ((i + 1) * VIEW_WORDS ≤ length replies.old) }
     ensures { replies.new
         ≡ sets replies.old (i * VIEW_WORDS)
-        (row_of VIEW_NUMBERS (asked_at words.now list.now i)) }
+        (row_of VIEW_NUMBERS (asked_at chart.entry.words.now list.now i)) }
 {
-    let at = i * ASK_WORDS;
-    let reply = ask(words, good, list[at], list[at + 1]);
+    let [rec, p] = list.as_chunks::<ASK_WORDS>().0[i];
+    let reply = chart.at(rec, Point::from(p));
     put_row(replies, i * VIEW_WORDS, row_of(reply));
 }
 
 // Answers the asks of the list in their order, until the list ends or the next reply has no room; returns how many.
+// Kept: list and replies are two arrays of the C interface.
 pub fn views(words: &[u64], list: &[u64], replies: &mut [u64]) -> usize
     ensures { Views words.now list.now replies.old replies.new result }
 {
-    let good = soundness::check(words);
+    let chart = Chart::open(words);
     let n = (list.len() / ASK_WORDS).min(replies.len() / VIEW_WORDS);
     for i in 0..n {
-        view_step(words, good, list, i, replies);
+        view_step(chart, list, i, replies);
     }
     n
 }

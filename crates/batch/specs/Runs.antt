@@ -5,17 +5,10 @@ use Rattle.std.specs.Prelude.{ℕ, ◌*◌, ◌/◌, min, ◌≡◌, List, ◌++
 use Rattle.std.proofs.lemmas.List.Edits.{sets}
 use Rattle.types.specs.Replies.{Reply}
 use Rattle.meaning.specs.Calls.{act}
-use Rattle.types.specs.declared.Call.{Call}
 use Rattle.tables.specs.Words.{Lent, lent, decode, sound_words}
 use Rattle.history.specs.Words.{Calls}
 use Rattle.store.specs.Promises.{Does}
 use Rattle.encoding.specs.Encoding.{CALL_WORDS, NUMBERS, REPLY_WORDS, call_at, calls_of, row_of, rows_of}
-
--- one call: its contract, and its reply as a row of words
-pub record Answers (call : Call) (before after row : List ℕ) : Type 0 where
-  pub reply : Reply
-  pub does : Does (act call) before after reply
-  pub told : row ≡ row_of NUMBERS reply
 
 -- call i of the list: its reply stands in row i of the reply area
 pub record Steps (list : List ℕ) (i : ℕ) (before after area area' : List ℕ) : Type 0 where

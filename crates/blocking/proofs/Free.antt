@@ -3,7 +3,7 @@
 use Prim.Native.Nat.{ℕ, suc, ◌≤◌, ◌<◌, min}
 use mathlib.Core.Path.{◌≡◌, refl, sym, ap, ◌∙◌}
 use mathlib.Core.Logic.{◌⊎◌, inl, inr}
-use mathlib.Core.Bool.{Bool, true, false, ◌&&◌}
+use mathlib.Core.Bool.{true, false, ◌&&◌}
 use mathlib.Core.List.Memᴰ
 use mathlib.Core.List.{List, [], ◌∷◌}
 use native.Mathlib.Omega.{arith}
@@ -15,6 +15,8 @@ use Rattle.types.specs.declared.Lock.{Lock}
 use Rattle.meaning.proofs.Lists.{test, keep_out}
 use Rattle.meaning.proofs.Tests.{Under, Covered}
 use Rattle.meaning.proofs.Spans.{first_free_top, first_free_low, first_free_is, first_free_run}
+use Rattle.blocking.specs.declared.Which.{Which}
+use Rattle.blocking.specs.declared.Which.TheVariants.{Own}
 use Rattle.blocking.specs.Search.{counts, counted, owns_write, further, reach}
 use Rattle.blocking.proofs.Extremes.{keep_keep, any_keep}
 use Rattle.blocking.proofs.Rising.{rest_rises, none_meets}
@@ -70,30 +72,30 @@ module _ (ls : List Lock) (low high : ℕ) where
           absurd (first_free_is ls low high (omega (arith, i.top)) inside)
       go (inr a) (inr b) = omega (arith, ltb-false q first a, ltb-false first q b)
 
-module _ (mine : Bool) (mode k high : ℕ) where
+module _ (which : Which) (high : ℕ) where
   abbrev walk : ℕ → List Lock → ℕ
-  walk end ls = reach mine mode k high end ls
+  walk end ls = reach which high end ls
 
   abbrev Finds : ℕ → List Lock → Type 0
-  Finds end ls = Reached (counted mine mode k ls) end high (walk end ls)
+  Finds end ls = Reached (counted which ls) end high (walk end ls)
 
   -- where a lock starts beyond the end, no lock covers the end
   end_free : (l : Lock) (ls : List Lock) (end : ℕ) → pairwise no_later (l ∷ ls) ≡ true → end < l.low
-      → Covered (counted mine mode k (l ∷ ls)) end → ⊥
+      → Covered (counted which (l ∷ ls)) end → ⊥
   unfolding counted
   end_free l ls end rises after c =
-      none_meets l ls rises end end after c.lock (keep_out (counts mine mode k) (l ∷ ls) c.member).0
+      none_meets l ls rises end end after c.lock (keep_out (counts which) (l ∷ ls) c.member).0
       (record { starts = c.under.from; ends = c.under.upto })
 
   reached : (ls : List Lock) (end : ℕ) → pairwise no_later ls ≡ true → end ≤ suc high → Finds end ls
   unfolding counted further reach
   reached [] end rises h = reached_still end high h (λ a c. Memᴰ.not-nil c.member)
   reached (l ∷ ls) end rises h =
-      go (test (ltb high end)) (test (ltb end l.low)) (test (counts mine mode k l)) (test (leb end l.high))
+      go (test (ltb high end)) (test (ltb end l.low)) (test (counts which l)) (test (leb end l.high))
       (λ m a. reached ls m (rest_rises l ls rises) a)
     where
       go : (ltb high end ≡ true) ⊎ (ltb high end ≡ false) → (ltb end l.low ≡ true) ⊎ (ltb end l.low ≡ false)
-          → (counts mine mode k l ≡ true) ⊎ (counts mine mode k l ≡ false)
+          → (counts which l ≡ true) ⊎ (counts which l ≡ false)
           → (leb end l.high ≡ true) ⊎ (leb end l.high ≡ false)
           → ((m : ℕ) → m ≤ suc high → Finds m ls) → Finds end (l ∷ ls)
       go (inl e) a c t rest =
@@ -114,14 +116,14 @@ module _ (mine : Bool) (mode k high : ℕ) where
           (λ x b d u. omega (arith, u.upto)) (rest (suc (min high l.high)) (omega arith)))
 
   pub reach_free : (ls : List Lock) (low : ℕ) → pairwise no_later ls ≡ true → low ≤ high
-      → walk low ls ≡ first_free (counted mine mode k ls) low high
+      → walk low ls ≡ first_free (counted which ls) low high
   reach_free ls low rises order =
-      is_first (counted mine mode k ls) low high order (reached ls low rises (omega arith))
+      is_first (counted which ls) low high order (reached ls low rises (omega arith))
 
 -- own locks, and own write locks on a point
-pub counted_own : (mode k : ℕ) (ls : List Lock) → counted true mode k ls ≡ own k ls
+pub counted_own : (k : ℕ) (ls : List Lock) → counted (Own k) ls ≡ own k ls
 unfolding counted counts own
-counted_own mode k ls = refl
+counted_own k ls = refl
 
 pub own_writes : (k : ℕ) (ls : List Lock) → writes (own k ls) ≡ keep (owns_write k) ls
 unfolding writes own

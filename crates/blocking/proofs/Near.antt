@@ -1,228 +1,203 @@
--- The walk for the first blocked point: its turns, and what it finds, the least start of the locks that block with the
--- lowest owner of those that start there. It stops early on rising locks. Rests on Extremes and Rising.
-use Prim.Native.Nat.{ℕ, suc, ◌≤◌, ◌<◌, min, max}
-use mathlib.Core.Path.{◌≡◌, refl, sym, ap, ◌∙◌}
+-- The walk for the first blocked point: what it finds is the start of a lock that blocks, none is nearer, and of those
+-- as near it has the lowest owner. It stops early on rising locks. Rests on Rising.
+use Prim.Native.Nat.{ℕ, ◌+◌, ◌*◌, ◌≤◌, ◌<◌, min, max}
+use mathlib.Core.Path.{◌≡◌, refl, sym, ◌∙◌}
 use mathlib.Core.Logic.{◌⊎◌, inl, inr}
-use mathlib.Core.Bool.{Bool, true, false, cond, ◌&&◌}
+use mathlib.Core.Bool.{Bool, true, false, ◌&&◌}
 use mathlib.Core.List.Memᴰ
-use mathlib.Core.List.{List, [], ◌∷◌, map}
+use mathlib.Core.List.{List, [], ◌∷◌}
 use native.Mathlib.Omega.{arith}
-use native.Mathlib.Nat.{le_refl}
-use lib.Dec.{ltb, eqb}
-use borrow.Author.Tests.{ltb-true, ltb-false, lt-ltb, le-ltb, eq-eqb, ne_eqb}
+use lib.Dec.{ltb}
+use borrow.Author.Tests.{ltb-true, ltb-false}
+use Rattle.std.specs.Prelude.{Option, None, Some}
 use Rattle.types.specs.Limits.{SLOTS}
-use Rattle.meaning.specs.Lists.{◌∈◌, keep, least, pairwise}
-use Rattle.meaning.specs.Points.{meets, blocks, blockers, first_covered, first_blocked, no_later}
-use Rattle.meaning.specs.Store.{Rec}
 use Rattle.types.specs.declared.Lock.{Lock}
-use Rattle.meaning.proofs.Lists.{test, and_right, least_default}
+use Rattle.meaning.specs.Lists.{◌∈◌, pairwise}
+use Rattle.meaning.specs.Points.{meets, blocks, no_later}
+use Rattle.meaning.proofs.Lists.{test, and_in, and_left, and_right, not_both}
 use Rattle.meaning.proofs.Tests.{Meeting, meets_out}
-use Rattle.blocking.specs.declared.Blocked.{Blocked}
-use Rattle.blocking.specs.Search.{joined, nearer, nearest, nobody}
-use Rattle.meaning.proofs.Lists.{least_shift}
-use Rattle.blocking.proofs.Extremes.{valued}
+use Rattle.blocking.specs.declared.Start.{Start}
+use Rattle.blocking.specs.Search.{joined, start, nearer, beyond, nearest}
 use Rattle.blocking.proofs.Rising.{rest_rises, none_meets}
 
--- a best so far that is nearer stays
-joined_past : (b : Blocked) (q o : ℕ) → b.point < q → b ≡ joined b q o
-joined_past b q o l = rw (lt-ltb b.point q l) refl
+-- the order of starts, nearer first and then by the owner, as one number
+abbrev rank : ℕ → ℕ → ℕ
+rank p o = p * 65 + min SLOTS o
 
--- what is found with b so far: S are the starts of the locks ahead, O p the owners of those that start at p
-abbrev owner_of : Blocked → List ℕ → ℕ → ℕ
-owner_of b os p = least (cond (ltb p b.point) SLOTS b.by) os
+abbrev at : Start → ℕ
+at s = rank s.point s.owner
 
-abbrev found : Blocked → List ℕ → (ℕ → List ℕ) → Blocked
-found b S O = record { point = least b.point S; by = owner_of b (O (least b.point S)) (least b.point S) }
+-- of the best so far and the next, the first
+module _ (n : Start) where
+  joined_one : (b : Option Start) → (joined b n ≡ n) ⊎ (b ≡ Some (joined b n))
+  joined_one None = inl refl
+  joined_one (Some b) = go (test (ltb b.point n.point)) (test (ltb n.point b.point)) (test (ltb b.owner n.owner))
+    where
+      go : (ltb b.point n.point ≡ true) ⊎ (ltb b.point n.point ≡ false)
+          → (ltb n.point b.point ≡ true) ⊎ (ltb n.point b.point ≡ false)
+          → (ltb b.owner n.owner ≡ true) ⊎ (ltb b.owner n.owner ≡ false)
+          → (joined (Some b) n ≡ n) ⊎ (Some b ≡ Some (joined (Some b) n))
+      go (inl e) f g = inr (rw e refl)
+      go (inr e) (inl f) g = inl (rw (e, f) refl)
+      go (inr e) (inr f) (inl g) = inr (rw (e, f, g) refl)
+      go (inr e) (inr f) (inr g) = inl (rw (e, f, g) refl)
 
--- one lock more of owner o, that starts at q
-abbrev also : ℕ → ℕ → (ℕ → List ℕ) → ℕ → List ℕ
-also q o O p = cond (eqb q p) (o ∷ O p) (O p)
+  joined_first : (b : Start) → (at (joined (Some b) n) ≤ at n) × (at (joined (Some b) n) ≤ at b)
+  joined_first b = go (test (ltb b.point n.point)) (test (ltb n.point b.point)) (test (ltb b.owner n.owner))
+    where
+      go : (ltb b.point n.point ≡ true) ⊎ (ltb b.point n.point ≡ false)
+          → (ltb n.point b.point ≡ true) ⊎ (ltb n.point b.point ≡ false)
+          → (ltb b.owner n.owner ≡ true) ⊎ (ltb b.owner n.owner ≡ false)
+          → (at (joined (Some b) n) ≤ at n) × (at (joined (Some b) n) ≤ at b)
+      go (inl e) f g = let i = ltb-true b.point n.point e in rw e (omega arith, omega arith)
+      go (inr e) (inl f) g = let i = ltb-true n.point b.point f in rw (e, f) (omega arith, omega arith)
+      go (inr e) (inr f) (inl g) =
+          let i = ltb-false b.point n.point e in
+          let j = ltb-false n.point b.point f in
+          let m = ltb-true b.owner n.owner g in
+          rw (e, f, g) (omega arith, omega arith)
+      go (inr e) (inr f) (inr g) =
+          let i = ltb-false b.point n.point e in
+          let j = ltb-false n.point b.point f in
+          let m = ltb-false b.owner n.owner g in
+          rw (e, f, g) (omega arith, omega arith)
 
-found_as : (b : Blocked) (S : List ℕ) (O O' : ℕ → List ℕ) → ((p : ℕ) → O p ≡ O' p) → found b S O ≡ found b S O'
-found_as b S O O' same =
-    let p : ℕ = least b.point S in ap (λ (os : List ℕ). record { point = p; by = owner_of b os p }) (same p)
+  joined_next : (b : Option Start) → at (joined b n) ≤ at n
+  joined_next None = omega arith
+  joined_next (Some b) = (joined_first b).0
 
-module _ (b : Blocked) (q o : ℕ) (O : ℕ → List ℕ) where
-  found_past : (p : ℕ) → p ≤ b.point → b.point < q
-      → ◌≡◌ {A = Blocked} (record { point = p; by = owner_of b (O p) p })
-      (record { point = min q p; by = owner_of b (also q o O (min q p)) (min q p) })
-  found_past p l g = let m : min q p ≡ p = omega arith in rw (m, ne_eqb q p (omega arith)) refl
-
--- the owners that start at p ≤ q, of which q is one more start
-near_owner : (x o : ℕ) (os : List ℕ) (q p : ℕ) → p ≤ q
-    → least (cond (ltb p q) SLOTS (min x o)) os ≡ least (cond (ltb p q) SLOTS x) (cond (eqb q p) (o ∷ os) os)
-near_owner x o os q p l = go (test (ltb p q))
-  where
-    go : (ltb p q ≡ true) ⊎ (ltb p q ≡ false)
-        → least (cond (ltb p q) SLOTS (min x o)) os ≡ least (cond (ltb p q) SLOTS x) (cond (eqb q p) (o ∷ os) os)
-    go (inl e) = let n = ltb-true p q e in rw (e, ne_eqb q p (omega arith)) refl
-    go (inr e) = let n = ltb-false p q e in rw (e, eq-eqb q p (omega arith)) (least_shift x o os)
-
-same_either : (t : Bool) (x : ℕ) → cond t x x ≡ x
-same_either true x = refl
-same_either false x = refl
-
-joined_found : (b : Blocked) (q o : ℕ) (S : List ℕ) (O : ℕ → List ℕ)
-    → found (joined b q o) S O ≡ found b (q ∷ S) (also q o O)
-joined_found b q o S O = go (test (ltb b.point q)) (test (ltb q b.point))
-  where
-    go : (ltb b.point q ≡ true) ⊎ (ltb b.point q ≡ false) → (ltb q b.point ≡ true) ⊎ (ltb q b.point ≡ false)
-        → found (joined b q o) S O ≡ found b (q ∷ S) (also q o O)
-    go (inl e) f = rw e (found_past b q o O (least b.point S) (least_default b.point S) (ltb-true b.point q e))
-    go (inr e) (inl f) =
-        let n = ltb-true q b.point f in
-        let top = least_default q S in
-        let m : min b.point q ≡ q = omega arith in
-        let same : min q (least b.point S) ≡ least q S = sym (least_shift b.point q S) ∙ ap (λ x. least x S) m in
-        rw (e, f, same, lt-ltb (least q S) b.point (omega arith))
-        (ap (λ (x : ℕ). record { point = least q S; by = x })
-        (near_owner SLOTS o (O (least q S)) q (least q S) top
-        ∙ ap (λ x. least x (also q o O (least q S))) (same_either (ltb (least q S) q) SLOTS)))
-    go (inr e) (inr f) =
-        let n = ltb-false b.point q e in
-        let n2 = ltb-false q b.point f in
-        let m : b.point ≡ q = omega arith in
-        let i : min b.point q ≡ q = omega arith in
-        let same : min q (least b.point S) ≡ least q S = sym (least_shift b.point q S) ∙ ap (λ x. least x S) i in
-        rw (e, f, same, m)
-        (ap (λ (x : ℕ). record { point = least q S; by = x })
-        (near_owner b.by o (O (least q S)) q (least q S) (least_default q S)))
-
--- over the locks: where those that block start among the points low..high, and the owners of those that start at p
 module _ (mode k low high : ℕ) where
-  abbrev start : Lock → ℕ
-  start l = max low l.low
+  -- a lock that blocks among the points, and the start s of one of the locks
+  pub record Blocking (l : Lock) : Type 0 where
+    pub blocks : blocks mode k l ≡ true
+    pub meets : meets low high l ≡ true
 
-  abbrev starts : List Lock → List ℕ
-  starts ls = valued (meets low high) (blocks mode k) start ls
+  pub record StartOf (ls : List Lock) (s : Start) : Type 0 where
+    pub lock : Lock
+    pub member : lock ∈ ls
+    pub blocking : Blocking lock
+    pub is : s ≡ start low lock
 
-  abbrev pub starts_at : ℕ → Lock → Bool
-  starts_at p l = meets low high l && eqb (start l) p
+  -- no lock that blocks comes before s
+  abbrev pub First : List Lock → Start → Type 0
+  First ls s = (l : Lock) → l ∈ ls → Blocking l → at s ≤ rank (max low l.low) l.owner
 
-  abbrev pub starters : List Lock → ℕ → List ℕ
-  starters ls p = valued (starts_at p) (blocks mode k) (λ (l : Lock). l.owner) ls
+  -- what a walk with b so far finds
+  abbrev Finds : Option Start → List Lock → Option Start → Type 0
+  Finds b ls None = (b ≡ None) × ((l : Lock) → l ∈ ls → Blocking l → ⊥)
+  Finds b ls (Some q) =
+      ((b ≡ Some q) ⊎ StartOf ls q) × ((s : Start) → b ≡ Some s → at q ≤ at s) × First ls q
 
-  abbrev owners : List Lock → List ℕ
-  owners ls = map (λ (l : Lock). l.owner) ls
+  abbrev tested : Lock → Bool
+  tested l = blocks mode k l && meets low high l
 
-  map_turn : (t : Bool) (l : Lock) (ls : List Lock)
-      → cond t (l.owner ∷ owners ls) (owners ls) ≡ owners (cond t (l ∷ ls) ls)
-  map_turn true l ls = refl
-  map_turn false l ls = refl
+  blocking_out : (l : Lock) → tested l ≡ true → Blocking l
+  blocking_out l e =
+      record {
+        blocks = and_left (blocks mode k l) (meets low high l) e;
+        meets = and_right (blocks mode k l) (meets low high l) e;
+      }
 
-  keep_yes : (q : Lock → Bool) (l : Lock) (ls : List Lock) → q l ≡ true → l ∷ keep q ls ≡ keep q (l ∷ ls)
-  keep_yes q l ls e = rw e refl
+  blocking_in : (l : Lock) → Blocking l → tested l ≡ true
+  blocking_in l b = and_in b.blocks b.meets
 
-  keep_no : (q : Lock → Bool) (l : Lock) (ls : List Lock) → q l ≡ false → keep q ls ≡ keep q (l ∷ ls)
-  keep_no q l ls e = rw e refl
+  later_start : {l : Lock} {ls : List Lock} {q : Start} → StartOf ls q → StartOf (l ∷ ls) q
+  later_start i = record { lock = i.lock; member = Memᴰ.tail i.member; blocking = i.blocking; is = i.is }
 
-  -- the owners with one lock more, which blocks and meets low..high
-  abbrev starters_turn : Lock → List Lock → ℕ → List ℕ
-  starters_turn l ls p =
-      let ahead : List Lock = keep (starts_at p) (keep (blocks mode k) ls) in
-      owners (cond (eqb (start l) p) (l ∷ ahead) ahead)
+  module _ (l : Lock) (ls : List Lock) where
+    abbrev n : Start
+    n = start low l
 
-  found_turn : (b : Blocked) (l : Lock) (ls : List Lock)
-      → (blocks mode k l ≡ true) ⊎ (blocks mode k l ≡ false) → (meets low high l ≡ true) ⊎ (meets low high l ≡ false)
-      → found (nearer mode k low high b l) (starts ls) (starters ls) ≡ found b (starts (l ∷ ls)) (starters (l ∷ ls))
-  unfolding nearer
-  found_turn b l ls (inr e) f = rw e refl
-  found_turn b l ls (inl e) (inr f) =
-      ap (λ (y : Blocked). found y (starts ls) (starters ls)) step
-      ∙ found_as b (starts ls) (starters ls) (starters (l ∷ ls)) ahead
-      ∙ ap (λ (S : List ℕ). found b S (starters (l ∷ ls))) first
+    -- a lock that does not count
+    found_past : (b q : Option Start) → tested l ≡ false → Finds b ls q → Finds b (l ∷ ls) q
+    found_past b None e i = (i.0, λ m j t. none m t (Memᴰ.cases_cons j))
+      where
+        none : (m : Lock) → Blocking m → (m ≡ l) ⊎ (m ∈ ls) → ⊥
+        none m t (inl f) = not_both (blocking_in m t) (rw f e)
+        none m t (inr j) = i.1 m j t
+    found_past b (Some q) e i = (one i.0, i.1, λ m j t. first m t (Memᴰ.cases_cons j))
+      where
+        one : (b ≡ Some q) ⊎ StartOf ls q → (b ≡ Some q) ⊎ StartOf (l ∷ ls) q
+        one (inl f) = inl f
+        one (inr f) = inr (later_start f)
+
+        first : (m : Lock) → Blocking m → (m ≡ l) ⊎ (m ∈ ls) → at q ≤ rank (max low m.low) m.owner
+        first m t (inl f) = absurd (not_both (blocking_in m t) (rw f e))
+        first m t (inr j) = i.2 m j t
+
+    -- a lock that counts
+    found_on : (b q : Option Start) → tested l ≡ true → Finds (Some (joined b (start low l))) ls q
+        → Finds b (l ∷ ls) q
+    found_on b None e i = absurd (some_none i.0)
+      where
+        some_none : {s : Start} → Some s ≡ None → ⊥
+        some_none f = cc
+    found_on b (Some q) e i = (one i.0 (joined_one n b), before, λ m j t. first m t (Memᴰ.cases_cons j))
+      where
+        one : (Some (joined b n) ≡ Some q) ⊎ StartOf ls q → (joined b n ≡ n) ⊎ (b ≡ Some (joined b n))
+            → (b ≡ Some q) ⊎ StartOf (l ∷ ls) q
+        one (inr f) g = inr (later_start f)
+        one (inl f) (inr g) = inl (g ∙ f)
+        one (inl f) (inl g) =
+            let same : joined b n ≡ q = cc in
+            inr (record { lock = l; member = Memᴰ.head refl; blocking = blocking_out l e; is = sym same ∙ g })
+
+        before : (s : Start) → b ≡ Some s → at q ≤ at s
+        before s f =
+            let g : at (joined b n) ≤ at s = rw f (joined_first n s).1 in omega (arith, i.1 (joined b n) refl)
+
+        first : (m : Lock) → Blocking m → (m ≡ l) ⊎ (m ∈ ls) → at q ≤ rank (max low m.low) m.owner
+        first m t (inl f) = rw f (omega (arith, i.1 (joined b n) refl, joined_next n b))
+        first m t (inr j) = i.2 m j t
+
+  -- where a lock starts beyond the best so far, no later one comes before it
+  found_stop : (b : Start) (l : Lock) (ls : List Lock) → pairwise no_later (l ∷ ls) ≡ true → b.point < l.low
+      → Finds (Some b) (l ∷ ls) (Some b)
+  found_stop b l ls rises after = (inl refl, λ s e. (let same : b ≡ s = cc in rw same (omega arith)), first)
     where
-      step : nearer mode k low high b l ≡ b
-      step = rw (e, f) refl
+      first : First (l ∷ ls) b
+      first m j t =
+          let i = meets_out low high m t.meets in
+          go (test (ltb b.point m.low)) i
+        where
+          go : (ltb b.point m.low ≡ true) ⊎ (ltb b.point m.low ≡ false) → Meeting low high m
+              → at b ≤ rank (max low m.low) m.owner
+          go (inl e) i = let far = ltb-true b.point m.low e in omega arith
+          go (inr e) i =
+              let near = ltb-false b.point m.low e in
+              absurd (none_meets l ls rises low b.point after m j (record { starts = near; ends = i.ends }))
 
-      first : starts ls ≡ starts (l ∷ ls)
-      first = rw e (ap (map start) (keep_no (meets low high) l (keep (blocks mode k) ls) f))
-
-      ahead : (p : ℕ) → starters ls p ≡ starters (l ∷ ls) p
-      ahead p =
-          let rest : List Lock = keep (starts_at p) (keep (blocks mode k) ls) in
-          let not_meets : false ≡ starts_at p l = rw f refl in
-          rw e (ap (λ (t : Bool). owners (cond t (l ∷ rest) rest)) not_meets)
-  found_turn b l ls (inl e) (inl f) =
-      ap (λ (y : Blocked). found y (starts ls) (starters ls)) step
-      ∙ joined_found b (start l) l.owner (starts ls) (starters ls)
-      ∙ found_as b (start l ∷ starts ls) (also (start l) l.owner (starters ls)) (starters_turn l ls)
-      (λ p. map_turn (eqb (start l) p) l (keep (starts_at p) (keep (blocks mode k) ls)))
-      ∙ found_as b (start l ∷ starts ls) (starters_turn l ls) (starters (l ∷ ls)) ahead
-      ∙ ap (λ (S : List ℕ). found b S (starters (l ∷ ls))) first
+  finds : (b : Option Start) (ls : List Lock) → pairwise no_later ls ≡ true → Finds b ls (nearest mode k low high b ls)
+  unfolding nearest nearer
+  finds None [] rises = (refl, λ l m t. Memᴰ.not-nil m)
+  finds (Some b) [] rises = (
+    inl refl,
+    λ s e. (let same : b ≡ s = cc in rw same (omega arith)),
+    λ l m t. absurd (Memᴰ.not-nil m),
+  )
+  finds b (l ∷ ls) rises = go b (test (beyond b l)) (test (tested l)) (λ d. finds d ls (rest_rises l ls rises))
     where
-      step : nearer mode k low high b l ≡ joined b (start l) l.owner
-      step = rw (e, f) refl
+      go : (b : Option Start) → (beyond b l ≡ true) ⊎ (beyond b l ≡ false) → (tested l ≡ true) ⊎ (tested l ≡ false)
+          → ((d : Option Start) → Finds d ls (nearest mode k low high d ls))
+          → Finds b (l ∷ ls) (nearest mode k low high b (l ∷ ls))
+      go None (inl e) t rest = absurd (not_both e refl)
+      go (Some b) (inl e) t rest = rw e (found_stop b l ls rises (ltb-true b.point l.low e))
+      go b (inr e) (inl t) rest =
+          rw (e, t) (found_on l ls b (nearest mode k low high (Some (joined b (start low l))) ls) t
+          (rest (Some (joined b (start low l)))))
+      go b (inr e) (inr t) rest = rw (e, t) (found_past l ls b (nearest mode k low high b ls) t (rest b))
 
-      first : start l ∷ starts ls ≡ starts (l ∷ ls)
-      first = rw e (ap (map start) (keep_yes (meets low high) l (keep (blocks mode k) ls) f))
+  -- from nothing found
+  module _ (ls : List Lock) (rises : pairwise no_later ls ≡ true) where
+    pub none_found : None ≡ nearest mode k low high None ls → (l : Lock) → l ∈ ls → Blocking l → ⊥
+    none_found e = (let f : Finds None ls None = rw (sym e) at (finds None ls rises) in f.1)
 
-      ahead : (p : ℕ) → starters_turn l ls p ≡ starters (l ∷ ls) p
-      ahead p =
-          let rest : List Lock = keep (starts_at p) (keep (blocks mode k) ls) in
-          let also_meets : eqb (start l) p ≡ starts_at p l = rw f refl in
-          rw e (ap (λ (t : Bool). owners (cond t (l ∷ rest) rest)) also_meets)
+    pub start_found : (q : Start) → Some q ≡ nearest mode k low high None ls → StartOf ls q × First ls q
+    start_found q e = (one f.0, f.2)
+      where
+        f : Finds None ls (Some q)
+        f = rw (sym e) at (finds None ls rises)
 
-  -- the walk of all locks; on rising ones the walk that stops finds the same
-  abbrev nearest_of_all : Blocked → List Lock → Blocked
-  nearest_of_all b [] = b
-  nearest_of_all b (l ∷ ls) = nearest_of_all (nearer mode k low high b l) ls
-
-  -- a lock that does not meet low..the point found makes no difference, nor do locks of which none does
-  not_nearer : (b : Blocked) (l : Lock) → (Meeting low b.point l → ⊥) → nearer mode k low high b l ≡ b
-  unfolding nearer
-  not_nearer b l f = go (test (blocks mode k l && meets low high l)) (test (ltb b.point l.low))
-    where
-      go : (blocks mode k l && meets low high l ≡ true) ⊎ (blocks mode k l && meets low high l ≡ false)
-          → (ltb b.point l.low ≡ true) ⊎ (ltb b.point l.low ≡ false)
-          → cond (blocks mode k l && meets low high l) (joined b (start l) l.owner) b ≡ b
-      go (inr e) t = rw e refl
-      go (inl e) (inl t) =
-          let past = ltb-true b.point l.low t in rw e (sym (joined_past b (start l) l.owner (omega arith)))
-      go (inl e) (inr t) =
-          let i = meets_out low high l (and_right (blocks mode k l) (meets low high l) e) in
-          absurd (f (record { starts = ltb-false b.point l.low t; ends = i.ends }))
-
-  none_nearer : (b : Blocked) (ls : List Lock) → ((l : Lock) → l ∈ ls → Meeting low b.point l → ⊥)
-      → nearest_of_all b ls ≡ b
-  none_nearer b [] f = refl
-  none_nearer b (l ∷ ls) f =
-      ap (λ (y : Blocked). nearest_of_all y ls) (not_nearer b l (f l (Memᴰ.head refl)))
-      ∙ none_nearer b ls (λ m i. f m (Memᴰ.tail i))
-
-  near_all : (b : Blocked) (ls : List Lock) → pairwise no_later ls ≡ true
-      → nearest mode k low high b ls ≡ nearest_of_all b ls
-  unfolding nearest
-  near_all b [] rises = refl
-  near_all b (l ∷ ls) rises =
-      go (test (ltb b.point l.low)) (near_all (nearer mode k low high b l) ls (rest_rises l ls rises))
-    where
-      go : (ltb b.point l.low ≡ true) ⊎ (ltb b.point l.low ≡ false)
-          → nearest mode k low high (nearer mode k low high b l) ls ≡ nearest_of_all b (l ∷ ls)
-          → nearest mode k low high b (l ∷ ls) ≡ nearest_of_all b (l ∷ ls)
-      go (inl e) rest =
-          rw e (sym (none_nearer b (l ∷ ls) (none_meets l ls rises low b.point (ltb-true b.point l.low e))))
-      go (inr e) rest = rw e rest
-
-  all_finds : (b : Blocked) (ls : List Lock) → nearest_of_all b ls ≡ found b (starts ls) (starters ls)
-  all_finds b [] = rw (le-ltb b.point b.point (le_refl b.point)) refl
-  all_finds b (l ∷ ls) =
-      all_finds (nearer mode k low high b l) ls
-      ∙ found_turn b l ls (test (blocks mode k l)) (test (meets low high l))
-
-  -- from nobody: the first blocked point, and the lowest owner that starts there
-  module _ (x : Rec) (rises : pairwise no_later x.locks ≡ true) {q : Blocked}
-      (e : q ≡ nearest mode k low high (nobody high) x.locks) where
-    near_finds : q ≡ found (nobody high) (starts x.locks) (starters x.locks)
-    near_finds = e ∙ near_all (nobody high) x.locks rises ∙ all_finds (nobody high) x.locks
-
-    pub near_point : q.point ≡ first_blocked mode k x low high
-    unfolding first_covered blockers
-    near_point = ap (λ (y : Blocked). y.point) near_finds
-
-    pub near_by : q.by ≡ least SLOTS (starters x.locks (first_blocked mode k x low high))
-    unfolding first_covered blockers
-    near_by =
-        let p : ℕ = first_blocked mode k x low high in
-        ap (λ (y : Blocked). y.by) near_finds
-        ∙ ap (λ (d : ℕ). least d (starters x.locks p)) (same_either (ltb p (suc high)) SLOTS)
+        one : (None ≡ Some q) ⊎ StartOf ls q → StartOf ls q
+        one (inl g) = absurd (let z : ◌≡◌ {A = ℕ} 0 1 = cc in omega arith)
+        one (inr g) = g

@@ -1,167 +1,222 @@
-// Points of a record r under its locks: the first free one, and the first blocked one with who blocks it. Read-only,
-// each equal to a function of the decoded store. `mine` picks slot k's own locks, else those of others that block it in
-// the mode. Each is one walk of the record's locks that stops as soon as no later one can matter. Rests on the crates
-// `types`, `meaning`, `locks`, `tables` and `lookups`. A caller proves that the words have these counts
-// (`Fits`), that the record and the points are in range and that the record's locks rise (`Rises`), so the functions
-// have `requires`; `first_blocked` also asks that they are spans (`Proper`).
+// Points of a record under its locks: the first free one, the first blocked one with its judgement, and the run of
+// points that one may have. Read-only, each equal to a function of the decoded store. Each is one walk of the record's
+// locks that stops as soon as no later one can matter. Rests on the crates `types`, `meaning`, `locks`, `tables` and
+// `lookups`. A caller proves that the record's locks rise (`Rising`), so the functions have `requires`; those that look
+// for a blocked point also ask that they are spans (`Proper`).
+// Kept, Rising r: a fact of one record, from `Ready`; a struct of both would be made at each call to say one word less.
 #![tactic(auto)]
 
-ghost use Rattle.std.specs.Prelude.{◌≡◌, ◌≤◌, ◌<◌};
-ghost use Rattle.types.specs.Limits.{LAST};
+ghost use Rattle.std.specs.Prelude.{◌≡◌, ◌≤◌, ◌||◌, eqb};
+ghost use Rattle.types.specs.Kinds.{mode_number};
+ghost use Rattle.types.specs.Limits.{LAST, SETTLED};
+ghost use Rattle.meaning.specs.Lists.{any};
 ghost use Rattle.meaning.specs.Points.{meets, first_free};
 ghost use Rattle.meaning.specs.Pointwise.{Proper};
 ghost use Rattle.meaning.specs.Store.{rec_at};
-ghost use Rattle.tables.specs.Layout.{Fits};
-ghost use Rattle.tables.specs.Decode.{decode_at, record_at};
-ghost use Rattle.blocking.specs.Search.{Rises, counts, counted, further, stops};
-ghost use Rattle.blocking.specs.Search.{joined, nearer, nearest, nobody, first_judged};
+ghost use Rattle.tables.specs.Views.{store_in, rec_in};
+ghost use Rattle.blocking.specs.Search.{Rising, counted, further, stops, upto};
+ghost use Rattle.blocking.specs.Search.{joined, nearer, beyond, nearest, first_judged, run_grant};
 
-use locks::{larger, smaller};
-use types::{Counts, Lock, SETTLED, SLOTS};
+use locks::Asker;
+use tables::Record;
+use types::{Extent, Lock, SETTLED, SLOTS};
 
-// What a search for a blocked point found: the point, and who blocks it: SETTLED if it is frozen, else the lowest slot.
+// The points low..high: there is one, and none is past the last.
+#[derive(Clone, Copy)]
+pub struct Points {
+    pub low: u64,
+    pub high: u64,
+    ghost order: { low ≤ high },
+    ghost last: { high ≤ LAST },
+}
+
+// Which of a record's locks a search is about: a slot's own, or those of others that are in the way of an asker.
+#[derive(Clone, Copy)]
+pub enum Which {
+    Own(u64),
+    Against(Asker),
+}
+
+// Why a point is blocked: it is frozen, or held by the lowest slot that has a lock there.
+#[derive(Clone, Copy)]
+pub enum Judgement {
+    Frozen,
+    Held(u64),
+}
+
+// A blocked point with its judgement.
 #[derive(Clone, Copy)]
 pub struct Blocked {
     pub point: u64,
-    pub by: u64,
+    pub judgement: Judgement,
 }
 
-#[tactic(auto, unfolding(crate::specs::Search::counts))]
-fn counts(mine: bool, mode: u64, k: u64, l: Lock) -> bool
-    ensures { result ≡ counts mine mode k l }
-{
-    if mine {
-        l.owner == k
-    } else {
-        locks::blocks(mode, k, l)
+// The first point of a lock among those searched, with the lock's owner, 0 for settled and 64 for any that is no slot.
+#[derive(Clone, Copy)]
+struct Start {
+    point: u64,
+    owner: u64,
+}
+
+impl Which {
+    ghost use Rattle.std.specs.Prelude.{◌≡◌};
+    ghost use Rattle.blocking.specs.Search.{counts};
+
+    #[tactic(auto, unfolding(crate::specs::Search::counts))]
+    fn counts(self, l: Lock) -> bool
+        ensures { result ≡ counts self l }
+    {
+        match self {
+            Which::Own(k) => l.owner == k,
+            Which::Against(a) => a.blocked_by(l),
+        }
     }
 }
 
 // One lock of the walk for a free point: where it counts and the end lies in it, the end goes to just after it.
 #[tactic(auto, unfolding(crate::specs::Search::further))]
-fn further(mine: bool, mode: u64, k: u64, high: u64, end: u64, l: Lock) -> u64
-    requires { high ≤ LAST }
-    ensures { result ≡ further mine mode k high end l }
+fn further(which: Which, p: Points, end: u64, l: Lock) -> u64
+    ensures { result ≡ further which p.high end l }
 {
-    if counts(mine, mode, k, l) && end <= l.high {
-        return smaller(high, l.high) + 1;
+    if which.counts(l) && end <= l.high {
+        return p.high.min(l.high) + 1;
     }
     end
 }
 
-fn stops(high: u64, end: u64, l: Lock) -> bool
-    ensures { result ≡ stops high end l }
+fn stops(p: Points, end: u64, l: Lock) -> bool
+    ensures { result ≡ stops p.high end l }
 {
-    high < end || end < l.low
+    p.high < end || end < l.low
 }
 
-// The least point of low..high under none of them, or high + 1. One walk: all points before `end` are under them. The
-// locks rise, so where one starts beyond the end nothing covers the end, counted or not: it is free.
-// Kept: `mine` is a bool, since it stands in this public contract, by `counted`.
-pub fn first_free(
-    w: &[u64],
-    c: Counts,
-    mine: bool,
-    mode: u64,
-    k: u64,
-    r: usize,
-    low: u64,
-    high: u64,
-) -> u64
-    requires { Fits c w.now × (r < c.records) × (low ≤ high) × (high ≤ LAST) × Rises c w.now r }
-    ensures { result ≡ first_free (counted mine mode k (record_at c w.now r).locks) low high }
+// The least of the points under none of them. One walk: all points before `end` are under them. The locks rise, so
+// where one starts beyond the end nothing covers the end, counted or not: it is free.
+// Kept: the order of the locks only lets the walk stop early, for nothing is looked up by a lock's low point.
+pub fn first_free(r: Record<'_>, which: Which, p: Points) -> Option<u64>
+    requires { Rising r }
+    ensures { result ≡ upto p.high (first_free (counted which (rec_in r.entry).locks) p.low p.high) }
 {
-    let mut end = low;
-    for l in tables::locks(w, c, r) {
-        if stops(high, end, l) {
-            return end;
+    let mut end = p.low;
+    for l in r.locks() {
+        if stops(p, end, l) {
+            break;
         }
-        end = further(mine, mode, k, high, end, l);
+        end = further(which, p, end, l);
     }
-    end
+    (end <= p.high).then_some(end)
 }
 
-fn meets(low: u64, high: u64, l: Lock) -> bool
-    ensures { result ≡ meets low high l }
+fn meets(p: Points, l: Lock) -> bool
+    ensures { result ≡ meets p.low p.high l }
 {
-    l.low <= high && low <= l.high
+    l.low <= p.high && p.low <= l.high
 }
 
-// The nearer of the best so far and a lock of owner o that starts at q; of those as near, the lowest owner.
-fn joined(best: Blocked, q: u64, o: u64) -> Blocked
-    ensures { result ≡ joined best q o }
+// The nearer of the best so far and the next; of those as near, the one of the lowest owner.
+fn joined(best: Option<Start>, next: Start) -> Start
+    ensures { result ≡ joined best next }
 {
-    if best.point < q {
-        return best;
+    match best {
+        None => next,
+        Some(b) => {
+            if b.point < next.point {
+                return b;
+            }
+            if next.point < b.point {
+                return next;
+            }
+            if b.owner < next.owner {
+                return b;
+            }
+            next
+        }
     }
-    if q < best.point {
-        return Blocked {
-            point: q,
-            by: smaller(SLOTS, o),
-        };
-    }
-    if best.by < o {
-        return best;
-    }
-    Blocked { point: q, by: o }
 }
 
 #[tactic(auto, unfolding(crate::specs::Search::nearer))]
-fn nearer(mode: u64, k: u64, low: u64, high: u64, best: Blocked, l: Lock) -> Blocked
-    ensures { result ≡ nearer mode k low high best l }
+fn nearer(a: Asker, p: Points, best: Option<Start>, l: Lock) -> Option<Start>
+    ensures { result ≡ nearer (mode_number a.mode) a.slot p.low p.high best l }
 {
-    if locks::blocks(mode, k, l) && meets(low, high, l) {
-        return joined(best, larger(low, l.low), l.owner);
+    if a.blocked_by(l) && meets(p, l) {
+        let next = Start {
+            point: p.low.max(l.low),
+            owner: SLOTS.min(l.owner),
+        };
+        return Some(joined(best, next));
     }
     best
 }
 
-// The first point of low..high under a lock that blocks slot k, with the lowest owner of those that start there. The
-// locks rise, so from one that starts beyond the point found on, none is nearer or as near.
-fn nearest(w: &[u64], c: Counts, mode: u64, k: u64, r: usize, low: u64, high: u64) -> Blocked
-    requires { Fits c w.now × (r < c.records) × (high ≤ LAST) }
-    ensures { result ≡ nearest mode k low high (nobody high) (record_at c w.now r).locks }
+// The lock starts beyond the best so far.
+fn beyond(best: Option<Start>, l: Lock) -> bool
+    ensures { result ≡ beyond best l }
 {
-    let mut best = Blocked {
-        point: high + 1,
-        by: SLOTS,
-    };
-    for l in tables::locks(w, c, r) {
-        if best.point < l.low {
+    best.is_some_and(|b| b.point < l.low)
+}
+
+// The first point under a lock that blocks the asker, with the lowest owner of those that start there. The locks rise,
+// so from one that starts beyond the point found on, none is nearer or as near.
+// Kept: the order of the locks only lets the walk stop early, for nothing is looked up by a lock's low point.
+fn nearest(r: Record<'_>, a: Asker, p: Points) -> Option<Start>
+    ensures { result ≡ nearest (mode_number a.mode) a.slot p.low p.high None (rec_in r.entry).locks }
+{
+    let mut best: Option<Start> = None;
+    for l in r.locks() {
+        if beyond(best, l) {
             return best;
         }
-        best = nearer(mode, k, low, high, best, l);
+        best = nearer(a, p, best, l);
     }
     best
 }
 
-// The least blocked point of low..high with its judgement, or high + 1 with nobody. One walk of the locks: a settled
-// lock has the lowest owner, so it is the one that is named. Versions are looked at only where there is none.
-pub fn first_blocked(
-    w: &[u64],
-    c: Counts,
-    mode: u64,
-    k: u64,
-    r: usize,
-    low: u64,
-    high: u64,
-) -> Blocked
-    requires { Fits c w.now × (r < c.records) × (low ≤ high) × (high ≤ LAST) × (1 ≤ k)
-        × Proper (rec_at (decode_at c w.now) r) × Rises c w.now r }
-    ensures { result ≡ first_judged (decode_at c w.now) r mode k low high }
+// A settled lock starts at the point found, or a version stands on it.
+fn is_frozen(r: Record<'_>, b: Start) -> bool
+    ensures { result ≡ (eqb b.owner SETTLED || any (λ v. eqb v.point b.point) (rec_in r.entry).versions) }
 {
-    let b = nearest(w, c, mode, k, r, low, high);
-    if high < b.point {
-        return b;
-    }
-    if b.by == SETTLED {
-        return b;
-    }
-    if lookups::version_stands(w, c, r, b.point) {
-        return Blocked {
+    b.owner == SETTLED || lookups::version_stands(r, b.point)
+}
+
+// The least of the points that is blocked, with its judgement. One walk of the locks: a settled lock has the lowest
+// owner, so it is the one that is named. Versions are looked at only where there is none.
+// Kept: the point goes over from one struct to the other, its owner becomes a judgement: one field alone is copied.
+pub fn first_blocked(r: Record<'_>, a: Asker, p: Points) -> Option<Blocked>
+    requires { (1 ≤ a.slot) × Proper (rec_at (store_in r.tables) r.number) × Rising r }
+    ensures { result ≡ first_judged (store_in r.entry.tables) r.entry.number (mode_number a.mode) a.slot
+        p.low p.high }
+{
+    let b = nearest(r, a, p)?;
+    if is_frozen(r, b) {
+        return Some(Blocked {
             point: b.point,
-            by: SETTLED,
-        };
+            judgement: Judgement::Frozen,
+        });
     }
-    b
+    Some(Blocked {
+        point: b.point,
+        judgement: Judgement::Held(b.owner),
+    })
+}
+
+// The run of points from the first one on that the asker may have: all of them or none, or a part, those before the
+// first that is blocked; else why the first that is blocked cannot be had.
+// Kept: what the caller wants, all or a part, is read here once; as a closure it would be the same two arms.
+pub fn run(r: Record<'_>, a: Asker, p: Points, extent: Extent) -> Result<(u64, u64), Blocked>
+    requires { (1 ≤ a.slot) × Proper (rec_at (store_in r.tables) r.number) × Rising r }
+    ensures { result ≡ run_grant extent (store_in r.entry.tables) r.entry.number (mode_number a.mode) a.slot
+        p.low p.high }
+{
+    match first_blocked(r, a, p) {
+        None => Ok((p.low, p.high)),
+        Some(b) => match extent {
+            Extent::All => Err(b),
+            Extent::Part => {
+                if b.point <= p.low {
+                    return Err(b);
+                }
+                Ok((p.low, b.point - 1))
+            }
+        },
+    }
 }

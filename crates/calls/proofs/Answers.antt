@@ -1,7 +1,6 @@
 -- What a test that the code makes says of the test that it stands for. Rests on nothing.
 use mathlib.Core.Path.{◌≡◌, sym, ◌∙◌}
-use mathlib.Core.Bool.{Bool, true, false, not}
-use borrow.Author.Tests.{not-true, not-false}
+use mathlib.Core.Bool.{Bool, true, false}
 
 -- an answer q, equal to the test b, was found false, or true
 pub off : {q b : Bool} → q ≡ b → q ≡ false → b ≡ false

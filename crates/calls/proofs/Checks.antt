@@ -1,21 +1,25 @@
 -- The checks that several calls share: what each finds, and what a call under its test replies where it refuses. Rests
 -- on Verdicts and specs/Checks.
-use Rattle.std.specs.Prelude.{Result, Ok, Err}
+use Rattle.std.specs.Prelude.{Result, Ok, Err, Option, Some, None}
+use Rattle.std.specs.Option.{ok_or}
 use Rattle.std.specs.Result.{IsErrAnd}
 use Rattle.std.proofs.lemmas.Result.{err_from_is_err_and}
 use Prim.Native.Nat.{ℕ}
 use mathlib.Core.Path.{◌≡◌, refl, sym, ap, subst, ◌∙◌}
 use mathlib.Core.Bool.{Bool, true, false, cond}
 use native.Mathlib.Omega.{arith}
-use lib.Dec.{ltb}
+use lib.Dec.{ltb, leb}
+use lib.ListN.{length}
 use Rattle.types.specs.Numbers.{slot_of}
 use Rattle.types.specs.Replies.{of_refusal}
 use Rattle.types.specs.declared.Refusal.{Refusal}
-use Rattle.types.specs.declared.Refusal.TheVariants.{NoEdit, EditEnded, NoRecord}
+use Rattle.types.specs.declared.Refusal.TheVariants.{NoEdit, EditEnded, NoRecord, NoSlot}
 use Rattle.meaning.specs.Store.{Store}
-use Rattle.meaning.specs.Outcomes.{Outcome, replies, Verdict, needs, unless, knows, is_open, for_open}
+use Rattle.meaning.specs.Edits.{free_slot}
+use Rattle.lookups.specs.Slots.{first_free}
+use Rattle.meaning.specs.Outcomes.{Outcome, replies, Verdict, unless, knows, is_open, for_open}
 use Rattle.calls.specs.Checks.{record_in, known_slot, open_slot}
-use Rattle.calls.proofs.Verdicts.{needs_fails, no_edit_lem, edit_ended}
+use Rattle.calls.proofs.Verdicts.{no_edit_lem, edit_ended}
 
 -- an error that `?` passes on is the one that was found
 pub passed : {A : Type 0} (q : Result A Refusal) {x : Refusal} → IsErrAnd q (λ y. y ≡ x) → q ≡ Err x
@@ -23,6 +27,32 @@ passed q h = let p = err_from_is_err_and q h in p.1 ∙ ap Err p.2
 
 pub ok_not_err : {A : Type 0} {x : A} {e : Refusal} → ◌≡◌ {A = Result A Refusal} (Ok x) (Err e) → ⊥
 ok_not_err e = let z : ◌≡◌ {A = ℕ} 0 1 = cc in omega arith
+
+-- one test: what it finds, or its refusal y
+by_test : (b : Bool) (k x : ℕ) (y : Refusal) → cond b (Ok k) (Err y) ≡ Ok x → (b ≡ true) × (x ≡ k)
+by_test true k x y e = (refl, cc)
+by_test false k x y e = absurd (ok_not_err (sym e))
+
+no_test : (b : Bool) (k : ℕ) (x y : Refusal) → cond b (Ok k) (Err y) ≡ Err x → (b ≡ false) × (x ≡ y)
+no_test true k x y e = absurd (ok_not_err e)
+no_test false k x y e = (refl, cc)
+
+-- a free slot
+
+as_test : (b : Bool) (k : ℕ) → ok_or (cond b (Some k) None) NoSlot ≡ cond b (Ok k) (Err NoSlot)
+as_test true k = refl
+as_test false k = refl
+
+module _ (s : Store) {o : Option ℕ} {q : Result ℕ Refusal} (f : o ≡ first_free s) (m : q ≡ ok_or o NoSlot) where
+  free_test : q ≡ cond (leb (free_slot s) (length s.edits)) (Ok (free_slot s)) (Err NoSlot)
+  unfolding first_free
+  free_test = m ∙ ap (λ x. ok_or x NoSlot) f ∙ as_test (leb (free_slot s) (length s.edits)) (free_slot s)
+
+  pub free_out : {x : ℕ} → q ≡ Ok x → (leb (free_slot s) (length s.edits) ≡ true) × (x ≡ free_slot s)
+  free_out {x} e = by_test (leb (free_slot s) (length s.edits)) (free_slot s) x NoSlot (sym free_test ∙ e)
+
+  pub free_refused : {x : Refusal} → q ≡ Err x → (leb (free_slot s) (length s.edits) ≡ false) × (x ≡ NoSlot)
+  free_refused {x} e = no_test (leb (free_slot s) (length s.edits)) (free_slot s) x NoSlot (sym free_test ∙ e)
 
 -- a record
 
@@ -35,22 +65,14 @@ module _ (n r : ℕ) where
   unfolding record_in
   record_there e = rw e refl
 
-by_record : (b : Bool) (r x : ℕ) → cond b (Ok r) (Err NoRecord) ≡ Ok x → (b ≡ true) × (x ≡ r)
-by_record true r x e = (refl, cc)
-by_record false r x e = absurd (ok_not_err (sym e))
-
-no_record : (b : Bool) (r : ℕ) (x : Refusal) → cond b (Ok r) (Err NoRecord) ≡ Err x → (b ≡ false) × (x ≡ NoRecord)
-no_record true r x e = absurd (ok_not_err e)
-no_record false r x e = (refl, cc)
-
 module _ (n r : ℕ) {q : Result ℕ Refusal} (m : q ≡ record_in n r) where
   pub record_out : {x : ℕ} → q ≡ Ok x → (ltb r n ≡ true) × (x ≡ r)
   unfolding record_in
-  record_out e = by_record (ltb r n) r _ (sym m ∙ e)
+  record_out e = by_test (ltb r n) r _ NoRecord (sym m ∙ e)
 
   pub record_refused : {x : Refusal} → q ≡ Err x → (ltb r n ≡ false) × (x ≡ NoRecord)
   unfolding record_in
-  record_refused e = no_record (ltb r n) r _ (sym m ∙ e)
+  record_refused e = no_test (ltb r n) r _ NoRecord (sym m ∙ e)
 
 -- a slot
 
@@ -63,22 +85,14 @@ module _ (s : Store) (h : ℕ) where
   unfolding known_slot
   known_there e = rw e refl
 
-by_known : (b : Bool) (k x : ℕ) → cond b (Ok k) (Err NoEdit) ≡ Ok x → (b ≡ true) × (x ≡ k)
-by_known true k x e = (refl, cc)
-by_known false k x e = absurd (ok_not_err (sym e))
-
-no_known : (b : Bool) (k : ℕ) (x : Refusal) → cond b (Ok k) (Err NoEdit) ≡ Err x → (b ≡ false) × (x ≡ NoEdit)
-no_known true k x e = absurd (ok_not_err e)
-no_known false k x e = (refl, cc)
-
 module _ (s : Store) (h : ℕ) {q : Result ℕ Refusal} (m : q ≡ known_slot s h) where
   pub known_out : {x : ℕ} → q ≡ Ok x → (knows s h ≡ true) × (x ≡ slot_of h)
   unfolding known_slot
-  known_out e = by_known (knows s h) (slot_of h) _ (sym m ∙ e)
+  known_out e = by_test (knows s h) (slot_of h) _ NoEdit (sym m ∙ e)
 
   pub known_refused : {x : Refusal} → q ≡ Err x → (knows s h ≡ false) × (x ≡ NoEdit)
   unfolding known_slot
-  known_refused e = no_known (knows s h) (slot_of h) _ (sym m ∙ e)
+  known_refused e = no_test (knows s h) (slot_of h) _ NoEdit (sym m ∙ e)
 
   pub open_unknown : {x : Refusal} → q ≡ Err x → Err x ≡ open_slot s h
   unfolding open_slot

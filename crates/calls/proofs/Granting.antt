@@ -7,8 +7,8 @@ use mathlib.Core.Bool.{Bool, true, false, cond}
 use mathlib.Core.List.{List}
 use native.Mathlib.Omega.{arith}
 use lib.Dec.{ltb}
-use borrow.Author.Tests.{ltb-true, ltb-false, leb-false, lt-ltb, le-ltb, le-leb, lt-leb}
-use Rattle.types.specs.Limits.{LAST, READ, WRITE}
+use borrow.Author.Tests.{ltb-true, ltb-false, leb-false, lt-ltb, le-leb, lt-leb}
+use Rattle.types.specs.Limits.{READ, WRITE}
 use Rattle.meaning.specs.Store.{Rec, Store, rec_at}
 use Rattle.meaning.specs.Points.{blockers, first_blocked, first_free, first_open}
 use Rattle.meaning.specs.Pointwise.{Proper}
@@ -18,24 +18,25 @@ use Rattle.types.specs.declared.Extent.{Extent}
 use Rattle.types.specs.declared.Extent.TheVariants.{All, Part}
 use Rattle.meaning.proofs.JudgeLocking.{proper}
 use Rattle.meaning.proofs.Lists.{test}
-use Rattle.meaning.proofs.Spans.{first_covered_low, first_covered_least, first_free_low, first_free_run}
-use Rattle.tables.specs.Layout.{Fits}
+use Rattle.meaning.proofs.Spans.{first_covered_low, first_covered_is, first_covered_least}
+use Rattle.meaning.proofs.Spans.{first_free_low, first_free_is, first_free_run}
+use Rattle.meaning.proofs.Tests.{blockers_out}
 use Rattle.tables.specs.Decode.{record_at, decode_at}
 use Rattle.tables.proofs.Decoded.{rec_at_lem}
 use Rattle.blocking.specs.declared.Blocked.{Blocked}
-use Rattle.blocking.specs.Search.{Rises, counts, counted, first_judged}
-use Rattle.std.specs.Prelude.{Result, Ok, Err}
+use Rattle.types.specs.declared.Mode.TheVariants.{Write}
+use Rattle.blocking.specs.declared.Which.TheVariants.{Against}
+use Rattle.blocking.specs.Search.{Grant, Rises, counts, counted, upto, judged, run_grant}
+use Rattle.blocking.proofs.Answered.{upto_some, upto_none}
+use Rattle.std.specs.Prelude.{Ok, Err, None, Some}
 use Rattle.calls.specs.Contract.{Ready}
-use Rattle.calls.specs.Grants.{Grant, lock_grant, read_grant}
+use Rattle.calls.specs.Grants.{lock_grant, read_grant}
 use Rattle.calls.proofs.Acting.{all_rise}
 
 -- the search for a blocked point, by slot k
-pub search_needs : {c : Counts} {w : List ℕ} {r low high k : ℕ} → Ready c w → r < c.records → low ≤ high → high ≤ LAST
-    → 1 ≤ k
-    → Fits c w × (r < c.records) × (low ≤ high) × (high ≤ LAST) × (1 ≤ k) × Proper (rec_at (decode_at c w) r)
-    × Rises c w r
-search_needs {c} {w} {r} R l order last slot =
-    (R.well.fits, l, order, last, slot, proper (decode_at c w) R.store r, all_rise c w R r l)
+pub search_needs : {c : Counts} {w : List ℕ} {r k : ℕ} → Ready c w → r < c.records → 1 ≤ k
+    → (1 ≤ k) × Proper (rec_at (decode_at c w) r) × Rises c w r
+search_needs {c} {w} {r} R l slot = (slot, proper (decode_at c w) R.store r, all_rise c w R r l)
 
 pub grant_judged : (t : Bool) (from end : ℕ) (q b : Blocked) → cond {A = Grant} t (Ok (from, end)) (Err q) ≡ Err b
     → (t ≡ false) × (q ≡ b)
@@ -85,87 +86,84 @@ pub read_refused : (e : Extent) (k : ℕ) (x : Rec) (low high : ℕ) → low ≤
 read_refused All k x low high order g = ltb-false high (first_blocked READ k x low high) g
 read_refused Part k x low high order g = omega (arith, ltb-false low (first_blocked READ k x low high) g)
 
-pub point_is : (s : Store) (mode k r low high : ℕ) (b : Blocked) → b ≡ first_judged s r mode k low high
-    → b.point ≡ first_blocked mode k (rec_at s r) low high
-unfolding first_judged
-point_is s mode k r low high b e = ap (λ (y : Blocked). y.point) e
+-- Lock, from the run of points that was asked for first
+module _ (s : Store) (k r low high : ℕ) where
+  abbrev first : ℕ
+  first = first_blocked WRITE k (rec_at s r) low high
 
--- Lock, from what the search from low answered
-module _ (s : Store) (k r low high : ℕ) (b : Blocked) (e : b ≡ first_judged s r WRITE k low high) where
-  first_is : b.point ≡ first_blocked WRITE k (rec_at s r) low high
-  first_is = point_is s WRITE k r low high b e
+  pub run_locks : run_grant All s r WRITE k low high ≡ lock_grant All s k r low high
+  unfolding run_grant lock_grant
+  run_locks = refl
 
-  pub lock_all_taken : high < b.point → Ok (low, high) ≡ lock_grant All s k r low high
-  unfolding lock_grant
-  lock_all_taken l = let f = first_is in rw (lt-ltb high (first_blocked WRITE k (rec_at s r) low high) (omega arith))
-      refl
-
-  pub lock_all_judged : b.point ≤ high → Err b ≡ lock_grant All s k r low high
-  unfolding lock_grant
-  lock_all_judged l =
-      let f = first_is in rw (le-ltb high (first_blocked WRITE k (rec_at s r) low high) (omega arith)) (ap Err e)
-
-  pub lock_part_low : low ≤ high → low < b.point → Ok (low, b.point - 1) ≡ lock_grant Part s k r low high
-  unfolding lock_grant
-  lock_part_low order l =
-      let f = first_is in
-      rw (open_low WRITE k (rec_at s r) low high order (omega arith), le-leb low high order)
-      (ap (λ (p : ℕ). Ok (low, p - 1)) f)
+  pub run_takes : (e : Extent) (from end : ℕ) → low ≤ high → Ok (from, end) ≡ run_grant e s r WRITE k low high
+      → Ok (from, end) ≡ lock_grant e s k r low high
+  unfolding run_grant lock_grant
+  run_takes All from end order f = f
+  run_takes Part from end order f =
+      let g = grant_taken (ltb low first) low (first - 1) (judged s r WRITE k low high) from end (sym f) in
+      let l = ltb-true low first g.0 in
+      rw (open_low WRITE k (rec_at s r) low high order l, le-leb low high order)
+      (f ∙ rw g.0 refl)
 
 -- P of Lock, from the first free point, which the words gave
-module _ (c : Counts) (w : List ℕ) (k r low high : ℕ) (l : r < c.records) (from : ℕ)
-    (e : from ≡ first_free (counted false WRITE k (record_at c w r).locks) low high) where
+module _ (c : Counts) (w : List ℕ) (k r low high : ℕ) (l : r < c.records) where
   abbrev s : Store
   s = decode_at c w
 
-  from_is : from ≡ first_open WRITE k (rec_at s r) low high
+  abbrev free : ℕ
+  free = first_free (counted (Against (record { mode = Write; slot = k })) (record_at c w r).locks) low high
+
+  from_is : free ≡ first_open WRITE k (rec_at s r) low high
   unfolding counted counts blockers
-  from_is = e ∙ ap (λ (x : Rec). first_open WRITE k x low high) (sym (rec_at_lem c w r l))
+  from_is = ap (λ (x : Rec). first_open WRITE k x low high) (sym (rec_at_lem c w r l))
 
-  pub later_judged : (b : Blocked) → b ≡ first_judged s r WRITE k low high → high < from
+  pub later_judged : (b : Blocked) → Err b ≡ run_grant Part s r WRITE k low high → None ≡ upto high free
       → Err b ≡ lock_grant Part s k r low high
-  unfolding lock_grant
-  later_judged b f above =
-      let g = from_is in rw (lt-leb (first_open WRITE k (rec_at s r) low high) high (omega arith)) (ap Err f)
+  unfolding run_grant lock_grant
+  later_judged b f e =
+      let above : high < first_open WRITE k (rec_at s r) low high = omega (arith, upto_none high free e, from_is) in
+      let first = first_blocked WRITE k (rec_at s r) low high in
+      let g = grant_judged (ltb low first) low (first - 1) (judged s r WRITE k low high) b (sym f) in
+      rw (lt-leb (first_open WRITE k (rec_at s r) low high) high above) (ap Err (sym g.1))
 
-  module _ (inside : from ≤ high) (n : Blocked) (f : n ≡ first_judged s r WRITE k from high) where
-    next_is : n.point ≡ first_blocked WRITE k (rec_at s r) from high
-    next_is = point_is s WRITE k r from high n f
+  module _ (from : ℕ) (e : Some from ≡ upto high free) where
+    pub later_inside : from ≤ high
+    later_inside = let u = upto_some high free e in omega (arith, u.0, u.1)
 
-    pub later_taken : Ok (from, n.point - 1) ≡ lock_grant Part s k r low high
-    unfolding lock_grant
-    later_taken =
-        let g = from_is in
-        rw (le-leb (first_open WRITE k (rec_at s r) low high) high (omega arith)) (rw (← g, next_is) refl)
+    -- the point is free, so that a run starts there
+    later_starts : Proper (rec_at s r) → from < first_blocked WRITE k (rec_at s r) from high
+    later_starts proper = go (test (ltb from next))
+      where
+        next : ℕ
+        next = first_blocked WRITE k (rec_at s r) from high
 
-    -- so the end of the run is a point
-    pub later_above : 1 ≤ low → low ≤ high → 1 ≤ n.point
-    later_above a b =
-        let i = first_free_low (blockers WRITE k (rec_at s r)) low high (omega arith) in
-        let j = first_covered_low (blockers WRITE k (rec_at s r)) from high (omega arith) in
-        omega (arith, from_is, next_is)
+        at : from ≡ first_open WRITE k (rec_at s r) low high
+        at = (upto_some high free e).0 ∙ from_is
 
--- Read, from what the search from low answered
-module _ (s : Store) (k r low high : ℕ) (b : Blocked) (e : b ≡ first_judged s r READ k low high) where
-  met_is : b.point ≡ first_blocked READ k (rec_at s r) low high
-  met_is = point_is s READ k r low high b e
+        go : (ltb from next ≡ true) ⊎ (ltb from next ≡ false) → from < next
+        go (inl t) = ltb-true from next t
+        go (inr t) =
+            let i = later_inside in
+            let m = first_covered_low (blockers WRITE k (rec_at s r)) from high (omega arith) in
+            let same : next ≡ from = omega (arith, ltb-false from next t) in
+            let c =
+            first_covered_is (blockers WRITE k (rec_at s r)) from high
+            (λ l m. proper l (blockers_out WRITE k (rec_at s r) m).0) (omega arith) in
+            absurd (first_free_is (blockers WRITE k (rec_at s r)) low high (omega (arith, at)) (rw (same, at) at c))
 
-  pub read_all_taken : high < b.point → Ok (low, high) ≡ read_grant All s k r low high
-  unfolding read_grant
-  read_all_taken l = let f = met_is in rw (lt-ltb high (first_blocked READ k (rec_at s r) low high) (omega arith)) refl
+    pub later_taken : Proper (rec_at s r) → run_grant Part s r WRITE k from high ≡ lock_grant Part s k r low high
+    unfolding run_grant lock_grant
+    later_taken proper =
+        let g : from ≡ first_open WRITE k (rec_at s r) low high = (upto_some high free e).0 ∙ from_is in
+        let i = later_inside in
+        rw (
+          lt-ltb from (first_blocked WRITE k (rec_at s r) from high) (later_starts proper),
+          le-leb (first_open WRITE k (rec_at s r) low high) high (omega (arith, g)),
+        ) (rw (← g) refl)
 
-  pub read_all_judged : b.point ≤ high → Err b ≡ read_grant All s k r low high
-  unfolding read_grant
-  read_all_judged l =
-      let f = met_is in rw (le-ltb high (first_blocked READ k (rec_at s r) low high) (omega arith)) (ap Err e)
-
-  pub read_part_taken : low < b.point → Ok (low, b.point - 1) ≡ read_grant Part s k r low high
-  unfolding read_grant
-  read_part_taken l =
-      let f = met_is in
-      rw (lt-ltb low (first_blocked READ k (rec_at s r) low high) (omega arith)) (ap (λ (p : ℕ). Ok (low, p - 1)) f)
-
-  pub read_part_judged : b.point ≤ low → Err b ≡ read_grant Part s k r low high
-  unfolding read_grant
-  read_part_judged l =
-      let f = met_is in rw (le-ltb low (first_blocked READ k (rec_at s r) low high) (omega arith)) (ap Err e)
+-- Read
+pub run_reads : (e : Extent) (s : Store) (k r low high : ℕ)
+    → run_grant e s r READ k low high ≡ read_grant e s k r low high
+unfolding run_grant read_grant
+run_reads All s k r low high = refl
+run_reads Part s k r low high = refl

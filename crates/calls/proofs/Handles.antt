@@ -26,7 +26,7 @@ module _ (c : Counts) (w : List ℕ) where
   has_record_is r = ap (ltb r) (sym (records_counted c w))
 
   -- slot 0, a slot past the end, and a slot
-  pub handle_none : (k : ℕ) → k < 1 → handle 0 0 ≡ handle_at (decode_at c w) k
+  pub handle_none : (k : ℕ) → k < 1 → handle 0 k ≡ handle_at (decode_at c w) k
   unfolding edit_of
   handle_none zero l = refl
   handle_none (suc i) l = absurd (omega arith)

@@ -2,6 +2,14 @@
 // words. Rests on the crates `types`, `meaning`, `chains`, `tables`, `changes`, `slots`, `lookups`, `blocking` and
 // `index`. They are for callers who prove the words sound (`requires sound_words`), once for many calls: no call here
 // looks at more than the chains it touches. The crate `store` has the same calls for everybody, with the check first.
+// Kept, words and counts: lent to be changed; over a struct of both each would promise, too, that they stay (BORROWS).
+// Kept, Ready c w: `Well` and more, of words before a change.
+// Kept, IsRow c.edits k: of words that change; a `Slot` borrows them, so it ends at the first change.
+// Kept, sound_words: what a caller proves once for many calls, of words that each call changes.
+// Kept, Indexed: between words that change and an index, which C callers lend one beside the other.
+// Kept, words and index: two memories that C callers lend, one of them to be changed.
+// Kept, handle and record: the parameters of the call in document 01.
+// Kept, index and slot: as the call has them; the `Slot` of `access_row` ends before the words change.
 #![tactic(auto)]
 
 ghost use Rattle.std.specs.Prelude.{◌≡◌, true, ◌≤◌, ◌<◌, ltb};
@@ -12,18 +20,19 @@ ghost use Rattle.meaning.specs.Outcomes.{refuse, handle_at};
 ghost use Rattle.meaning.specs.Records.{viewing};
 ghost use Rattle.types.specs.Replies.{number, details, of_begin, of_done, of_view};
 ghost use Rattle.meaning.specs.Store.{edit_at};
-ghost use Rattle.types.specs.Numbers.{slot_of};
 ghost use Rattle.tables.specs.Decode.{decode_at};
-ghost use Rattle.tables.specs.Layout.{header_ok, Fits};
+ghost use Rattle.tables.specs.Layout.{header_ok};
+ghost use Rattle.tables.specs.Views.{store_in};
 ghost use Rattle.tables.specs.Words.{lent, decode, sound_words};
 ghost use Rattle.calls.specs.Contract.{Acts, Ready, Makes};
 ghost use Rattle.index.specs.Index.{Indexed};
-ghost use Rattle.calls.specs.Grants.{refusal_by};
+ghost use Rattle.calls.specs.Grants.{refusal_by, Small};
 ghost use Rattle.calls.specs.Parts.{write_open};
 ghost use Rattle.calls.specs.Checks.{record_in, known_slot, open_slot};
 
-use blocking::Blocked;
-use types::{Access, Counts, Handle, LAST, Point, Refusal, SETTLED, Seen};
+use blocking::{Blocked, Judgement};
+use tables::{Record, Slot, Tables};
+use types::{Access, Counts, Handle, LAST, Point, Refusal, Seen};
 
 // Checks that several calls share, each with its refusal.
 
@@ -39,52 +48,52 @@ pub fn record(c: Counts, r: u64) -> Result<usize, Refusal>
 }
 
 // The slot of the edit that the handle names: 2 where it names none.
-pub fn known_slot(w: &[u64], c: Counts, h: Handle) -> Result<usize, Refusal>
-    requires { Fits c w.now }
-    ensures { result ≡ known_slot (decode_at c w.now) h.0 }
+pub fn known_slot(t: Tables<'_>, h: Handle) -> Result<usize, Refusal>
+    ensures { result ≡ known_slot (store_in t.entry) h.0 }
 {
-    if !lookups::known(w, c, h) {
+    if !lookups::known(t, h) {
         return Err(Refusal::NoEdit);
     }
     Ok(h.slot() as usize)
 }
 
 // The slot of an open edit: 3 where it has ended.
-pub fn open_slot(w: &[u64], c: Counts, h: Handle) -> Result<usize, Refusal>
-    requires { Fits c w.now }
-    ensures { result ≡ open_slot (decode_at c w.now) h.0 }
+pub fn open_slot(t: Tables<'_>, h: Handle) -> Result<usize, Refusal>
+    ensures { result ≡ open_slot (store_in t.entry) h.0 }
 {
-    let k = known_slot(w, c, h)?;
-    if !lookups::is_open(w, c, h) {
+    let k = known_slot(t, h)?;
+    if !lookups::is_open(t, h) {
         return Err(Refusal::EditEnded);
     }
     Ok(k)
 }
 
 // The handle of slot k's edit. Slot 0 and slots past the end read as never begun.
-pub fn handle_at(w: &[u64], c: Counts, k: usize) -> Handle
-    requires { Fits c w.now × (k ≤ SLOTS) × ((edit_at (decode_at c w.now) k).generation < GENERATIONS) }
-    ensures { result.0 ≡ handle_at (decode_at c w.now) k }
+// Kept: so document 01 has it, and a refusal Held has a handle: a None would be made that handle at each call.
+pub fn handle_at(t: Tables<'_>, k: usize) -> Handle
+    requires { (k ≤ SLOTS) × ((edit_at (store_in t) k).generation < GENERATIONS) }
+    ensures { result.0 ≡ handle_at (store_in t.entry) k }
 {
-    if k < 1 {
-        return Handle::of(0, 0);
-    }
-    if c.edits < k {
+    if k < 1 || t.counts.edits < k {
         return Handle::of(0, k as u8);
     }
-    let g = tables::generation_of(w, c, k);
+    let g = Slot {
+        tables: t,
+        number: k,
+    }
+    .generation();
     Handle::of(g as u16, k as u8)
 }
 
 // Why a blocked point cannot be had: it is frozen, or held by a slot.
-pub fn judge(w: &[u64], c: Counts, b: Blocked) -> Refusal
-    requires { Ready c w.now × (b.by ≤ SLOTS) }
-    ensures { refuse (number result) (details result) ≡ refusal_by (decode_at c w.now) b.by }
+pub fn judge(t: Tables<'_>, b: Blocked) -> Refusal
+    requires { Ready t.counts t.words.now × Small b.judgement }
+    ensures { refuse (number result) (details result) ≡ refusal_by (store_in t.entry) b.judgement }
 {
-    if b.by == SETTLED {
-        return Refusal::Frozen;
+    match b.judgement {
+        Judgement::Frozen => Refusal::Frozen,
+        Judgement::Held(k) => Refusal::Held(handle_at(t, k as usize)),
     }
-    Refusal::Held(handle_at(w, c, b.by as usize))
 }
 
 // The call Begin.
@@ -93,12 +102,17 @@ pub fn begin(w: &mut [u64]) -> Result<Handle, Refusal>
     ensures { Acts beginning (lent w.old) (lent w.new) (of_begin result) }
 {
     let c = tables::counts_of(w);
-    let k = lookups::free_slot(w, c);
-    if c.edits < k {
-        return Err(Refusal::NoSlot);
-    }
+    let before = Tables {
+        words: w,
+        counts: c,
+    };
+    let k = lookups::free_slot(before).ok_or(Refusal::NoSlot)?;
     slots::open_slot(w, c, k);
-    Ok(handle_at(w, c, k))
+    let after = Tables {
+        words: w,
+        counts: c,
+    };
+    Ok(handle_at(after, k))
 }
 
 // Write, once the edit is open and the record there: one access row for a record new to the edit.
@@ -113,24 +127,21 @@ fn write_open(
     requires { Ready c w.old × IsRow c.edits k × (rec < c.records) × Indexed (decode_at c w.old) ix.now }
     ensures { Makes c (write_open (decode_at c w.old) k rec pending) w.old w.new (of_done result) }
 {
-    let i = index::access_row(w, c, k, rec, ix);
-    if !lookups::access_room(w, c, i) {
+    let tables = Tables {
+        words: w,
+        counts: c,
+    };
+    let slot = Slot { tables, number: k };
+    let i = index::access_row(slot, rec, ix);
+    if !lookups::access_room(tables, i) {
         return Err(Refusal::NoAccessRow);
     }
-    let a = lookups::access_in(w, c, rec, i);
-    let from = a.from;
-    slots::set_access(
-        w,
-        c,
-        k,
-        i,
-        Access {
-            rec,
-            from,
-            written: true,
-            value: pending,
-        },
-    );
+    let a = Access {
+        rec,
+        value: Some(pending),
+        ..lookups::access_in(slot, rec, i)
+    };
+    slots::set_access(w, c, k, i, a);
     Ok(())
 }
 
@@ -140,12 +151,17 @@ pub fn write(w: &mut [u64], h: Handle, rec: u64, value: u64, ix: &[u16]) -> Resu
     ensures { Acts (writing h.0 rec value) (lent w.old) (lent w.new) (of_done result) }
 {
     let c = tables::counts_of(w);
-    let k = open_slot(w, c, h)?;
+    let tables = Tables {
+        words: w,
+        counts: c,
+    };
+    let k = open_slot(tables, h)?;
     record(c, rec)?;
     write_open(w, c, k, rec, value, ix)
 }
 
 // The call View. It looks at one record's floor and versions, so words with a good header are enough.
+// Kept: the one place that makes a Seen of a Version, whose number becomes a Point.
 pub fn view(w: &[u64], rec: u64, p: Point) -> Result<Seen, Refusal>
     requires { header_ok w.now ≡ true }
     ensures { of_view result ≡ (viewing rec p.0 (decode (lent w.now))).reply }
@@ -156,11 +172,15 @@ pub fn view(w: &[u64], rec: u64, p: Point) -> Result<Seen, Refusal>
     if LAST < q {
         return Err(Refusal::BadPoint);
     }
-    let floor = tables::floor_of(w, c, r);
-    if q < floor {
+    let tables = Tables {
+        words: w,
+        counts: c,
+    };
+    let x = Record { tables, number: r };
+    if q < x.floor() {
         return Err(Refusal::BelowFloor);
     }
-    let v = lookups::newest_at(w, c, r, q);
+    let v = lookups::newest_at(x, q);
     Ok(Seen {
         point: Point::from(v.point),
         value: v.value,

@@ -10,7 +10,7 @@ use Rattle.std.specs.List.{list_all, prefix_len, find}
 use Rattle.std.specs.List.{fold as fold_list}
 use Rattle.std.specs.Option.{option_map}
 use Rattle.chains.specs.declared.Table.{Table}
-use Rattle.chains.specs.Lists.{all_of, last_or, take_while, fold}
+use Rattle.chains.specs.Lists.{all_of, last_or, take_while}
 use Rattle.chains.specs.Table.{field}
 use Rattle.chains.specs.Walker.{with_word}
 
@@ -21,12 +21,6 @@ option_map_same (Some x) = refl
 module _ (t : Table) (w : List ℕ) (o : ℕ) where
   word : ℕ → ℕ
   word i = field t w i o
-
-  pub fold_words : {A : Type 0} (g : A → ℕ → A) (a : A) (rs : List ℕ)
-      → fold_list (λ b (e : ℕ × ℕ). g b e.1) a (with_word t w o rs) ≡ fold (λ b i. g b (field t w i o)) a rs
-  unfolding with_word fold
-  fold_words g a [] = refl
-  fold_words g a (x ∷ xs) = fold_words g (g a (field t w x o)) xs
 
   module _ (p : ℕ → Bool) where
     pub all_words : (rs : List ℕ)

@@ -10,12 +10,12 @@ pub mod Segments
 pub mod Chains
 pub mod Relinks
 pub mod Cells
-pub mod Tests
 pub mod Words
 pub mod Steps
 pub mod Places
 pub mod Searches
 pub mod Parts
+pub mod Checks
 pub mod Turns
 pub mod Frames
 pub mod Entries

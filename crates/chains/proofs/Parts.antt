@@ -3,7 +3,7 @@
 use Prim.Native.Nat.{ℕ, zero, suc, ◌+◌, ◌-◌, ◌≤◌, ◌<◌}
 use mathlib.Core.Path.{◌≡◌, refl, sym, ap, subst, ◌∙◌}
 use mathlib.Core.Logic.{◌⊎◌, inl, inr}
-use mathlib.Core.Bool.{Bool, true, false, false≢true}
+use mathlib.Core.Bool.{Bool, true, false, cond, false≢true}
 use mathlib.Core.List.{List, ◌∷◌}
 use native.Mathlib.Omega.{arith}
 use native.Mathlib.Numerals.{add-one}
@@ -19,7 +19,7 @@ use Rattle.chains.specs.Lists.{occ, sum_to, all_to}
 use Rattle.chains.specs.Cursor.{Met, Halted}
 use Rattle.chains.specs.Walk.{more, rows, ends}
 use Rattle.chains.specs.Table.{Laid, link, chain, ended, front, head_of, rows_of, ended_of}
-use Rattle.chains.specs.Partition.{MARKS, on_chains, partition, Marks, Clear, Unmarked, Marked}
+use Rattle.chains.specs.Partition.{MARKS, on_chains, partition, Marks, mark, Clear, Unmarked, Marked}
 use Rattle.chains.specs.Partition.{CanCheck, CanMark, Advanced, free_start, Begun}
 use Rattle.chains.proofs.Bounded.{bool_false, all_suc, all_at, sum_front, sum_full}
 use Rattle.chains.proofs.Occurs.{occ_nil, occ_same, occ_other, occ_here}
@@ -29,43 +29,54 @@ use Rattle.chains.proofs.Chains.{row_once, lengths_of, lengths}
 use Rattle.chains.proofs.Cells.{lies, heads_lie}
 use Rattle.chains.proofs.Words.{partition_in, ended_seg, rep_of}
 
--- a new array has 0 everywhere
+-- a new array has the same value everywhere
+same : {A : Type 0} (d : A) (n i : ℕ) → get_or (replicate n d) i d ≡ d
+same d zero i = refl
+same d (suc n) zero = refl
+same d (suc n) (suc i) = same d n i
+
 pub zeros : (n i : ℕ) → ◌≡◌ {A = ℕ} (get_or (replicate n 0) i 0) 0
-zeros zero i = refl
-zeros (suc n) zero = refl
-zeros (suc n) (suc i) = zeros n i
+zeros = same 0
 
-pub clear_new : (n : ℕ) → n ≡ MARKS → Clear (replicate n 0)
-clear_new n e = record { size = length-replicate n 0 ∙ e; clear = zeros n }
+pub clear_new : (n : ℕ) → n ≡ MARKS → Clear (replicate n false)
+clear_new n e = record { size = length-replicate n false ∙ e; clear = same false n }
 
-no_marks : {m : List ℕ} → Clear m → Marks m
-no_marks c = record { size = c.size; single = λ i. omega (arith, c.clear i) }
+-- a row counts once at most
+mark_most : (m : List Bool) (i : ℕ) → mark m i ≤ 1
+mark_most m i = go (get_or m i false)
+  where
+    go : (b : Bool) → cond b 1 0 ≤ 1
+    go true = omega arith
+    go false = omega arith
+
+mark_set : (m : List Bool) (i : ℕ) → get_or m i false ≡ true → mark m i ≡ 1
+mark_set m i e = rw e refl
+
+mark_clear : (m : List Bool) (i : ℕ) → get_or m i false ≡ false → mark m i ≡ 0
+mark_clear m i e = rw e refl
 
 -- one row marked
-mark_one : (m : List ℕ) (x : ℕ) (xs : List ℕ) (i : ℕ) → x < length m → get_or m x 0 ≡ 0
-    → get_or (set m x 1) i 0 + occ i xs ≡ get_or m i 0 + occ i (x ∷ xs)
+mark_one : (m : List Bool) (x : ℕ) (xs : List ℕ) (i : ℕ) → x < length m → get_or m x false ≡ false
+    → mark (set m x true) i + occ i xs ≡ mark m i + occ i (x ∷ xs)
 mark_one m x xs i l z = go (ℕ_discrete i x)
   where
-    go : Dec (i ≡ x) → get_or (set m x 1) i 0 + occ i xs ≡ get_or m i 0 + occ i (x ∷ xs)
-    go (yes p) = rw p (omega (arith, get_or-set_same m x 1 0 l, occ_same x xs))
-    go (no p) = rw (get_or-set_other m x i 1 0 p, occ_other i x xs p)
-
-mark_marks : (m : List ℕ) (x : ℕ) → Marks m → x < length m → Marks (set m x 1)
-mark_marks m x k l = record { size = length-set m x 1 ∙ k.size; single = λ i. go i (ℕ_discrete i x) }
-  where
-    go : (i : ℕ) → Dec (i ≡ x) → get_or (set m x 1) i 0 ≤ 1
-    go i (yes p) = rw p (omega (arith, get_or-set_same m x 1 0 l))
-    go i (no p) = rw (get_or-set_other m x i 1 0 p) (k.single i)
+    go : Dec (i ≡ x) → mark (set m x true) i + occ i xs ≡ mark m i + occ i (x ∷ xs)
+    go (yes p) =
+        rw p
+        (omega
+        (arith, mark_set (set m x true) x (get_or-set_same m x true false l), mark_clear m x z, occ_same x xs))
+    go (no p) =
+        omega (arith, ap {B = ℕ} (λ b. cond b 1 0) (get_or-set_other m x i true false p), occ_other i x xs p)
 
 -- a walk that marks: none of its steps, and one more
-pub mark_start : (t : Table) (w : List ℕ) {m : List ℕ} (s : Cursor) → Marks m → Advanced t w m s m s
+pub mark_start : (t : Table) (w : List ℕ) {m : List Bool} (s : Cursor) → Marks m → Advanced t w m s m s
 mark_start t w s k = record { fuel = omega arith; marks = k; met = λ i. refl; end = refl; long = refl }
 
-pub mark_again : {t : Table} {w m₀ : List ℕ} {s₀ : Cursor} {m : List ℕ} {s : Cursor} {x : ℕ} {r : Bool}
+pub mark_again : {t : Table} {w : List ℕ} {m₀ : List Bool} {s₀ : Cursor} {m : List Bool} {s : Cursor} {x : ℕ} {r : Bool}
     → Advanced t w m₀ s₀ m s
-    → t.count < MARKS → r ≡ more t.count s.left s.row → r ≡ true → get_or m s.row 0 ≡ 0
+    → t.count < MARKS → r ≡ more t.count s.left s.row → r ≡ true → get_or m s.row false ≡ false
     → x ≡ link t w s.row
-    → Advanced t w m₀ s₀ (set m s.row 1) (record { row = x; left = s.left - 1 })
+    → Advanced t w m₀ s₀ (set m s.row true) (record { row = x; left = s.left - 1 })
 unfolding front
 mark_again {t} {w} {m₀} {s₀} {m} {s} {x} i b d e z q =
     let nx = link t w in
@@ -74,32 +85,33 @@ mark_again {t} {w} {m₀} {s₀} {m} {s} {x} i b d e z q =
     let h = s.row in
     let o = more_out n f h d e in
     let y = step nx n f h d e in
-    let l : h < length m = omega (arith, o.row.high, i.marks.size) in
+    let l : h < length m = omega (arith, o.row.high, b, i.marks) in
     rw q (record {
       fuel = omega (arith, i.fuel);
-      marks = mark_marks m h i.marks l;
+      marks = length-set m h true ∙ i.marks;
       met =
-          λ k. mark_one m h (rows nx n (f - 1) (nx h)) k l z ∙ ap (λ l. get_or m k 0 + occ k l) (sym y.row) ∙ i.met k;
+          λ k. mark_one m h (rows nx n (f - 1) (nx h)) k l z ∙ ap (λ l. mark m k + occ k l) (sym y.row) ∙ i.met k;
       end = sym y.end ∙ i.end;
       long = omega (arith, o.fuel, ap length y.row, i.long);
     })
 
 -- the same by a cursor's step
-pub mark_met : {t : Table} {w m₀ : List ℕ} {s₀ : Cursor} {m : List ℕ} {s : Cursor} {i : ℕ} {s' : Cursor}
-    → Advanced t w m₀ s₀ m s → t.count < MARKS → Met t w s i s' → get_or m i 0 ≡ 0
-    → Advanced t w m₀ s₀ (set m i 1) s'
+pub mark_met : {t : Table} {w : List ℕ} {m₀ : List Bool} {s₀ : Cursor} {m : List Bool} {s : Cursor}
+    {i : ℕ} {s' : Cursor}
+    → Advanced t w m₀ s₀ m s → t.count < MARKS → Met t w s i s' → get_or m i false ≡ false
+    → Advanced t w m₀ s₀ (set m i true) s'
 mark_met {t} {w} {m₀} {s₀} {m} {s} {i} {s'} v b k z =
     let left : s.left - 1 ≡ s'.left = omega (arith, k.counted) in
     let next : s'.row ≡ link t w s.row = k.next ∙ ap (link t w) k.at in
-    let a = mark_again v b (sym k.goes_on) refl (ap (λ x. get_or m x 0) (sym k.at) ∙ z) next in
-    subst (λ f. Advanced t w m₀ s₀ (set m i 1) (record { row = s'.row; left = f })) left
-    (subst (λ x. Advanced t w m₀ s₀ (set m x 1) (record { row = s'.row; left = s.left - 1 })) (sym k.at) a)
+    let a = mark_again v b (sym k.goes_on) refl (ap (λ x. get_or m x false) (sym k.at) ∙ z) next in
+    subst (λ f. Advanced t w m₀ s₀ (set m i true) (record { row = s'.row; left = f })) left
+    (subst (λ x. Advanced t w m₀ s₀ (set m x true) (record { row = s'.row; left = s.left - 1 })) (sym k.at) a)
 
 -- where it stops, the whole chain is judged
-module _ (t : Table) (w : List ℕ) {m₀ : List ℕ} {s₀ : Cursor} {m : List ℕ} {s s' : Cursor}
+module _ (t : Table) (w : List ℕ) {m₀ : List Bool} {s₀ : Cursor} {m : List Bool} {s s' : Cursor}
     (v : Advanced t w m₀ s₀ m s) where
   -- a row is met for the second time
-  pub mark_twice : {i : ℕ} → Met t w s i s' → (get_or m i 0 ≡ 0 → ⊥) → Unmarked t w m₀ s₀.row s₀.left
+  pub mark_twice : {i : ℕ} → Met t w s i s' → get_or m i false ≡ true → Unmarked t w m₀ s₀.row s₀.left
   unfolding Unmarked front
   mark_twice {i} k z =
       let y = step (link t w) t.count s.left s.row (sym k.goes_on) refl in
@@ -110,12 +122,9 @@ module _ (t : Table) (w : List ℕ) {m₀ : List ℕ} {s₀ : Cursor} {m : List 
           v.met s.row,
           ap (occ s.row) y.row,
           occ_here s.row (rows (link t w) t.count (s.left - 1) (link t w s.row)),
-          ne_zero (get_or m s.row 0) (λ q. z (ap (λ x. get_or m x 0) k.at ∙ q)),
+          mark_set m s.row (ap (λ x. get_or m x false) (sym k.at) ∙ z),
         ),
       )
-    where
-      ne_zero : (x : ℕ) → (x ≡ 0 → ⊥) → 1 ≤ x
-      ne_zero x k = omega arith
 
   module _ (k : Halted t w s s') where
     pub mark_broken : (s'.row ≡ 0 → ⊥) → Unmarked t w m₀ s₀.row s₀.left
@@ -138,7 +147,8 @@ module _ (t : Table) (w : List ℕ) {m₀ : List ℕ} {s₀ : Cursor} {m : List 
 
 -- a walk taken up again where it stopped: it can go on, the steps of both parts are steps of one walk, and what marking
 -- the rest of the chain finds out is so of the whole
-module _ {t : Table} {w m₀ : List ℕ} {s₀ : Cursor} {m : List ℕ} {s : Cursor} (i : Advanced t w m₀ s₀ m s) where
+module _ {t : Table} {w : List ℕ} {m₀ : List Bool} {s₀ : Cursor} {m : List Bool} {s : Cursor}
+    (i : Advanced t w m₀ s₀ m s) where
   pub can_on : CanMark t w s₀.left m₀ → CanMark t w s.left m
   can_on k = record {
     lies = k.lies;
@@ -147,7 +157,7 @@ module _ {t : Table} {w m₀ : List ℕ} {s₀ : Cursor} {m : List ℕ} {s : Cur
     marks = i.marks;
   }
 
-  pub mark_on : {m' : List ℕ} {s' : Cursor} → Advanced t w m s m' s' → Advanced t w m₀ s₀ m' s'
+  pub mark_on : {m' : List Bool} {s' : Cursor} → Advanced t w m s m' s' → Advanced t w m₀ s₀ m' s'
   mark_on j = record {
     fuel = omega (arith, i.fuel, j.fuel);
     marks = j.marks;
@@ -164,7 +174,7 @@ module _ {t : Table} {w m₀ : List ℕ} {s₀ : Cursor} {m : List ℕ} {s : Cur
         | inr n ↦ inr (n.0, omega (arith, n.1, i.met n.0))
       ]
 
-  pub rest_marked : {m' : List ℕ} {left : ℕ} → Marked t w m m' s.row s.left left
+  pub rest_marked : {m' : List Bool} {left : ℕ} → Marked t w m m' s.row s.left left
       → Marked t w m₀ m' s₀.row s₀.left left
   rest_marked y =
       record {
@@ -174,41 +184,40 @@ module _ {t : Table} {w m₀ : List ℕ} {s₀ : Cursor} {m : List ℕ} {s : Cur
         room_left = omega (arith, y.room_left, i.long);
       }
 
-pub few_left : {t : Table} {w : List ℕ} {f : ℕ} {m : List ℕ} → CanMark t w f m → f < MARKS
-few_left k = omega (arith, k.few, k.room_within)
-
 -- a table can be checked, and its free chain be marked from the head on
 pub can_check : {t : Table} {h : Heads} {w : List ℕ} → Laid t h w → t.count < MARKS → CanCheck t h w
 can_check l b = record { lies = lies l; heads_lie = heads_lie l; few = b }
 
-pub can_start : {t : Table} {h : Heads} {w m : List ℕ} {s : Cursor} → CanCheck t h w → s ≡ free_start t h w → Clear m
+pub can_start : {t : Table} {h : Heads} {w : List ℕ} {m : List Bool} {s : Cursor} → CanCheck t h w
+    → s ≡ free_start t h w → Clear m
     → CanMark t w s.left m
 can_start k e c = record {
   lies = k.lies;
   few = k.few;
   room_within = omega (arith, ap (λ s. s.left) e);
-  marks = no_marks c;
+  marks = c.size;
 }
 
-pub begun : {t : Table} {h : Heads} {w m₀ : List ℕ} {s₀ : Cursor} {m : List ℕ} {s : Cursor} → s₀ ≡ free_start t h w
+pub begun : {t : Table} {h : Heads} {w : List ℕ} {m₀ : List Bool} {s₀ : Cursor} {m : List Bool} {s : Cursor}
+    → s₀ ≡ free_start t h w
     → Clear m₀
     → Advanced t w m₀ s₀ m s → Begun t h w m s
 begun {m₀ = m₀} e c i = record { before = m₀; clear = c; advanced = rw e at i }
 
 -- the loop of `partition_from`: the chains before k end, and no row stands on them twice
-pub record PartInv (t : Table) (h : Heads) (w m : List ℕ) (room k : ℕ) : Type 0 where
+pub record PartInv (t : Table) (h : Heads) (w : List ℕ) (m : List Bool) (room k : ℕ) : Type 0 where
   pub upto : k ≤ suc h.owners
   pub marks : Marks m
-  pub met : (i : ℕ) → get_or m i 0 ≡ sum_to k (λ j. occ i (rows_of t h w j))
+  pub met : (i : ℕ) → mark m i ≡ sum_to k (λ j. occ i (rows_of t h w j))
   pub ended_all : all_to k (ended_of t h w) ≡ true
   pub budget : room + sum_to k (λ j. length (rows_of t h w j)) ≡ t.count
 
-pub part_start : (t : Table) (h : Heads) (w : List ℕ) {m : List ℕ} → Clear m → PartInv t h w m t.count 0
+pub part_start : (t : Table) (h : Heads) (w : List ℕ) {m : List Bool} → Clear m → PartInv t h w m t.count 0
 unfolding sum_to all_to
-part_start t h w c = record {
+part_start t h w {m} c = record {
   upto = omega arith;
-  marks = no_marks c;
-  met = c.clear;
+  marks = c.size;
+  met = λ i. mark_clear m i (c.clear i);
   ended_all = refl;
   budget = omega arith;
 }
@@ -221,7 +230,8 @@ within t w f x l e =
     seg_rows (link t w) t.count (rows (link t w) t.count f x) t.count x (rows_seg (link t w) t.count f x e)
     (omega (arith, rows_length (link t w) t.count f x))
 
-pub part_again : {t : Table} {h : Heads} {w m m' : List ℕ} {room k x left : ℕ} → PartInv t h w m room k → k ≤ h.owners
+pub part_again : {t : Table} {h : Heads} {w : List ℕ} {m m' : List Bool} {room k x left : ℕ}
+    → PartInv t h w m room k → k ≤ h.owners
     → x ≡ head_of h w k → Marked t w m m' x room left → PartInv t h w m' left (k + 1)
 unfolding rows_of ended_of sum_to
 part_again {t} {h} {w} {m} {m'} {room} {k} {x} i b p y =
@@ -235,14 +245,15 @@ part_again {t} {h} {w} {m} {m'} {room} {k} {x} i b p y =
     })
 
 -- a chain that cannot be marked
-pub part_broken : {t : Table} {h : Heads} {w m : List ℕ} {room k x : ℕ} → PartInv t h w m room k → k ≤ h.owners
+pub part_broken : {t : Table} {h : Heads} {w : List ℕ} {m : List Bool} {room k x : ℕ}
+    → PartInv t h w m room k → k ≤ h.owners
     → x ≡ head_of h w k → Unmarked t w m x room → partition t h w ≡ false
 unfolding Unmarked front
 part_broken {t} {h} {w} {m} {room} {k} {x} i b p u = bool_false (partition t h w) (λ d. go d u)
   where
     go : partition t h w ≡ true
         → (ends (link t w) t.count room x ≡ false)
-        ⊎ ((j : ℕ) × (2 ≤ get_or m j 0 + occ j (rows (link t w) t.count room x)))
+        ⊎ ((j : ℕ) × (2 ≤ mark m j + occ j (rows (link t w) t.count room x)))
         → ⊥
     go d u =
         let R = rep_of t h w d in
@@ -258,7 +269,7 @@ part_broken {t} {h} {w} {m} {room} {k} {x} i b p u = bool_false (partition t h w
               ap (occ n.0) (ap (rows (link t w) t.count room) p ∙ s.0) in
               let row =
               seg_in (link t w) t.count (rows_of t h w k) (head_of h w k) 0 n.0 seg
-              (omega (arith, n.1, i.marks.single n.0)) in
+              (omega (arith, n.1, mark_most m n.0)) in
               omega (
                 arith,
                 n.1,
@@ -269,15 +280,15 @@ part_broken {t} {h} {w} {m} {room} {k} {x} i b p u = bool_false (partition t h w
         ]
 
 -- the free chain is the first, however far it was marked before
-module _ {t : Table} {h : Heads} {w m : List ℕ} {s : Cursor} (b : Begun t h w m s) where
+module _ {t : Table} {h : Heads} {w : List ℕ} {m : List Bool} {s : Cursor} (b : Begun t h w m s) where
   pub free_broken : Unmarked t w m s.row s.left → partition t h w ≡ false
   free_broken u = part_broken (part_start t h w b.clear) (omega arith) refl (rest_unmarked b.advanced u)
 
-  pub free_marked : {m' : List ℕ} {left : ℕ} → Marked t w m m' s.row s.left left → PartInv t h w m' left 1
+  pub free_marked : {m' : List Bool} {left : ℕ} → Marked t w m m' s.row s.left left → PartInv t h w m' left 1
   free_marked y = part_again (part_start t h w b.clear) (omega arith) refl (rest_marked b.advanced y)
 
 -- all chains are marked: if the budget is spent, every row was met
-module _ (t : Table) (h : Heads) (w : List ℕ) {m : List ℕ} {room : ℕ} (i : PartInv t h w m room (suc h.owners)) where
+module _ (t : Table) (h : Heads) (w : List ℕ) {m : List Bool} {room : ℕ} (i : PartInv t h w m room (suc h.owners)) where
   part_full : room ≡ 0 → partition t h w ≡ true
   unfolding on_chains
   part_full z =
@@ -287,7 +298,7 @@ module _ (t : Table) (h : Heads) (w : List ℕ) {m : List ℕ} {room : ℕ} (i :
       lengths_of t.count (suc h.owners) (link t w) (head_of h w) (rows_of t h w)
       (λ k l. ended_seg t h w k (ended k (omega arith))) in
       let full =
-      sum_full (λ j. on_chains t h w (suc j)) t.count (λ j l. omega (arith, i.met (suc j), i.marks.single (suc j)))
+      sum_full (λ j. on_chains t h w (suc j)) t.count (λ j l. omega (arith, i.met (suc j), mark_most m (suc j)))
       (omega (arith, sum, i.budget)) in
       partition_in t h w (record {
         ended_all = ended;
@@ -298,7 +309,7 @@ module _ (t : Table) (h : Heads) (w : List ℕ) {m : List ℕ} {room : ℕ} (i :
   part_left : (room ≡ 0 → ⊥) → partition t h w ≡ false
   part_left z = bool_false (partition t h w) (λ d. z (omega (arith, i.budget, lengths (rep_of t h w d))))
 
-pub part_end : {t : Table} {h : Heads} {w m : List ℕ} {room k : ℕ} → PartInv t h w m room k → h.owners < k
+pub part_end : {t : Table} {h : Heads} {w : List ℕ} {m : List Bool} {room k : ℕ} → PartInv t h w m room k → h.owners < k
     → eqb room 0 ≡ partition t h w
 part_end {t} {h} {w} {m} {room} {k} i b =
     let e : k ≡ suc h.owners = omega (arith, i.upto) in

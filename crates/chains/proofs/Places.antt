@@ -4,6 +4,7 @@ use Prim.Native.Nat.{ℕ}
 use mathlib.Core.Path.{◌≡◌, refl, ap, ◌∙◌}
 use mathlib.Core.Bool.{Bool, true, false}
 use mathlib.Core.List.{List, [], ◌∷◌, ◌++◌}
+use Rattle.std.specs.Prelude.{Some}
 use Rattle.chains.specs.declared.Table.{Table}
 use Rattle.chains.specs.declared.Heads.{Heads}
 use Rattle.chains.specs.Lists.{last_or, take_while, drop_while}
@@ -41,19 +42,18 @@ unfolding last_or
 start_place t h w a = record { upto = []; beyond = rows_of t h w a; split = record { parts = refl; last = refl } }
 
 -- the code's steps of `insert_sorted`, where there is a row to insert
-pub sorted_law : {t : Table} {h : Heads} {w w' : List ℕ} {a b r x p : ℕ} (o q : ℕ) (rising : Bool)
+pub sorted_law : {t : Table} {h : Heads} {w w' : List ℕ} {a b r x p : ℕ} (o q : ℕ) (precedes : ℕ → ℕ → Bool)
     → Ready t h w a b → r ≡ head_of h w b → (r ≡ 0 → ⊥) → x ≡ head_of h w a
-    → p ≡ last_or 0 (take_while (stands_before rising t w o q) (chain t w x)) → Inserted t h w w' a b p r
-    → Taken h w w' b r (InsertedSorted t h w w' a b o q rising r)
+    → p ≡ last_or 0 (take_while (stands_before precedes t w o q) (chain t w x)) → Inserted t h w w' a b p r
+    → Taken h w w' b (Some r) (InsertedSorted t h w w' a b o q precedes)
 unfolding Inserted
-sorted_law {t} {h} {w} {w'} {a} {b} {r} o q rising rd e z ex ep i =
+sorted_law {t} {h} {w} {w'} {a} {b} {r} o q precedes rd e z ex ep i =
     let c = head_cons t h w rd.parted b r rd.b_in e z in
     record {
       head = e;
-      empty = λ k. absurd (z k);
-      done = λ _. record {
+      done = record {
         row = c.1;
         taken = c.0;
-        changed = i _ _ (front_split t h w a (stands_before rising t w o q) ex ep);
+        changed = i _ _ (front_split t h w a (stands_before precedes t w o q) ex ep);
       };
     }

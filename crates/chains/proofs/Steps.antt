@@ -6,6 +6,7 @@ use mathlib.Core.List.{List, [], ◌∷◌, ◌++◌, tail}
 use native.Mathlib.Omega.{arith}
 use lib.ListN.{get_or, set, length-set}
 use lib.Seq.{get_or-set_other}
+use Rattle.std.specs.Prelude.{Some}
 use Rattle.chains.specs.declared.Table.{Table}
 use Rattle.chains.specs.declared.Heads.{Heads}
 use Rattle.chains.specs.Lists.{occ, first, last_or}
@@ -160,14 +161,13 @@ first_follows {t} {h} {w} {a} {b} {r} rd e z = record {
 }
 
 pub move_law : {t : Table} {h : Heads} {w w' : List ℕ} {a b r : ℕ} → Ready t h w a b → r ≡ head_of h w a → (r ≡ 0 → ⊥)
-    → Unlinked t h w w' a b 0 r → Taken h w w' a r (Moved t h w w' a b r)
+    → Unlinked t h w w' a b 0 r → Taken h w w' a (Some r) (Moved t h w w' a b)
 unfolding Unlinked first_follows
 move_law {t} {h} {w} {w'} {a} {b} {r} rd e z u =
     let c = head_cons t h w rd.parted a r rd.a_in e z in
     record {
       head = e;
-      empty = λ k. absurd (z k);
-      done = λ _. record {
+      done = record {
         row = c.1;
         taken = c.0;
         changed = u [] (tail (rows_of t h w a)) (first_follows rd e z).split;

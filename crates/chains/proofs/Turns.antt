@@ -1,9 +1,9 @@
 -- Unlinking by any test: the walk along chain a whose turns send the rows that pass to chain b. TurnInv is its
--- invariant, for any test on rows: turn_start, turn_ready, turn_again and turn_end answer a caller's loop. A step reads
--- the row's link before the turn changes the words: m is what it ensures. Rests on Steps and Frames.
+-- invariant, for any test on rows: turn_start, turn_ready, turn_hit, turn_miss and turn_end answer a caller's loop. A
+-- step reads the row's link before the turn changes the words: m is what it ensures. Rests on Steps and Frames.
 use Prim.Native.Nat.{ℕ, ◌+◌, ◌-◌, ◌≤◌, ◌<◌}
 use mathlib.Core.Path.{◌≡◌, refl, sym, ap, subst, ◌∙◌}
-use mathlib.Core.Bool.{Bool, true, false, cond, false≢true}
+use mathlib.Core.Bool.{Bool, true, false, false≢true}
 use mathlib.Core.List.{List, [], ◌∷◌, ◌++◌, append-nil, reverse_aux}
 use native.Mathlib.Omega.{arith}
 use lib.ListN.{length, get_or, set, length-append}
@@ -15,7 +15,7 @@ use Rattle.chains.specs.Walk.{IsRow}
 use Rattle.chains.specs.Cursor.{start, Met, Halted}
 use Rattle.chains.specs.Table.{place, field, link, head_of, rows_of, after_cell, Laid}
 use Rattle.chains.specs.Partition.{partition}
-use Rattle.chains.specs.Change.{Ready, Elsewhere, Changed, Split, Follows, Unlinked, Turned}
+use Rattle.chains.specs.Change.{Ready, Elsewhere, Changed, Split, Follows, Unlinked}
 use Rattle.chains.proofs.Occurs.{occ_here, occ_append, last_snoc, snoc, cons_of}
 use Rattle.chains.proofs.Walks.{more_in}
 use Rattle.chains.proofs.Stepping.{met_in}
@@ -191,19 +191,13 @@ module _ {t : Table} {h : Heads} {test : ℕ → Bool} {w₀ : List ℕ} {a b : 
         walk = subst (λ y. Seg (link t w₀) t.count y zs 0) (sym (m.next ∙ next_kept zs eq)) (walk_on zs eq);
       }
 
-  -- a turn of `unlink_turn`, whose verdict is the test's
-  pub turn_again : {w' : List ℕ} {place' : ℕ} (hit : Bool) → hit ≡ test cur
-      → Turned t h w w' a b place cur hit place' → TurnInv t h test w₀ a b ks ys w' place' s'
-  turn_again true k u = let g = u.taken refl in rw g.0 (turn_hit (sym k) g.1)
-  turn_again false k u = let g = u.left refl in rw (g.0, g.1) (turn_miss (sym k))
-
-  -- how many rows chain a loses in a turn, for a caller that counts them
-  pub turn_count : {w' : List ℕ} {place' : ℕ} (hit : Bool) → Turned t h w w' a b place cur hit place'
-      → cond hit 1 0 + length (rows_of t h w' a) ≡ length (rows_of t h w a)
+  -- chain a loses one row, for a caller that counts them
+  pub turn_count : (w' : List ℕ) → Unlinked t h w w' a b place cur
+      → 1 + length (rows_of t h w' a) ≡ length (rows_of t h w a)
   unfolding Unlinked
-  turn_count true u =
+  turn_count w' u =
       let f = turn_ready.1 in
-      let c = (u.taken refl).1 f.upto f.beyond f.split in
+      let c = u f.upto f.beyond f.split in
       omega (
         arith,
         ap length c.at_a,
@@ -211,7 +205,6 @@ module _ {t : Table} {h : Heads} {test : ℕ → Bool} {w₀ : List ℕ} {a b : 
         length-append f.upto f.beyond,
         length-append f.upto (cur ∷ f.beyond),
       )
-  turn_count false u = omega (arith, ap (λ y. length (rows_of t h y a)) (u.left refl).1)
 
 -- the end of the walk: no row is ahead
 module _ {t : Table} {h : Heads} {test : ℕ → Bool} {w₀ : List ℕ} {a b : ℕ} {ks ys : List ℕ} {w : List ℕ} {place : ℕ}

@@ -1,6 +1,6 @@
 -- What the mutators do. One record, Changed, is what each of them promises: two chains are as named, every other chain
 -- and every word but head and link words is as before, and every row is still on exactly one chain. Rests on Partition.
-use Rattle.std.specs.Prelude.{ℕ, ◌≤◌, ◌≡◌, Bool, true, false, length, get_or, set}
+use Rattle.std.specs.Prelude.{ℕ, ◌≤◌, ◌≡◌, Bool, true, length, get_or, set, Option, MatchOption}
 use mathlib.Core.List.{List, ◌∷◌, ◌++◌, tail, reverse_aux}
 use Rattle.chains.specs.declared.Table.{Table}
 use Rattle.chains.specs.declared.Heads.{Heads}
@@ -47,12 +47,17 @@ pub record Moved (t : Table) (h : Heads) (w w' : List ℕ) (a b r : ℕ) : Type 
   pub taken : rows_of t h w a ≡ r ∷ tail (rows_of t h w a)
   pub changed : Changed t h w w' a b (tail (rows_of t h w a)) (r ∷ rows_of t h w b)
 
--- the answer of a mutator that takes chain a's first row: the row, or 0 where there is none; Done is what holds if
--- there is one
-pub record Taken (h : Heads) (w w' : List ℕ) (a r : ℕ) (Done : Type 0) : Type 0 where
+-- the answer of a mutator that takes chain a's first row: the row, of which Done holds, or none where there is none
+pub record Empty (h : Heads) (w w' : List ℕ) (a : ℕ) : Type 0 where
+  pub head : head_of h w a ≡ 0
+  pub same : w' ≡ w
+
+pub record First (h : Heads) (w : List ℕ) (a : ℕ) (Done : ℕ → Type 0) (r : ℕ) : Type 0 where
   pub head : r ≡ head_of h w a
-  pub empty : r ≡ 0 → w' ≡ w
-  pub done : 1 ≤ r → Done
+  pub done : Done r
+
+abbrev pub Taken : Heads → List ℕ → List ℕ → ℕ → Option ℕ → (ℕ → Type 0) → Type 0
+Taken h w w' a r Done = MatchOption r (Empty h w w' a) (First h w a Done)
 
 -- place p parts chain a into ks, which ends in row p (p is 0: ks is empty), and ys
 pub record Split (t : Table) (h : Heads) (w : List ℕ) (a p : ℕ) (ks ys : List ℕ) : Type 0 where
@@ -76,23 +81,17 @@ Inserted t h w w' a b p r =
     (ks ys : List ℕ) → Split t h w a p ks ys → Changed t h w w' a b (ks ++ r ∷ ys) (tail (rows_of t h w b))
 
 -- r, the first row of chain b, now stands on chain a after the front of rows whose word o comes before q
-pub record InsertedSorted (t : Table) (h : Heads) (w w' : List ℕ) (a b o q : ℕ) (rising : Bool) (r : ℕ) : Type 0 where
+pub record InsertedSorted (t : Table) (h : Heads) (w w' : List ℕ) (a b o q : ℕ) (precedes : ℕ → ℕ → Bool)
+    (r : ℕ) : Type 0 where
   pub row : IsRow t.count r
   pub taken : rows_of t h w b ≡ r ∷ tail (rows_of t h w b)
   pub changed :
-      Changed t h w w' a b (insert_after (stands_before rising t w o q) r (rows_of t h w a)) (tail (rows_of t h w b))
+      Changed t h w w' a b (insert_after (stands_before precedes t w o q) r (rows_of t h w a)) (tail (rows_of t h w b))
 
 -- row r, after place p of chain a, has become the first of chain b
 unfoldable pub Unlinked : Table → Heads → List ℕ → List ℕ → ℕ → ℕ → ℕ → ℕ → Type 0
 Unlinked t h w w' a b p r =
     (ks ys : List ℕ) → Split t h w a p ks (r ∷ ys) → Changed t h w w' a b (ks ++ ys) (r ∷ rows_of t h w b)
-
--- one turn of unlinking by a test, at row r after place p, with the verdict hit: the row goes to chain b and the place
--- stays, or the place becomes r
-pub record Turned (t : Table) (h : Heads) (w w' : List ℕ) (a b p r : ℕ) (hit : Bool) (p' : ℕ) : Type 0 where
-  pub taken : hit ≡ true → (p' ≡ p) × Unlinked t h w w' a b p r
-  pub left : hit ≡ false → (p' ≡ r) × (w' ≡ w)
-  pub size : length w' ≡ length w
 
 -- chain a has lost the rows of which test holds, and chain b has gained them
 abbrev pub UnlinkedBy : (ℕ → Bool) → Table → Heads → List ℕ → List ℕ → ℕ → ℕ → Type 0

@@ -5,5 +5,6 @@ pub mod Walk
 pub mod Table
 pub mod Cursor
 pub mod Partition
+pub mod Checked
 pub mod Change
 pub mod Walker

@@ -26,11 +26,6 @@ unfoldable pub last_or : ℕ → List ℕ → ℕ
 last_or d [] = d
 last_or d (x ∷ xs) = last_or x xs
 
--- a fold from the first on
-unfoldable pub fold {ℓ} : {A : Type ℓ} → (A → ℕ → A) → A → List ℕ → A
-fold g a [] = a
-fold g a (x ∷ xs) = fold g (g a x) xs
-
 -- p holds of every element
 unfoldable pub all_of {ℓ} : {A : Type ℓ} → (A → Bool) → List A → Bool
 all_of p [] = true

@@ -1,6 +1,6 @@
 -- Every row of a table is on exactly one chain, once; what the check finds out of one chain, and what a walk along it
 -- keeps that may stop anywhere. Rests on Table.
-use Rattle.std.specs.Prelude.{ℕ, suc, ◌+◌, ◌≤◌, ◌<◌, ◌≡◌, ◌⊎◌, Bool, true, false, ◌&&◌, List, length, get_or, eqb}
+use Rattle.std.specs.Prelude.{ℕ, suc, ◌+◌, ◌≤◌, ◌<◌, ◌≡◌, ◌⊎◌, Bool, true, false, cond, ◌&&◌, List, length, get_or, eqb}
 use Rattle.std.specs.Prelude.{Option, MatchOption}
 use Rattle.chains.specs.declared.Table.{Table}
 use Rattle.chains.specs.declared.Heads.{Heads}
@@ -31,30 +31,32 @@ used t h w = sum_to h.owners (λ k. length (rows_of t h w (suc k)))
 abbrev pub MARKS : ℕ
 MARKS = 4096
 
--- marks: one byte for each row, 1 where the row has been met
-pub record Marks (m : List ℕ) : Type 0 where
-  pub size : length m ≡ MARKS
-  pub single : (i : ℕ) → get_or m i 0 ≤ 1
+-- marks: for each row, whether it has been met; and that as a number
+abbrev pub Marks : List Bool → Type 0
+Marks m = length m ≡ MARKS
 
-pub record Clear (m : List ℕ) : Type 0 where
-  pub size : length m ≡ MARKS
-  pub clear : (i : ℕ) → get_or m i 0 ≡ 0
+abbrev pub mark : List Bool → ℕ → ℕ
+mark m i = cond (get_or m i false) 1 0
+
+pub record Clear (m : List Bool) : Type 0 where
+  pub size : Marks m
+  pub clear : (i : ℕ) → get_or m i false ≡ false
 
 -- the chain from head has been marked: it ends within room rows, no row of it was marked before or stands on it twice,
 -- left rows of the room remain
-pub record Marked (t : Table) (w m m' : List ℕ) (head room left : ℕ) : Type 0 where
+pub record Marked (t : Table) (w : List ℕ) (m m' : List Bool) (head room left : ℕ) : Type 0 where
   pub ended_in : ends (link t w) t.count room head ≡ true
   pub marks : Marks m'
-  pub added : (i : ℕ) → get_or m' i 0 ≡ get_or m i 0 + occ i (front t w room head)
+  pub added : (i : ℕ) → mark m' i ≡ mark m i + occ i (front t w room head)
   pub room_left : left + length (front t w room head) ≡ room
 
 -- it cannot be marked: it does not end within the room, or a row is met for the second time
-unfoldable pub Unmarked : Table → List ℕ → List ℕ → ℕ → ℕ → Type 0
+unfoldable pub Unmarked : Table → List ℕ → List Bool → ℕ → ℕ → Type 0
 Unmarked t w m head room =
-    (ends (link t w) t.count room head ≡ false) ⊎ ((i : ℕ) × (2 ≤ get_or m i 0 + occ i (front t w room head)))
+    (ends (link t w) t.count room head ≡ false) ⊎ ((i : ℕ) × (2 ≤ mark m i + occ i (front t w room head)))
 
 -- the check's answer for one chain: the room left, or none if it cannot be marked
-abbrev pub MarkedChain : Table → List ℕ → List ℕ → List ℕ → ℕ → ℕ → Option ℕ → Type 0
+abbrev pub MarkedChain : Table → List ℕ → List Bool → List Bool → ℕ → ℕ → Option ℕ → Type 0
 MarkedChain t w m m' head room r =
     MatchOption r (Unmarked t w m head room) (λ left. Marked t w m m' head room left)
 
@@ -65,7 +67,7 @@ pub record CanCheck (t : Table) (h : Heads) (w : List ℕ) : Type 0 where
   pub few : t.count < MARKS
 
 -- a chain of it can be marked within the room
-pub record CanMark (t : Table) (w : List ℕ) (room : ℕ) (m : List ℕ) : Type 0 where
+pub record CanMark (t : Table) (w : List ℕ) (room : ℕ) (m : List Bool) : Type 0 where
   pub lies : Lies t w
   pub few : t.count < MARKS
   pub room_within : room ≤ t.count
@@ -74,11 +76,12 @@ pub record CanMark (t : Table) (w : List ℕ) (room : ℕ) (m : List ℕ) : Type
 -- A walk that marks has come from s₀ to s, some rows further or none: the rows ahead of s and the new marks are
 -- together what was ahead of s₀. Nothing is said of where it stopped or why, so that what is found out of the rest of
 -- the chain is so of the whole (proofs/Parts, `mark_rest`)
-pub record Advanced (t : Table) (w m₀ : List ℕ) (s₀ : Cursor) (m : List ℕ) (s : Cursor) : Type 0 where
+pub record Advanced (t : Table) (w : List ℕ) (m₀ : List Bool) (s₀ : Cursor) (m : List Bool)
+    (s : Cursor) : Type 0 where
   pub fuel : s.left ≤ s₀.left
   pub marks : Marks m
   pub met : (i : ℕ)
-      → get_or m i 0 + occ i (front t w s.left s.row) ≡ get_or m₀ i 0 + occ i (front t w s₀.left s₀.row)
+      → mark m i + occ i (front t w s.left s.row) ≡ mark m₀ i + occ i (front t w s₀.left s₀.row)
   pub end : ends (link t w) t.count s.left s.row ≡ ends (link t w) t.count s₀.left s₀.row
   pub long : length (front t w s.left s.row) + s₀.left ≡ length (front t w s₀.left s₀.row) + s.left
 
@@ -87,7 +90,7 @@ abbrev pub free_start : Table → Heads → List ℕ → Cursor
 free_start t h w = record { row = head_of h w 0; left = t.count }
 
 -- it started there with no row marked, and is now at s
-pub record Begun (t : Table) (h : Heads) (w m : List ℕ) (s : Cursor) : Type 0 where
-  pub before : List ℕ
+pub record Begun (t : Table) (h : Heads) (w : List ℕ) (m : List Bool) (s : Cursor) : Type 0 where
+  pub before : List Bool
   pub clear : Clear before
   pub advanced : Advanced t w before (free_start t h w) m s

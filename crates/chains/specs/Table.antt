@@ -1,10 +1,9 @@
 -- A table of rows in a list of words, its chains, and the words at which they start.
 -- The chains of a table are numbered: 0 is the free chain, k + 1 the chain of owner k. Rests on Walk.
-use Rattle.std.specs.Prelude.{ℕ, zero, suc, ◌+◌, ◌*◌, ◌-◌, ◌≤◌, ◌<◌, max, Bool, true, false, cond, List, length, get_or}
+use Rattle.std.specs.Prelude.{ℕ, zero, suc, ◌+◌, ◌*◌, ◌-◌, ◌≤◌, ◌<◌, Bool, true, false, List, length, get_or}
 use Rattle.std.specs.Prelude.{ltb, eqb, Option, None, Some}
 use Rattle.chains.specs.declared.Table.{Table}
 use Rattle.chains.specs.declared.Heads.{Heads}
-use Rattle.chains.specs.Lists.{fold}
 use Rattle.chains.specs.Walk.{rows, ends}
 
 -- the place of word o of row i, and the word there
@@ -80,16 +79,12 @@ unfoldable pub holds : Table → List ℕ → ℕ → ℕ → ℕ → Bool
 holds t w o v x = eqb (field t w x o) v
 
 -- x comes before q on a chain: below it where words rise, above it where they fall
-unfoldable pub precedes : Bool → ℕ → ℕ → Bool
-precedes rising x q = cond rising (ltb x q) (ltb q x)
+unfoldable pub rising : ℕ → ℕ → Bool
+rising x q = ltb x q
+
+unfoldable pub falling : ℕ → ℕ → Bool
+falling x q = ltb q x
 
 -- word o of row i comes before q
-unfoldable pub stands_before : Bool → Table → List ℕ → ℕ → ℕ → ℕ → Bool
-stands_before rising t w o q i = precedes rising (field t w i o) q
-
--- the largest word o among the rows of the chain from h, or 0
-unfoldable pub larger : Table → List ℕ → ℕ → ℕ → ℕ → ℕ
-larger t w o best x = max best (field t w x o)
-
-unfoldable pub largest : Table → List ℕ → ℕ → ℕ → ℕ
-largest t w o h = fold (larger t w o) 0 (chain t w h)
+unfoldable pub stands_before : (ℕ → ℕ → Bool) → Table → List ℕ → ℕ → ℕ → ℕ → Bool
+stands_before precedes t w o q i = precedes (field t w i o) q

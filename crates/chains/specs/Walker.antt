@@ -8,11 +8,11 @@ use Rattle.chains.specs.Table.{field}
 use Rattle.chains.specs.Cursor.{ahead}
 
 unfoldable pub rows_left : Walk → List ℕ
-rows_left s = ahead s.table s.words.now s.cursor
+rows_left s = ahead s.of.table s.of.words.now s.cursor
 
 -- rows with their word o
 unfoldable pub with_word : Table → List ℕ → ℕ → List ℕ → List (ℕ × ℕ)
 with_word t w o rs = map (λ i. (i, field t w i o)) rs
 
 unfoldable pub fields_left : Fields → List (ℕ × ℕ)
-fields_left s = with_word s.table s.words.now s.off (ahead s.table s.words.now s.cursor)
+fields_left s = with_word s.of.table s.of.words.now s.off (ahead s.of.table s.of.words.now s.cursor)

@@ -7,25 +7,28 @@
 // promise the two chains they touch, all others and all other words unchanged, and that every row is still on exactly
 // one chain (`Changed`).
 //
-// This file has the types and the access to single words; `queries` walks chains, `partition` checks them. The crate
-// `updates` changes them.
+// This file has the types and the access to single words; `placed` reads tables and walks chains, `partition` checks
+// them. The crate `updates` changes them.
 #![tactic(auto)]
 
+mod order;
 mod partition;
-mod queries;
+mod placed;
 mod walk;
 
 ghost use Rattle.std.specs.Prelude.{◌≡◌, ◌+◌, ◌*◌, ◌<◌, ◌≤◌, get_or, set};
 ghost use Rattle.chains.specs.Walk.{IsRow, more};
 ghost use Rattle.chains.specs.Cursor.{start, Stepped};
-ghost use Rattle.chains.specs.Table.{Lies, HeadsLie, Laid, place, field, link, head_cell, head_of, after_cell};
+ghost use Rattle.chains.specs.Table.{Lies, HeadsLie, Laid, place, field, head_cell, head_of, after_cell};
 
-pub use partition::partitions_ok;
-pub use queries::{all_with, chain_length, find_place, first_with, largest};
+pub use order::{Falling, Order, Rising};
+pub use partition::{MARKS, partitions_ok};
+pub use placed::Placed;
 pub use walk::{Fields, Walk};
 
 // Where a table's rows lie: its first word, the width of a row, the link word's offset in a row, the number of rows.
 // Rows count from 1.
+// Kept: rows linked by their numbers in the lent words are the form of document 01, and there is no heap
 #[derive(Clone, Copy)]
 pub struct Table {
     pub base: usize,
@@ -36,6 +39,7 @@ pub struct Table {
 
 // Where the head words lie: the free chain's, the first owner's, the distance from one owner's to the next, the number
 // of owners.
+// Kept: rows linked by their numbers in the lent words are the form of document 01, and there is no heap
 #[derive(Clone, Copy)]
 pub struct Heads {
     pub free: usize,
@@ -45,43 +49,24 @@ pub struct Heads {
 }
 
 // How far a walk along a chain has come: the row that it meets next, and how many rows it may still meet.
+// Kept: rows linked by their numbers in the lent words are the form of document 01, and there is no heap
 #[derive(Clone, Copy)]
 pub struct Cursor {
     pub row: usize,
     pub left: usize,
 }
 
-// Three tables that are checked together, and a walk in each.
+// A table with its chains.
+// Kept: rows linked by their numbers in the lent words are the form of document 01, and there is no heap
 #[derive(Clone, Copy)]
-pub struct Tables {
-    pub a: Table,
-    pub b: Table,
-    pub c: Table,
-}
-
-#[derive(Clone, Copy)]
-pub struct Cursors {
-    pub a: Cursor,
-    pub b: Cursor,
-    pub c: Cursor,
-}
-
-// A word as a number, and back.
-
-pub fn wide(x: u64) -> usize
-    ensures { result ≡ x }
-{
-    x as usize
-}
-
-pub fn word(v: usize) -> u64
-    ensures { result ≡ v }
-{
-    v as u64
+pub struct Linked {
+    pub table: Table,
+    pub heads: Heads,
 }
 
 // Rows' words.
 
+// Kept: what place and put share; a struct for a row number would hold one fact of a number that is read from a link
 fn at(t: Table, i: usize, o: usize, n: usize) -> usize
     requires { (t.base + t.count * t.stride ≤ n) × IsRow t.count i × (o < t.stride) }
     ensures { (result ≡ place t i o) × (result < n) }
@@ -89,31 +74,18 @@ fn at(t: Table, i: usize, o: usize, n: usize) -> usize
     t.base + (i - 1) * t.stride + o
 }
 
-pub fn get(w: &[u64], t: Table, i: usize, o: usize) -> usize
-    requires { Lies t w.now × IsRow t.count i × (o < t.stride) }
-    ensures { result ≡ field t w.now i o }
-{
-    let k = at(t, i, o, w.len());
-    wide(w[k])
-}
-
+// Kept: a struct with the facts of lent words cannot hold them as `&mut` while they change
 pub fn put(w: &mut [u64], t: Table, i: usize, o: usize, v: usize)
     requires { Lies t w.old × IsRow t.count i × (o < t.stride) }
     ensures { w.new ≡ set w.old (place t i o) v }
 {
     let k = at(t, i, o, w.len());
-    w[k] = word(v);
-}
-
-pub fn next_of(w: &[u64], t: Table, i: usize) -> usize
-    requires { Lies t w.now × IsRow t.count i }
-    ensures { result ≡ link t w.now i }
-{
-    get(w, t, i, t.off)
+    w[k] = v as u64;
 }
 
 // Head words.
 
+// Kept: what head_of and set_head share; the number of a chain comes from its caller's counts, which are not here
 fn head_at(h: Heads, k: usize, n: usize) -> usize
     requires { (h.free < n) × (h.first + h.owners * h.step ≤ n) × (0 < h.step) × (k ≤ h.owners) }
     ensures { (result ≡ head_cell h k) × (result < n) }
@@ -125,61 +97,63 @@ fn head_at(h: Heads, k: usize, n: usize) -> usize
     }
 }
 
+// Kept: the answer is the word of document 01, where 0 is for an empty chain, and the words may be lent as `&mut`
 pub fn head_of(w: &[u64], h: Heads, k: usize) -> usize
     requires { HeadsLie h w.now × (k ≤ h.owners) }
     ensures { result ≡ head_of h w.now k }
 {
     let a = head_at(h, k, w.len());
-    wide(w[a])
+    w[a] as usize
 }
 
+// Kept: a struct with the facts of lent words cannot hold them as `&mut` while they change
 pub fn set_head(w: &mut [u64], h: Heads, k: usize, v: usize)
     requires { HeadsLie h w.old × (k ≤ h.owners) }
     ensures { w.new ≡ set w.old (head_cell h k) v }
 {
     let a = head_at(h, k, w.len());
-    w[a] = word(v);
+    w[a] = v as u64;
 }
 
 // Places. A place on a chain is a row of it, or 0 for its start.
 
-pub fn next_after(w: &[u64], t: Table, h: Heads, a: usize, p: usize) -> usize
-    requires { Laid t h w.now × (a ≤ h.owners) × (p ≤ t.count) }
-    ensures { result ≡ get_or w.now (after_cell t h a p) 0 }
+// Kept: the answer is the word of document 01, where 0 ends a chain; it is stored in another link word
+pub fn next_after(w: &[u64], c: Linked, a: usize, p: usize) -> usize
+    requires { Laid c.table c.heads w.now × (a ≤ c.heads.owners) × (p ≤ c.table.count) }
+    ensures { result ≡ get_or w.now (after_cell c.table c.heads a p) 0 }
 {
     if p == 0 {
-        head_of(w, h, a)
+        head_of(w, c.heads, a)
     } else {
-        next_of(w, t, p)
+        let table = c.table;
+        Placed { words: w, table }.link(p)
     }
 }
 
-pub fn set_after(w: &mut [u64], t: Table, h: Heads, a: usize, p: usize, v: usize)
-    requires { Laid t h w.old × (a ≤ h.owners) × (p ≤ t.count) }
-    ensures { w.new ≡ set w.old (after_cell t h a p) v }
+// Kept: rows linked by their numbers in the lent `&mut` words are the form of document 01, and there is no heap
+pub fn set_after(w: &mut [u64], c: Linked, a: usize, p: usize, v: usize)
+    requires { Laid c.table c.heads w.old × (a ≤ c.heads.owners) × (p ≤ c.table.count) }
+    ensures { w.new ≡ set w.old (after_cell c.table c.heads a p) v }
 {
     if p == 0 {
-        set_head(w, h, a, v);
+        set_head(w, c.heads, a, v);
     } else {
-        put(w, t, p, t.off, v);
+        put(w, c.table, p, c.table.off, v);
     }
 }
 
 // Whether a walk that may still meet `left` of n rows goes on at i.
-pub fn more(n: usize, left: usize, i: usize) -> bool
+// Kept: the bounds of a walk along links that any words may hold
+#[tactic(auto, unfolding(crate::specs::Walk::more, crate::specs::Walk::among))]
+fn more(n: usize, left: usize, i: usize) -> bool
     ensures { result ≡ more n left i }
 {
-    if left == 0 {
-        return false;
-    }
-    if i == 0 {
-        return false;
-    }
-    i <= n
+    1 <= left && 1 <= i && i <= n
 }
 
 impl Cursor {
     // A walk from a chain's first row, which may meet every row of the table.
+    // Kept: rows linked by their numbers in the lent words are the form of document 01, and there is no heap
     pub fn new(t: Table, head: usize) -> Cursor
         ensures { result ≡ start t head }
     {
@@ -189,17 +163,25 @@ impl Cursor {
         }
     }
 
+    // Kept: rows linked by their numbers in the lent words are the form of document 01, and there is no heap
     // The next row of the walk, which then stands after it; none at the end of the chain or with no row left.
+    pub fn along(&mut self, t: &Placed) -> Option<usize>
+        ensures { Stepped t.now.table t.now.words.now self.old result self.new }
+    {
+        let i = self.row;
+        if !more(t.table.count, self.left, i) {
+            return None;
+        }
+        self.row = t.link(i);
+        self.left -= 1;
+        Some(i)
+    }
+
+    // The same step, for callers that are not ported yet.
     pub fn step(&mut self, w: &[u64], t: Table) -> Option<usize>
         requires { Lies t w.now }
         ensures { Stepped t w.now self.old result self.new }
     {
-        let i = self.row;
-        if !more(t.count, self.left, i) {
-            return None;
-        }
-        self.row = next_of(w, t, i);
-        self.left -= 1;
-        Some(i)
+        self.along(&Placed { words: w, table: t })
     }
 }

@@ -2,165 +2,130 @@
 // table, and a row met for the second time ends the check, so that on any words it takes at most one turn of a loop for
 // each row and one for each chain. The three free chains, the long ones of tables with room, are walked in one loop:
 // the next step of a walk waits for a link word from memory, and three walks wait for theirs at the same time. Rests on
-// lib.rt.
-ghost use Rattle.std.specs.Prelude.{◌≡◌, ◌&&◌, ◌+◌, ◌<◌};
-ghost use Rattle.chains.specs.Table.{HeadsLie};
-ghost use Rattle.chains.specs.Partition.{MARKS, partition, Clear, MarkedChain, CanCheck, CanMark, Advanced};
-ghost use Rattle.chains.specs.Partition.{free_start, Begun};
+// lib.rt and placed.rt.
+ghost use Rattle.std.specs.Prelude.{◌≡◌, ◌&&◌};
+ghost use Rattle.chains.specs.Partition.{MARKS, partition, CanCheck, CanMark, MarkedChain, Begun};
+ghost use Rattle.chains.specs.Checked.{Starts, Advances, Steps};
 
-use crate::{Cursor, Cursors, Heads, Table, Tables, head_of};
+use crate::{Cursor, Heads, Linked, Placed, head_of};
 
 // A mark for each row number from 0 on, so that a row is its own index: a table that is checked has fewer rows.
-const MARKS: usize = 4096;
+pub const MARKS: usize = 4096;
 
-// Marks the rows that a walk has still to meet, up to the chain's end. Replies what it leaves of the walk's room; none
-// if a row is marked already or the chain does not end within the room.
-fn mark_chain(w: &[u64], t: Table, mut walk: Cursor, marks: &mut [u8; MARKS]) -> Option<usize>
-    requires { CanMark t w.now walk.left marks.old }
-    ensures { MarkedChain t w.now marks.old marks.new walk.row walk.left result }
-{
-    while let Some(row) = walk.step(w, t) {
-        if marks[row] != 0 {
-            return None;
+// A table that is checked: the walk along its free chain, and which rows were met.
+#[derive(Drop)]
+struct Check<'a> {
+    of: Placed<'a>,
+    walk: Cursor,
+    marks: [bool; MARKS],
+}
+
+impl<'a> Check<'a> {
+    // No row is marked, and the walk stands before its first step.
+    // Kept: rows linked by their numbers in the lent words are the form of document 01, and there is no heap
+    fn new(w: &'a [u64], c: Linked) -> Check<'a>
+        requires { CanCheck c.table c.heads w.now }
+        ensures { Starts c w.now result }
+    {
+        let table = c.table;
+        Check {
+            of: Placed { words: w, table },
+            walk: Cursor::new(table, head_of(w, c.heads, 0)),
+            marks: [false; MARKS],
         }
-        marks[row] = 1;
     }
-    if walk.row != 0 {
-        return None;
-    }
-    Some(walk.left)
-}
 
-// The walk of the free chain before its first step.
-fn free_start(w: &[u64], t: Table, h: Heads) -> Cursor
-    requires { HeadsLie h w.now }
-    ensures { result ≡ free_start t h w.now }
-{
-    Cursor::new(t, head_of(w, h, 0))
-}
-
-// One step of a walk that marks. Where none can be made, at the end of the chain, at a row that is marked already or
-// with no room left, the walk stays; `mark_chain` from there finds out which it is.
-fn mark_step(w: &[u64], t: Table, s: Cursor, marks: &mut [u8; MARKS]) -> Cursor
-    requires { CanMark t w.now s.left marks.old }
-    ensures { Advanced t w.now marks.old s marks.new result }
-{
-    let mut next = s;
-    let Some(i) = next.step(w, t) else {
-        return s;
-    };
-    if marks[i] != 0 {
-        return s;
-    }
-    marks[i] = 1;
-    next
-}
-
-// How many rows the three walks may still meet: every step lowers it.
-fn rows_left(a: Cursor, b: Cursor, c: Cursor) -> usize
-    requires { (a.left < MARKS) × (b.left < MARKS) × (c.left < MARKS) }
-    ensures { result ≡ a.left + b.left + c.left }
-{
-    a.left + b.left + c.left
-}
-
-// Walks a chain of each table, a step of each in turn, until a turn in which no walk went on. Where they stop is not
-// promised: `partition_from` judges the chain from there, and any order of steps would do.
-fn mark_together(
-    w: &[u64],
-    t: Tables,
-    s: Cursors,
-    ma: &mut [u8; MARKS],
-    mb: &mut [u8; MARKS],
-    mc: &mut [u8; MARKS],
-) -> Cursors
-    requires { CanMark t.a w.now s.a.left ma.old
-        × CanMark t.b w.now s.b.left mb.old
-        × CanMark t.c w.now s.c.left mc.old }
-    ensures { Advanced t.a w.now ma.old s.a ma.new result.a
-        × Advanced t.b w.now mb.old s.b mb.new result.b
-        × Advanced t.c w.now mc.old s.c mc.new result.c }
-{
-    let ta = t.a;
-    let tb = t.b;
-    let tc = t.c;
-    let mut a = s.a;
-    let mut b = s.b;
-    let mut c = s.c;
-    // more than the three can have left, so that there is a first turn
-    let mut previous = 3 * MARKS;
-    while rows_left(a, b, c) < previous {
-        previous = rows_left(a, b, c);
-        a = mark_step(w, ta, a, ma);
-        b = mark_step(w, tb, b, mb);
-        c = mark_step(w, tc, c, mc);
-    }
-    Cursors { a: a, b: b, c: c }
-}
-
-// Marks the free chain from s on, as far as it is not marked yet, and then one owner's chain after the other; every row
-// was met if the whole room is used.
-fn partition_from(w: &[u64], t: Table, h: Heads, s: Cursor, marks: &mut [u8; MARKS]) -> bool
-    requires { CanCheck t h w.now × Begun t h w.now marks.old s }
-    ensures { result ≡ partition t h w.now }
-{
-    let Some(free) = mark_chain(w, t, s, marks) else {
-        return false;
-    };
-    let mut room = free;
-    for k in 1..=h.owners {
-        let chain = Cursor {
-            row: head_of(w, h, k),
-            left: room,
-        };
-        let Some(rest) = mark_chain(w, t, chain, marks) else {
+    // One step of the walk; replies whether one was made. Where none can be, at the end of the chain, at a row that is
+    // marked already or with no room left, the walk stays; `mark_chain` from there finds out which it is.
+    fn step(&mut self) -> bool
+        requires { CanMark self.old.of.table self.old.of.words.now self.old.walk.left self.old.marks }
+        ensures { Steps self.old self.new result }
+    {
+        let mut next = self.walk;
+        let Some(i) = next.along(&self.of) else {
             return false;
         };
-        room = rest;
+        if self.marks[i] {
+            return false;
+        }
+        self.marks[i] = true;
+        self.walk = next;
+        true
     }
-    room == 0
+
+    // Kept: rows linked by their numbers in the lent words are the form of document 01, and there is no heap
+    // Marks the rows that a walk has still to meet, up to the chain's end. Replies what it leaves of the walk's room;
+    // none if a row is marked already or the chain does not end within the room.
+    fn mark_chain(&mut self, mut walk: Cursor) -> Option<usize>
+        requires { CanMark self.old.of.table self.old.of.words.now walk.left self.old.marks }
+        ensures { MarkedChain self.old.of.table self.old.of.words.now self.old.marks self.new.marks walk.row walk.left
+            result
+            × (self.new.of ≡ self.old.of) }
+    {
+        let of = self.of;
+        while let Some(row) = walk.along(&of) {
+            if self.marks[row] {
+                return None;
+            }
+            self.marks[row] = true;
+        }
+        if walk.row != 0 {
+            return None;
+        }
+        Some(walk.left)
+    }
+
+    // Kept: rows linked by their numbers in the lent words are the form of document 01, and there is no heap
+    // Marks the free chain from the walk on, as far as it is not marked yet, and then one owner's chain after the
+    // other; every row was met if the whole room is used.
+    fn parted(&mut self, h: Heads) -> bool
+        requires { CanCheck self.old.of.table h self.old.of.words.now
+            × Begun self.old.of.table h self.old.of.words.now self.old.marks self.old.walk }
+        ensures { result ≡ partition self.old.of.table h self.old.of.words.now }
+    {
+        let of = self.of;
+        let walk = self.walk;
+        let Some(free) = self.mark_chain(walk) else {
+            return false;
+        };
+        let mut room = free;
+        for k in 1..=h.owners {
+            let chain = Cursor {
+                row: head_of(of.words, h, k),
+                left: room,
+            };
+            let Some(rest) = self.mark_chain(chain) else {
+                return false;
+            };
+            room = rest;
+        }
+        room == 0
+    }
 }
 
-// With the marks lent: first all free chains together, as far as they go, then one table after the other.
-fn partitions_with(
-    w: &[u64],
-    t: Tables,
-    ha: Heads,
-    hb: Heads,
-    hc: Heads,
-    ma: &mut [u8; MARKS],
-    mb: &mut [u8; MARKS],
-    mc: &mut [u8; MARKS],
-) -> bool
-    requires { (CanCheck t.a ha w.now × Clear ma.old)
-        × (CanCheck t.b hb w.now × Clear mb.old)
-        × (CanCheck t.c hc w.now × Clear mc.old) }
-    ensures { result
-        ≡ (partition t.a ha w.now
-        && (partition t.b hb w.now && partition t.c hc w.now)) }
+// Steps of three walks, one of each in turn, until a turn in which none went on. Where they stop is not promised:
+// `parted` judges the chain from there, and any order of steps would do.
+fn step_together(a: &mut Check, b: &mut Check, c: &mut Check)
+    requires { CanMark a.old.of.table a.old.of.words.now a.old.walk.left a.old.marks
+        × CanMark b.old.of.table b.old.of.words.now b.old.walk.left b.old.marks
+        × CanMark c.old.of.table c.old.of.words.now c.old.walk.left c.old.marks }
+    ensures { Advances a.old a.new × Advances b.old b.new × Advances c.old c.new }
 {
-    let a = free_start(w, t.a, ha);
-    let b = free_start(w, t.b, hb);
-    let c = free_start(w, t.c, hc);
-    let s = mark_together(w, t, Cursors { a: a, b: b, c: c }, ma, mb, mc);
-    if !partition_from(w, t.a, ha, s.a, ma) {
-        return false;
-    }
-    if !partition_from(w, t.b, hb, s.b, mb) {
-        return false;
-    }
-    partition_from(w, t.c, hc, s.c, mc)
+    // Kept: nothing is counted; the loop goes on until a turn of three steps moves no walk
+    while a.step() | b.step() | c.step() {}
 }
 
+// Kept: rows linked by their numbers in the lent words are the form of document 01, and there is no heap
 // Whether in each of the three tables every chain ends and every row is on exactly one, once.
-pub fn partitions_ok(w: &[u64], t: Tables, ha: Heads, hb: Heads, hc: Heads) -> bool
-    requires { CanCheck t.a ha w.now × CanCheck t.b hb w.now × CanCheck t.c hc w.now }
+pub fn partitions_ok(w: &[u64], a: Linked, b: Linked, c: Linked) -> bool
+    requires { CanCheck a.table a.heads w.now × CanCheck b.table b.heads w.now × CanCheck c.table c.heads w.now }
     ensures { result
-        ≡ (partition t.a ha w.now
-        && (partition t.b hb w.now && partition t.c hc w.now)) }
+        ≡ (partition a.table a.heads w.now
+        && (partition b.table b.heads w.now && partition c.table c.heads w.now)) }
 {
-    let mut ma = [0u8; MARKS];
-    let mut mb = [0u8; MARKS];
-    let mut mc = [0u8; MARKS];
-    partitions_with(w, t, ha, hb, hc, &mut ma, &mut mb, &mut mc)
+    let mut x = Check::new(w, a);
+    let mut y = Check::new(w, b);
+    let mut z = Check::new(w, c);
+    step_together(&mut x, &mut y, &mut z);
+    x.parted(a.heads) && y.parted(b.heads) && z.parted(c.heads)
 }

@@ -1,33 +1,13 @@
 // Walks along a chain as iterators, in the chain's order: over the numbers of its rows, and over these with a word of
-// each row. Rests on lib.rt.
+// each row. Rests on lib.rt and placed.rt.
 ghost use Rattle.std.specs.Prelude.{◌<◌};
-ghost use Rattle.chains.specs.Table.{Lies};
 
-use crate::{Cursor, Table, get};
+use crate::{Cursor, Placed, Table};
 
 #[derive(Drop)]
 pub struct Walk<'a> {
-    words: &'a [u64],
-    table: Table,
-    cursor: Cursor,
-    ghost lies: { Lies table words.now },
-}
-
-impl<'a> Walk<'a> {
-    ghost use Rattle.std.specs.Prelude.{◌≡◌};
-    ghost use Rattle.chains.specs.Table.{chain};
-    ghost use Rattle.chains.specs.Walker.{rows_left};
-
-    pub fn new(w: &'a [u64], t: Table, head: usize) -> Walk<'a>
-        requires { Lies t w.now }
-        ensures { rows_left result ≡ chain t w.now head }
-    {
-        Walk {
-            words: w,
-            table: t,
-            cursor: Cursor::new(t, head),
-        }
-    }
+    pub(crate) of: Placed<'a>,
+    pub(crate) cursor: Cursor,
 }
 
 impl<'a> Iterator for Walk<'a> {
@@ -42,37 +22,17 @@ impl<'a> Iterator for Walk<'a> {
 
     #[tactic(auto, unfolding(crate::specs::Walker::rows_left))]
     fn next(&mut self) -> Option<usize> {
-        self.cursor.step(self.words, self.table)
+        self.cursor.along(&self.of)
     }
 }
 
 // Each row's number with its word `off`.
 #[derive(Drop)]
 pub struct Fields<'a> {
-    words: &'a [u64],
-    table: Table,
-    off: usize,
-    cursor: Cursor,
-    ghost lies: { Lies table words.now },
-    ghost within: { off < table.stride },
-}
-
-impl<'a> Fields<'a> {
-    ghost use Rattle.std.specs.Prelude.{◌≡◌};
-    ghost use Rattle.chains.specs.Table.{chain};
-    ghost use Rattle.chains.specs.Walker.{with_word, fields_left};
-
-    pub fn new(w: &'a [u64], t: Table, o: usize, head: usize) -> Fields<'a>
-        requires { Lies t w.now × (o < t.stride) }
-        ensures { fields_left result ≡ with_word t w.now o (chain t w.now head) }
-    {
-        Fields {
-            words: w,
-            table: t,
-            off: o,
-            cursor: Cursor::new(t, head),
-        }
-    }
+    pub(crate) of: Placed<'a>,
+    pub(crate) off: usize,
+    pub(crate) cursor: Cursor,
+    ghost within: { off < of.table.stride },
 }
 
 impl<'a> Iterator for Fields<'a> {
@@ -87,7 +47,35 @@ impl<'a> Iterator for Fields<'a> {
 
     #[tactic(auto, unfolding(crate::specs::Walker::with_word, crate::specs::Walker::fields_left))]
     fn next(&mut self) -> Option<(usize, usize)> {
-        let i = self.cursor.step(self.words, self.table)?;
-        Some((i, get(self.words, self.table, i, self.off)))
+        let i = self.cursor.along(&self.of)?;
+        Some((i, self.of.word(i, self.off)))
+    }
+}
+
+// For callers that are not ported yet.
+
+impl<'a> Walk<'a> {
+    ghost use Rattle.std.specs.Prelude.{◌≡◌};
+    ghost use Rattle.chains.specs.Table.{Lies, chain};
+    ghost use Rattle.chains.specs.Walker.{rows_left};
+
+    pub fn new(w: &'a [u64], t: Table, head: usize) -> Walk<'a>
+        requires { Lies t w.now }
+        ensures { rows_left result ≡ chain t w.now head }
+    {
+        Placed { words: w, table: t }.rows(head)
+    }
+}
+
+impl<'a> Fields<'a> {
+    ghost use Rattle.std.specs.Prelude.{◌≡◌};
+    ghost use Rattle.chains.specs.Table.{Lies, chain};
+    ghost use Rattle.chains.specs.Walker.{with_word, fields_left};
+
+    pub fn new(w: &'a [u64], t: Table, o: usize, head: usize) -> Fields<'a>
+        requires { Lies t w.now × (o < t.stride) }
+        ensures { fields_left result ≡ with_word t w.now o (chain t w.now head) }
+    {
+        Placed { words: w, table: t }.fields(o, head)
     }
 }

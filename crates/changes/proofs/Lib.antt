@@ -6,7 +6,8 @@ pub mod OneWord
 pub mod Stored
 pub mod Lists
 pub mod Locks
-pub mod Turns
+pub mod Versions
+pub mod Keeping
+pub mod Freeing
 pub mod Besides
 pub mod Joins
-pub mod Versions

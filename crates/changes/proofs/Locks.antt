@@ -10,14 +10,14 @@ use lib.Dec.{eqb, ltb}
 use borrow.Author.Tests.{eq-eqb}
 use Rattle.chains.specs.Lists.{occ, all_of, drop_if, push_if, take_while, drop_while, insert_after}
 use Rattle.chains.specs.Walk.{IsRow}
-use Rattle.chains.specs.Table.{field, rows_of, precedes, stands_before}
-use Rattle.chains.specs.Change.{Ready, Elsewhere, Changed, InsertedSorted, Taken}
+use Rattle.chains.specs.Table.{field, rows_of, rising, stands_before}
+use Rattle.chains.specs.Change.{Ready, Elsewhere, Changed, InsertedSorted, First}
 use Rattle.chains.proofs.Places.{take_drop}
 use Rattle.chains.proofs.Words.{on_chain}
 use Rattle.chains.proofs.Frames.{only_elsewhere, field_kept, apart_kept}
 use Rattle.chains.proofs.Entries.{Filled, filled_start, inserted_entries, sorted_entries, taken_others, entries_kept}
 use Rattle.chains.proofs.Entries.{entries_drop}
-use Rattle.meaning.specs.Store.{with_rec, with_locks, rec_at, locks_used}
+use Rattle.meaning.specs.Store.{with_rec, with_locks, rec_at}
 use Rattle.meaning.specs.Points.{put_lock, add_lock}
 use Rattle.types.specs.declared.Lock.{Lock}
 use Rattle.types.specs.declared.Counts.{Counts}
@@ -31,7 +31,6 @@ use Rattle.changes.specs.Becomes.{Becomes, Beside}
 use Rattle.changes.proofs.Apart.{locks_accesses}
 use Rattle.changes.proofs.Parts.{accesses_kept, all_same}
 use Rattle.changes.proofs.OneTable.{locks_become, locks_fit}
-use Rattle.tables.proofs.Rooms.{free_lock}
 use Rattle.changes.proofs.Stored.{lock_stored_at, lock_stored_record, lock_filled, lock_rest}
 use Rattle.changes.proofs.Lists.{all_inserted, all_dropped, occ_drop, lock_after}
 
@@ -73,10 +72,10 @@ module _ {c : Counts} {w : List ℕ} (W : Well c w) {r : ℕ} (l : r < c.records
 
   -- where there is room, a row was taken
   module _ {w₁ : List ℕ} {q i : ℕ}
-      (k : Taken (lock_heads c) w w₁ 0 i (InsertedSorted (lock_table c) (lock_heads c) w w₁ (suc r) 0 L_LOW q true i))
-      (room : locks_used (decode_at c w) < c.locks) where
-    lock_inserted : InsertedSorted (lock_table c) (lock_heads c) w w₁ (suc r) 0 L_LOW q true i
-    lock_inserted = let z : i ≡ 0 → ⊥ = λ e. free_lock W room (sym k.head ∙ e) in k.done (omega arith)
+      (k : First (lock_heads c) w 0 (InsertedSorted (lock_table c) (lock_heads c) w w₁ (suc r) 0 L_LOW q rising)
+      i) where
+    lock_inserted : InsertedSorted (lock_table c) (lock_heads c) w w₁ (suc r) 0 L_LOW q rising i
+    lock_inserted = k.done
 
     pub lock_row : IsRow c.locks i
     unfolding lock_table
@@ -89,13 +88,13 @@ module _ {c : Counts} {w : List ℕ} (W : Well c w) {r : ℕ} (l : r < c.records
     -- and once filled it stands where its low point belongs
     module _ (x : Lock) where
       inserted : Filled (lock_table c) (lock_heads c) w (lock_stored c w₁ i r x) (suc r) 0
-          (insert_after (stands_before true (lock_table c) w L_LOW q) i
+          (insert_after (stands_before rising (lock_table c) w L_LOW q) i
           (rows_of (lock_table c) (lock_heads c) w (suc r)))
           (tail (rows_of (lock_table c) (lock_heads c) w 0)) i
       inserted = lock_filled c lock_ready_back (filled_start lock_ready_back i lock_inserted.changed) lock_row r x
 
       inserted_here : x.mode < MODES → x.low ≡ q → locks_of c (lock_stored c w₁ i r x) r ≡ put_lock x (locks_of c w r)
-      unfolding locks_of lock_rows lock_at lock_table stands_before precedes
+      unfolding locks_of lock_rows lock_at lock_table stands_before rising
       inserted_here m e =
           let rows = rows_of (lock_table c) (lock_heads c) w (suc r) in
           sorted_entries (lock_at c (lock_stored c w₁ i r x)) (lock_at c w) (λ y. ltb y.low q) lock_ready_back
@@ -116,7 +115,7 @@ module _ {c : Counts} {w : List ℕ} (W : Well c w) {r : ℕ} (l : r < c.records
       unfolding lock_rows lock_table
       inserted_named j p =
           let w₂ = lock_stored c w₁ i r x in
-          let test = stands_before true (lock_table c) w L_LOW q in
+          let test = stands_before rising (lock_table c) w L_LOW q in
           let rows = rows_of (lock_table c) (lock_heads c) w (suc r) in
           elim (ℕ_discrete j r) [
             | yes z ↦ rw z (all_inserted (names_record c w₂ r) (names_record c w r) (take_while test rows)

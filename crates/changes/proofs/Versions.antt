@@ -2,18 +2,18 @@
 -- OneTable, Stored, Rooms and Lists.
 use Prim.Native.Nat.{ℕ, suc, ◌≤◌, ◌<◌}
 use mathlib.Core.Path.{◌≡◌, refl, sym, ap, ◌∙◌}
-use mathlib.Core.Bool.{Bool, false}
+use mathlib.Core.Bool.{Bool}
 use mathlib.Core.List.{List, map, tail}
 use native.Mathlib.Omega.{arith}
 use lib.Dec.{ltb}
 use Rattle.chains.specs.Lists.{occ, drop_if, push_if, insert_after}
 use Rattle.chains.specs.Walk.{IsRow}
-use Rattle.chains.specs.Table.{field, rows_of, precedes, stands_before}
-use Rattle.chains.specs.Change.{Ready, Changed, InsertedSorted, Taken}
+use Rattle.chains.specs.Table.{field, rows_of, falling, stands_before}
+use Rattle.chains.specs.Change.{Ready, Elsewhere, Changed, InsertedSorted, First}
 use Rattle.chains.proofs.Words.{on_chain}
 use Rattle.chains.proofs.Frames.{only_elsewhere, field_kept, apart_kept}
 use Rattle.chains.proofs.Entries.{Filled, filled_start, sorted_entries, taken_others, entries_kept, entries_drop}
-use Rattle.meaning.specs.Store.{with_rec, rec_at, versions_used}
+use Rattle.meaning.specs.Store.{with_rec, rec_at}
 use Rattle.meaning.specs.Ending.{insert}
 use Rattle.types.specs.declared.Version.{Version}
 use Rattle.types.specs.declared.Counts.{Counts}
@@ -27,7 +27,6 @@ use Rattle.changes.specs.Becomes.{AccessesKept, Becomes, with_versions, version_
 use Rattle.changes.proofs.Apart.{versions_accesses}
 use Rattle.changes.proofs.Parts.{accesses_kept}
 use Rattle.changes.proofs.OneTable.{versions_become, versions_fit}
-use Rattle.tables.proofs.Rooms.{free_version}
 use Rattle.changes.proofs.Stored.{version_stored_at, version_filled, version_rest}
 use Rattle.changes.proofs.Lists.{occ_drop, insert_after_lem}
 
@@ -36,6 +35,15 @@ pub versions_at : (c : Counts) (w : List ℕ) (r : ℕ) → r < c.records
     → (rec_at (decode_at c w) r).versions ≡ versions_of c w r
 unfolding record_at
 versions_at c w r l = ap (λ x. x.versions) (rec_at_lem c w r l)
+
+-- where only head and link words differ, the versions are as before
+pub version_kept : {c : Counts} {w w' : List ℕ} → Fits c w → Elsewhere (version_table c) (version_heads c) w w'
+    → (x : ℕ) → IsRow c.versions x → version_at c w' x ≡ version_at c w x
+unfolding version_at version_table
+version_kept {c} {w} {w'} f e x q =
+    let kept : (o : ℕ) → o < 3 → field (version_table c) w' x o ≡ field (version_table c) w x o =
+    λ o b. field_kept (versions_laid f) e x o q.low (omega arith) (λ z. omega arith) in
+    rw (kept V_POINT (omega arith), kept V_VALUE (omega arith), kept V_SPARE (omega arith)) refl
 
 module _ {c : Counts} {w : List ℕ} (W : Well c w) {r : ℕ} (l : r < c.records) where
   -- record r's chain and the free one
@@ -51,11 +59,10 @@ module _ {c : Counts} {w : List ℕ} (W : Well c w) {r : ℕ} (l : r < c.records
 
   -- where there is room, a row was taken
   module _ {w₁ : List ℕ} {q i : ℕ}
-      (k : Taken (version_heads c) w w₁ 0 i
-      (InsertedSorted (version_table c) (version_heads c) w w₁ (suc r) 0 V_POINT q false i))
-      (room : versions_used (decode_at c w) < c.versions) where
-    version_inserted : InsertedSorted (version_table c) (version_heads c) w w₁ (suc r) 0 V_POINT q false i
-    version_inserted = let z : i ≡ 0 → ⊥ = λ e. free_version W room (sym k.head ∙ e) in k.done (omega arith)
+      (k : First (version_heads c) w 0
+      (InsertedSorted (version_table c) (version_heads c) w w₁ (suc r) 0 V_POINT q falling) i) where
+    version_inserted : InsertedSorted (version_table c) (version_heads c) w w₁ (suc r) 0 V_POINT q falling i
+    version_inserted = k.done
 
     pub version_row : IsRow c.versions i
     unfolding version_table
@@ -68,7 +75,7 @@ module _ {c : Counts} {w : List ℕ} (W : Well c w) {r : ℕ} (l : r < c.records
     -- and once filled it stands where its point belongs
     module _ (point value : ℕ) where
       inserted : Filled (version_table c) (version_heads c) w (version_stored c w₁ i point value) (suc r) 0
-          (insert_after (stands_before false (version_table c) w V_POINT q) i
+          (insert_after (stands_before falling (version_table c) w V_POINT q) i
           (rows_of (version_table c) (version_heads c) w (suc r)))
           (tail (rows_of (version_table c) (version_heads c) w 0)) i
       inserted =
@@ -77,7 +84,7 @@ module _ {c : Counts} {w : List ℕ} (W : Well c w) {r : ℕ} (l : r < c.records
 
       inserted_here : point ≡ suc q
           → versions_of c (version_stored c w₁ i point value) r ≡ insert (version_of point value) (versions_of c w r)
-      unfolding versions_of version_rows version_at version_table stands_before precedes
+      unfolding versions_of version_rows version_at version_table stands_before falling
       inserted_here e =
           let rows = rows_of (version_table c) (version_heads c) w (suc r) in
           sorted_entries (version_at c (version_stored c w₁ i point value)) (version_at c w) (λ x. ltb q x.point)
@@ -112,12 +119,7 @@ module _ {c : Counts} {w : List ℕ} (W : Well c w) {r : ℕ} (l : r < c.records
       (push_if (λ i. p (version_at c w i)) (rows_of (version_table c) (version_heads c) w (suc r))
       (rows_of (version_table c) (version_heads c) w 0))) where
     unlinked_rest : (x : ℕ) → IsRow c.versions x → version_at c w' x ≡ version_at c w x
-    unfolding version_at version_table
-    unlinked_rest x q =
-        let kept : (o : ℕ) → o < 3 → field (version_table c) w' x o ≡ field (version_table c) w x o =
-        λ o b. field_kept (versions_laid W.fits) unlinked.elsewhere x o q.low (omega arith)
-        (λ e. omega arith) in
-        rw (kept V_POINT (omega arith), kept V_VALUE (omega arith), kept V_SPARE (omega arith)) refl
+    unlinked_rest = version_kept W.fits unlinked.elsewhere
 
     row_of : (j : ℕ) → j < c.records → (x : ℕ) → 1 ≤ occ x (rows_of (version_table c) (version_heads c) w (suc j))
         → IsRow c.versions x

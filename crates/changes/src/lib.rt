@@ -2,7 +2,15 @@
 // Each leaves the words well formed and equals a function of the decoded store; the callers prove that the words are
 // well formed (`Well`), that slots and records are in range, and that there is room, in the words of the meaning. Rests
 // on the crates `types`, `meaning`, `locks`, `chains`, `updates`, `tables` and `writes`.
+// Kept, words and counts: a struct that holds lent `&mut` words would have each contract say that it keeps them
+// Kept, Well c w: a fact of the words, which a struct over `&mut` words cannot hold while they change
+// Kept, r < c.records: a fact of the counts beside those words
+// Kept, low and high: the two ends that the functions of `locks` and of the meaning take
+// Kept, l.: facts of a lock row that other callers read from the words
+// Kept, locks_used: how many locks the words hold, which changes with them
 #![tactic(auto)]
+
+mod freed;
 
 ghost use Rattle.std.specs.Prelude.{◌≡◌, true, not, ◌≤◌, ◌<◌};
 ghost use Rattle.types.specs.Limits.{MAX_EDITS};
@@ -13,11 +21,15 @@ ghost use Rattle.meaning.specs.Ending.{insert};
 ghost use Rattle.tables.specs.Layout.{MODES};
 ghost use Rattle.tables.specs.Decode.{decode_at};
 ghost use Rattle.tables.specs.Words.{Well};
+ghost use Rattle.tables.specs.Views.{rec_in};
 ghost use Rattle.changes.specs.Becomes.{Becomes, Beside, version_of, on_versions, on_locks};
+ghost use Rattle.changes.specs.Widened.{widened};
 
-use chains::Cursor;
+use chains::{Falling, Rising};
+pub use freed::free_rows;
 use locks::touches;
-use types::{Counts, Lock, READ, SETTLED};
+use tables::{L_LOW, Record, Tables, V_POINT};
+use types::{Counts, Lock, READ, SETTLED, Version};
 
 // Locks.
 
@@ -27,7 +39,9 @@ pub fn add_lock(w: &mut [u64], c: Counts, r: usize, l: Lock)
         × (locks_used (decode_at c w.old) < c.locks) }
     ensures { Beside c w.old w.new (on_locks (decode_at c w.old) r (add_lock l)) }
 {
-    let i = writes::insert_lock(w, c, r, l.low);
+    let Some(i) = writes::insert::<Lock, Rising>(w, c, r, L_LOW, l.low) else {
+        return;
+    };
     writes::put_lock(w, c, i, r, l);
 }
 
@@ -36,17 +50,38 @@ pub fn drop_owner(w: &mut [u64], c: Counts, r: usize, k: u64)
     requires { Well c w.old × (r < c.records) }
     ensures { Becomes c w.new (on_locks (decode_at c w.old) r (drop_owner k)) }
 {
-    let t = tables::lock_table(c);
-    let h = tables::lock_heads(c);
-    let mut place = 0;
-    let mut walk = Cursor::new(t, tables::first_lock(w, c, r));
-    while let Some(i) = walk.step(w, t) {
-        let l = tables::lock_at(w, c, i);
-        place = updates::unlink_turn(w, t, h, r + 1, 0, place, i, l.owner == k);
-    }
+    free_rows(w, c, r, |l: Lock| l.owner == k);
 }
 
 // Settled locks.
+
+// The row with the points of l and those between too, if l touches low..high.
+fn taken_in(low: u64, high: u64, row: Lock, l: Lock) -> Lock
+    ensures { result ≡ widened row (touches low high l) l }
+{
+    if touches(low, high, l) {
+        Lock {
+            low: row.low.min(l.low),
+            high: row.high.max(l.high),
+            ..row
+        }
+    } else {
+        row
+    }
+}
+
+// The row that low..high and the settled reads which it overlaps or adjoins are together.
+fn joined_row(r: Record<'_>, low: u64, high: u64) -> Lock
+    ensures { result ≡ joined_row low high (rec_in r.entry).locks }
+{
+    let row = Lock {
+        low,
+        high,
+        mode: READ,
+        owner: SETTLED,
+    };
+    r.locks().fold(row, |row, l| taken_in(low, high, row, l))
+}
 
 // The settled reads of record r that overlap or adjoin low..high go. Replies the row that they and low..high are
 // together.
@@ -56,28 +91,12 @@ fn drop_touching(w: &mut [u64], c: Counts, r: usize, low: u64, high: u64) -> Loc
         (on_locks (decode_at c w.old) r (keep (λ l. not (touches low high l))))
         × (result ≡ joined_row low high (rec_at (decode_at c w.old) r).locks) }
 {
-    let mut row = Lock {
-        low,
-        high,
-        mode: READ,
-        owner: SETTLED,
+    let tables = Tables {
+        words: w,
+        counts: c,
     };
-    let t = tables::lock_table(c);
-    let h = tables::lock_heads(c);
-    let mut place = 0;
-    let mut walk = Cursor::new(t, tables::first_lock(w, c, r));
-    while let Some(i) = walk.step(w, t) {
-        let l = tables::lock_at(w, c, i);
-        let hit = touches(low, high, l);
-        if hit {
-            row = Lock {
-                low: row.low.min(l.low),
-                high: row.high.max(l.high),
-                ..row
-            };
-        }
-        place = updates::unlink_turn(w, t, h, r + 1, 0, place, i, hit);
-    }
+    let row = joined_row(Record { tables, number: r }, low, high);
+    free_rows(w, c, r, |l: Lock| touches(low, high, l));
     row
 }
 
@@ -91,6 +110,7 @@ fn leave_read(w: &mut [u64], c: Counts, r: usize, low: u64, high: u64)
 }
 
 // A settled lock more on record r; a read is joined with those that it overlaps or adjoins.
+// Kept: the mode is stored as it is, in the word of document 01, and the rule joins reads alone
 pub fn leave_settled(w: &mut [u64], c: Counts, r: usize, mode: u64, low: u64, high: u64)
     requires { Well c w.old × (r < c.records) × (mode < MODES) × (locks_used (decode_at c w.old) < c.locks) }
     ensures { Beside c w.old w.new
@@ -116,11 +136,14 @@ pub fn leave_settled(w: &mut [u64], c: Counts, r: usize, mode: u64, low: u64, hi
 // Versions.
 
 // A version more on record r, where its point belongs.
+// Kept: its place is found as that of a lock, by `writes::insert`; the words that are then stored are others
 pub fn add_version(w: &mut [u64], c: Counts, r: usize, point: u64, value: u64)
     requires { Well c w.old × (r < c.records) × (1 ≤ point) × (versions_used (decode_at c w.old) < c.versions) }
     ensures { Beside c w.old w.new
         (on_versions (decode_at c w.old) r (insert (version_of point value))) }
 {
-    let i = writes::insert_version(w, c, r, point - 1);
+    let Some(i) = writes::insert::<Version, Falling>(w, c, r, V_POINT, point - 1) else {
+        return;
+    };
     writes::put_version(w, c, i, point, value);
 }

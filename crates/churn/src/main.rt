@@ -5,76 +5,65 @@
 #![tactic(auto)]
 
 use std::io;
-use types::{Counts, Extent, Finish, Handle, Pick, Point, Refusal};
+use types::{Call, Counts, Extent, Finish, Granted, Handle, Pick, Point, Refusal};
 
 const ROUNDS: u64 = 3000;
 
 // The words of the store 4 3 4 8 8.
 const WORDS: usize = 128;
 
-// What is counted of the granted calls.
-#[derive(Clone, Copy)]
-enum Grant {
-    Begun,
-    Written,
-    Locked,
-    Read,
-    Committed,
-    NoPoint,
-    Aborted,
-    Settled,
-    VersionsPurged,
-    LocksPurged,
-}
-
-// What is printed before the count of each.
-const GRANTS: [&str; 10] = [
-    "begun",
-    "written",
-    "locked",
-    "read",
-    "committed",
-    "nopoint",
-    "aborted",
-    "settled",
-    "versions purged",
-    "locks purged",
-];
-
-// The counts of the grants, and those of the refusals, by their numbers.
+// The counts of what the calls gave, and those of the refusals, by their numbers.
 #[derive(Clone, Copy, Default)]
 struct Tally {
-    granted: [u64; 10],
+    begun: u64,
+    written: u64,
+    locked: u64,
+    read: u64,
+    committed: u64,
+    nopoint: u64,
+    aborted: u64,
+    settled: u64,
+    versions_purged: u64,
+    locks_purged: u64,
     refused: [u64; 17],
 }
 
 impl Tally {
-    fn add(&mut self, grant: Grant, n: u64) {
-        let count = &mut self.granted[grant as usize];
-        *count = count.saturating_add(n);
-    }
-
-    fn refuse(&mut self, r: Refusal) {
-        let count = &mut self.refused[r.number() as usize];
+    // Counts the reply of a call.
+    fn count(&mut self, call: Call, reply: Result<Granted, Refusal>) {
+        let count = match (call, reply) {
+            (_, Err(r)) => &mut self.refused[r.number() as usize],
+            (_, Ok(Granted::Edit(_))) => &mut self.begun,
+            (_, Ok(Granted::Locked(_))) => &mut self.locked,
+            (_, Ok(Granted::Read(_))) => &mut self.read,
+            (_, Ok(Granted::Commit(Some(_)))) => &mut self.committed,
+            (_, Ok(Granted::Commit(None))) => &mut self.nopoint,
+            (Call::Write(..), _) => &mut self.written,
+            (Call::Abort(..), _) => &mut self.aborted,
+            (Call::Settle(_), _) => &mut self.settled,
+            (_, Ok(Granted::Purged(f))) => {
+                self.versions_purged = self.versions_purged.saturating_add(f.versions);
+                self.locks_purged = self.locks_purged.saturating_add(f.locks);
+                return;
+            }
+            _ => return,
+        };
         *count = count.saturating_add(1);
     }
 
-    // Counts the reply of a call, and hands on what it gave.
-    fn count<T>(&mut self, grant: Grant, reply: Result<T, Refusal>) -> Option<T> {
-        match reply {
-            Ok(given) => {
-                self.add(grant, 1);
-                Some(given)
-            }
-            Err(r) => {
-                self.refuse(r);
-                None
-            }
-        }
-    }
-
     fn print(&self, rt: &impl Print) -> io::Result<()> {
-        for (text, n) in GRANTS.iter().zip(self.granted.iter()) {
+        for (text, n) in [
+            ("begun", self.begun),
+            ("written", self.written),
+            ("locked", self.locked),
+            ("read", self.read),
+            ("committed", self.committed),
+            ("nopoint", self.nopoint),
+            ("aborted", self.aborted),
+            ("settled", self.settled),
+            ("versions purged", self.versions_purged),
+            ("locks purged", self.locks_purged),
+        ] {
             println!(rt; "{text} {n}")?;
         }
         for (number, n) in self.refused.iter().enumerate() {
@@ -97,166 +86,154 @@ struct Churn {
 }
 
 impl Churn {
-    // Each call, counted.
-
-    fn begin(&mut self) -> Handle {
-        let given = self
-            .tally
-            .count(Grant::Begun, store::begin(&mut self.words));
-        given.unwrap_or(Handle::from(0))
+    // A call, counted, and what it gave.
+    fn call(&mut self, call: Call) -> Option<Granted> {
+        let reply = store::perform(&mut self.words, call);
+        self.tally.count(call, reply);
+        reply.ok()
     }
 
-    fn write(&mut self, h: Handle, rec: u64) {
-        let reply = store::write(&mut self.words, h, rec, 7);
-        self.tally.count(Grant::Written, reply);
-    }
-
-    fn lock(&mut self, h: Handle, rec: u64, p: u64) {
-        let at = Point::from(p);
-        let reply = store::lock(&mut self.words, h, rec, at, at, Extent::All);
-        self.tally.count(Grant::Locked, reply);
-    }
-
-    fn read(&mut self, h: Handle, rec: u64, m: u64) {
-        let reply = store::read(&mut self.words, h, rec, Point::from(m), Extent::All);
-        self.tally.count(Grant::Read, reply);
-    }
-
-    fn commit(&mut self, h: Handle, pick: Pick, finish: Finish) {
-        let reply = store::commit(&mut self.words, h, pick, finish);
-        let grant = match reply {
-            Ok(None) => Grant::NoPoint,
-            _ => Grant::Committed,
-        };
-        self.tally.count(grant, reply);
-    }
-
-    fn abort(&mut self, h: Handle, finish: Finish) {
-        let reply = store::abort(&mut self.words, h, finish);
-        self.tally.count(Grant::Aborted, reply);
-    }
-
-    fn settle(&mut self, h: Handle) {
-        let reply = store::settle(&mut self.words, h);
-        self.tally.count(Grant::Settled, reply);
-    }
-
-    fn purge(&mut self, rec: u64, b: u64) {
-        match store::purge(&mut self.words, rec, Point::from(b)) {
-            Ok(freed) => {
-                self.tally.add(Grant::VersionsPurged, freed.versions);
-                self.tally.add(Grant::LocksPurged, freed.locks);
-            }
-            Err(r) => self.tally.refuse(r),
+    fn calls(&mut self, calls: &[Call]) {
+        for call in calls {
+            self.call(*call);
         }
     }
 
-    // Write-locks n points of a record, one row for each.
-    fn lock_points(&mut self, h: Handle, rec: u64, first: u64, n: u64) {
-        for k in 0..n {
-            self.lock(h, rec, first.saturating_add(k));
+    fn begin(&mut self) -> Option<Handle> {
+        match self.call(Call::Begin)? {
+            Granted::Edit(h) => Some(h),
+            _ => None,
         }
+    }
+
+    // The point k above that of the round.
+    fn at(&self, k: u64) -> Point {
+        Point::from(self.point.saturating_add(k))
     }
 
     // Edit a writes 4 records and edit b reads 4, which takes the 8 access rows and 4 of the 8 lock rows. Edit c finds
     // no access row: 4 times 10. What needs no new row is still granted: 3 calls.
     fn fill_accesses(&mut self, a: Handle, b: Handle, c: Handle) {
-        let t = self.point;
+        let t = self.at(0);
         for rec in 0..4 {
-            self.write(a, rec);
+            self.call(Call::Write(a, rec, 7));
         }
         for rec in 0..4 {
-            self.read(b, rec, t);
+            self.call(Call::Read(b, rec, t, Extent::All));
         }
-        self.write(c, 0);
-        self.write(c, 3);
-        self.read(c, 1, t);
-        self.read(c, 2, t);
-        self.write(a, 0);
-        self.read(a, 1, t);
-        self.read(b, 2, t);
+        self.calls(&[
+            Call::Write(c, 0, 7),
+            Call::Write(c, 3, 7),
+            Call::Read(c, 1, t, Extent::All),
+            Call::Read(c, 2, t, Extent::All),
+            Call::Write(a, 0, 7),
+            Call::Read(a, 1, t, Extent::All),
+            Call::Read(b, 2, t, Extent::All),
+        ]);
     }
 
     // Five begins: 3 granted, 2 times 13. The accesses; then six locks of a, of which 4 are granted, 2 times 11, and
     // one of c: 11.
-    fn fill_slots(&mut self) {
-        let t = self.point;
-        let a = self.begin();
-        let b = self.begin();
-        let c = self.begin();
-        self.begin();
-        self.begin();
+    fn fill_slots(&mut self) -> Option<()> {
+        let a = self.begin()?;
+        let b = self.begin()?;
+        let c = self.begin()?;
+        self.calls(&[Call::Begin, Call::Begin]);
         self.fill_accesses(a, b, c);
-        self.lock_points(a, 0, t.saturating_add(1), 6);
-        self.lock(c, 1, t.saturating_add(1));
-        self.abort(a, Finish::Settle);
-        self.abort(b, Finish::Keep);
-        self.settle(b);
-        self.commit(c, Pick::Earliest, Finish::Keep);
-        self.settle(c);
+        for k in 1..7 {
+            let p = self.at(k);
+            self.call(Call::Lock(a, 0, p, p, Extent::All));
+        }
+        let p = self.at(1);
+        self.calls(&[
+            Call::Lock(c, 1, p, p, Extent::All),
+            Call::Abort(a, Finish::Settle),
+            Call::Abort(b, Finish::Keep),
+            Call::Settle(b),
+            Call::Commit(c, Pick::Earliest, Finish::Keep),
+            Call::Settle(c),
+        ]);
+        Some(())
     }
 
     // Locks while access rows are free. Ten locks of edit a: 8 granted, 2 times 11. The read of edit b finds an access
     // row but no lock row: 11. Edit a has written a record that it has no lock on: its commit finds no point and frees
     // all that it had.
-    fn fill_locks(&mut self) {
-        let t = self.point;
-        let a = self.begin();
-        let b = self.begin();
-        self.lock_points(a, 1, t, 10);
-        self.read(b, 2, t);
-        self.write(b, 2);
-        self.write(a, 3);
-        self.commit(a, Pick::Earliest, Finish::Settle);
-        self.abort(b, Finish::Settle);
+    fn fill_locks(&mut self) -> Option<()> {
+        let a = self.begin()?;
+        let b = self.begin()?;
+        for k in 0..10 {
+            let p = self.at(k);
+            self.call(Call::Lock(a, 1, p, p, Extent::All));
+        }
+        let t = self.at(0);
+        self.calls(&[
+            Call::Read(b, 2, t, Extent::All),
+            Call::Write(b, 2, 7),
+            Call::Write(a, 3, 7),
+            Call::Commit(a, Pick::Earliest, Finish::Settle),
+            Call::Abort(b, Finish::Settle),
+        ]);
+        Some(())
     }
 
     // An edit that reads record 0 up to t, writes it and asks to commit at t. Committed, it leaves a version, a settled
     // write lock and a settled read lock, which joins that of the commit before it.
-    fn write_at(&mut self, t: u64) -> Handle {
-        let h = self.begin();
-        self.read(h, 0, t);
-        self.lock(h, 0, t);
-        self.write(h, 0);
-        self.commit(h, Pick::Named(Point::from(t)), Finish::Settle);
-        h
+    fn write_at(&mut self, t: Point) -> Option<Handle> {
+        let h = self.begin()?;
+        self.calls(&[
+            Call::Read(h, 0, t, Extent::All),
+            Call::Lock(h, 0, t, t, Extent::All),
+            Call::Write(h, 0, 7),
+            Call::Commit(h, Pick::Named(t), Finish::Settle),
+        ]);
+        Some(h)
     }
 
     // An edit that writes two records and asks to commit.
-    fn write_two(&mut self, t: u64) -> Handle {
-        let h = self.begin();
-        self.lock(h, 0, t);
-        self.lock(h, 1, t);
-        self.write(h, 0);
-        self.write(h, 1);
-        self.commit(h, Pick::Latest, Finish::Settle);
-        h
+    fn write_two(&mut self, t: Point) -> Option<Handle> {
+        let h = self.begin()?;
+        self.calls(&[
+            Call::Lock(h, 0, t, t, Extent::All),
+            Call::Lock(h, 1, t, t, Extent::All),
+            Call::Write(h, 0, 7),
+            Call::Write(h, 1, 7),
+            Call::Commit(h, Pick::Latest, Finish::Settle),
+        ]);
+        Some(h)
     }
 
     // Versions: 3 rows are free. Two commits take two; the commit that needs two rows is refused by 12, one that needs
     // one is granted; the next is refused by 12. The purge frees 3 version rows and 4 lock rows: three writes, and one
     // row for the three reads, which adjoin.
-    fn fill_versions(&mut self) {
-        let t = self.point;
-        self.write_at(t.saturating_add(1));
-        self.write_at(t.saturating_add(2));
-        let two = self.write_two(t.saturating_add(3));
-        self.abort(two, Finish::Keep);
-        self.settle(two);
-        self.write_at(t.saturating_add(3));
-        let last = self.write_at(t.saturating_add(4));
-        self.abort(last, Finish::Settle);
-        self.purge(0, t.saturating_add(4));
+    fn fill_versions(&mut self) -> Option<()> {
+        let first = self.at(1);
+        let second = self.at(2);
+        let third = self.at(3);
+        let fourth = self.at(4);
+        self.write_at(first)?;
+        self.write_at(second)?;
+        let two = self.write_two(third)?;
+        self.calls(&[Call::Abort(two, Finish::Keep), Call::Settle(two)]);
+        self.write_at(third)?;
+        let last = self.write_at(fourth)?;
+        self.calls(&[Call::Abort(last, Finish::Settle), Call::Purge(0, fourth)]);
+        Some(())
     }
 
-    // Runs n rounds, of sixteen points each, and prints their counts and the verdict.
+    // A round of sixteen points, which goes on to its end unless a begin that it needs is refused.
+    fn round(&mut self) -> Option<()> {
+        self.point = self.point.saturating_add(16);
+        self.fill_slots()?;
+        self.fill_locks()?;
+        self.fill_versions()
+    }
+
+    // Runs n rounds, and prints their counts and the verdict.
     fn run(&mut self, rt: &impl Print, n: u64) -> io::Result<()> {
         self.tally = Tally::default();
         for _ in 0..n {
-            self.point = self.point.saturating_add(16);
-            self.fill_slots();
-            self.fill_locks();
-            self.fill_versions();
+            self.round();
         }
         self.tally.print(rt)?;
         let sound = soundness::check(&self.words);
@@ -282,8 +259,9 @@ fn main(rt: HostRuntime) -> io::Result<()> {
         tally: Tally::default(),
         point: 1,
     };
-    c.write_at(1);
-    c.purge(0, 1);
+    let first = Point::from(1);
+    c.write_at(first);
+    c.call(Call::Purge(0, first));
     println!(&rt; "-- a version at point 1, which becomes the floor")?;
     c.tally.print(&rt)?;
     println!(&rt; "-- one round")?;

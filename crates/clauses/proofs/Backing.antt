@@ -1,91 +1,72 @@
--- Versions and the write locks that back them, as the code tests them. Rests on Steps and on Decoded of the crate
--- `tables`.
-use Prim.Native.Nat.{ℕ, zero, suc, ◌≤◌, ◌<◌}
+-- Slots by their number, as the code looks them up, and the write locks that back versions. Rests on Decoded of the
+-- crate `tables`.
+use Prim.Native.Nat.{ℕ, zero, suc, ◌≤◌}
 use mathlib.Core.Path.{◌≡◌, refl, sym, ap, ◌∙◌}
-use mathlib.Core.Bool.{Bool, true, false}
+use mathlib.Core.Bool.{Bool, false, not, ◌&&◌, and_assoc}
 use mathlib.Core.List.{List}
 use native.Mathlib.Omega.{arith}
+use native.Mathlib.Decide.{dec_le}
 use lib.Dec.{eqb}
-use borrow.Author.Tests.{eq-eqb, ne_eqb, le-leb, lt-leb}
+use Rattle.std.specs.Prelude.{None, Some}
 use Rattle.chains.specs.Walk.{IsRow}
-use Rattle.types.specs.Limits.{WRITE, SETTLED, COMMITTED}
-use Rattle.meaning.specs.Lists.{any}
-use Rattle.meaning.specs.Store.{Rec, Edit, fresh_edit, edit_of, access_of}
-use Rattle.meaning.specs.Points.{covers}
-use Rattle.meaning.specs.Sound.{wrote_at, backs}
-use Rattle.types.specs.declared.Version.{Version}
-use Rattle.types.specs.declared.Lock.{Lock}
+use Rattle.types.specs.Limits.{FREE, COMMITTED}
+use Rattle.meaning.specs.Store.{fresh_edit, edit_of, in_use, access_of}
+use Rattle.meaning.specs.Sound.{wrote_at}
 use Rattle.types.specs.declared.Counts.{Counts}
 use Rattle.meaning.proofs.Lists.{get_d_past}
 use Rattle.tables.specs.Decode.{slot_at, edits_of}
+use Rattle.tables.specs.declared.views.Tables.{Tables}
+use Rattle.tables.specs.declared.views.Slot.{Slot}
+use Rattle.tables.specs.Views.{edit_in}
 use Rattle.tables.proofs.Decoded.{edit_of_lem, edits_length}
-use Rattle.clauses.specs.Clauses.{is_backed}
-use Rattle.clauses.proofs.Steps.{and_no, and_on, or_yes, or_on}
+use Rattle.clauses.specs.Views.{SlotOf, committed_at}
+use Rattle.meaning.specs.Store.{has_written}
 
--- a slot that there is not
-module _ (c : Counts) (w : List ℕ) (r t : ℕ) where
-  pub wrote_zero : (k : ℕ) → k ≡ 0 → false ≡ wrote_at (edits_of c w) k r t
-  unfolding wrote_at edit_of
-  wrote_zero k e = rw e refl
+-- a slot that there is not reads as a fresh one
+none_fresh : (c : Counts) (w : List ℕ) (k : ℕ) → (IsRow c.edits k → ⊥) → edit_of (edits_of c w) k ≡ fresh_edit
+unfolding edit_of
+none_fresh c w zero n = refl
+none_fresh c w (suc i) n = go (dec_le (suc i) c.edits)
+  where
+    go : Dec (suc i ≤ c.edits) → edit_of (edits_of c w) (suc i) ≡ fresh_edit
+    go (yes l) = absurd (n (record { low = omega arith; high = l }))
+    go (no l) = get_d_past (edits_of c w) i fresh_edit (omega (arith, edits_length c w))
 
-  pub wrote_past : (k : ℕ) → c.edits < k → false ≡ wrote_at (edits_of c w) k r t
-  unfolding wrote_at edit_of
-  wrote_past zero l = absurd (omega arith)
-  wrote_past (suc i) l = rw (get_d_past (edits_of c w) i fresh_edit (omega (arith, edits_length c w))) refl
+-- the slot with the number k, where the search answers none and where it answers s
+module _ (t : Tables) (k : ℕ) where
+  pub unused_none : SlotOf t k None → false ≡ in_use (edits_of t.counts t.words.now) k
+  unfolding in_use
+  unused_none d = rw (none_fresh t.counts t.words.now k d) refl
 
--- s is slot k as a number
-module _ (c : Counts) (w : List ℕ) (k r t : ℕ) {s : ℕ} (es : s ≡ k) (row : IsRow c.edits s) where
-  slot : edit_of (edits_of c w) k ≡ slot_at c w s
-  slot = ap (edit_of (edits_of c w)) (sym es) ∙ edit_of_lem c w s row
+  pub uncommitted_none : (p : ℕ) → SlotOf t k None → false ≡ committed_at (edits_of t.counts t.words.now) k p
+  uncommitted_none p d = rw (none_fresh t.counts t.words.now k d) refl
 
-  module _ {state : ℕ} (et : state ≡ (slot_at c w s).state) where
-    pub wrote_open : (state ≡ COMMITTED → ⊥) → false ≡ wrote_at (edits_of c w) k r t
-    unfolding wrote_at
-    wrote_open h =
-        and_no _ (ap (λ x. eqb x.state COMMITTED) slot ∙ ne_eqb (slot_at c w s).state COMMITTED (λ z. h (et ∙ z)))
+  module _ (s : Slot) (d : SlotOf t k (Some s)) where
+    edit_is : edit_in s ≡ edit_of (edits_of t.counts t.words.now) k
+    edit_is = rw (← d.0, ← d.1) (sym (edit_of_lem s.tables.counts s.tables.words.now s.number s.there))
 
-    module _ {point : ℕ} (h : state ≡ COMMITTED) (ep : point ≡ (slot_at c w s).point) where
-      pub wrote_elsewhere : (point ≡ t → ⊥) → false ≡ wrote_at (edits_of c w) k r t
-      unfolding wrote_at
-      wrote_elsewhere o =
-          and_on (ap (λ x. eqb x.state COMMITTED) slot ∙ eq-eqb (slot_at c w s).state COMMITTED (sym et ∙ h))
-          (and_no _ (ap (λ x. eqb x.point t) slot ∙ ne_eqb (slot_at c w s).point t (λ z. o (ep ∙ z))))
+    pub used_some : {q : ℕ} → q ≡ (edit_in s).state → not (eqb q FREE) ≡ in_use (edits_of t.counts t.words.now) k
+    unfolding in_use
+    used_some e = ap (λ x. not (eqb x FREE)) (e ∙ ap (λ y. y.state) edit_is)
 
-      pub wrote_here : {b : Bool} → point ≡ t → b ≡ (access_of (slot_at c w s) r).written
-          → b ≡ wrote_at (edits_of c w) k r t
-      unfolding wrote_at
-      wrote_here o ea =
-          and_on (ap (λ x. eqb x.state COMMITTED) slot ∙ eq-eqb (slot_at c w s).state COMMITTED (sym et ∙ h))
-          (and_on (ap (λ x. eqb x.point t) slot ∙ eq-eqb (slot_at c w s).point t (sym ep ∙ o))
-          (ea ∙ ap (λ x. (access_of x r).written) (sym slot)))
+    pub committed_some : {q r : ℕ} (p : ℕ) → q ≡ (edit_in s).state → r ≡ (edit_in s).point
+        → (eqb q COMMITTED && eqb r p) ≡ committed_at (edits_of t.counts t.words.now) k p
+    committed_some p e f = rw (e, f, edit_is) refl
 
--- l is the lock as it was read
-module _ (es : List Edit) (r p : ℕ) {l m : Lock} (e : l ≡ m) where
-  pub backs_read : (l.mode ≡ WRITE → ⊥) → false ≡ backs es r p m
-  unfolding backs
-  backs_read h = rw (sym e) (and_no _ (ne_eqb l.mode WRITE h))
+-- b says whether slot k has committed at p, m whether it wrote record r, where there is a slot k
+pub wrote_is : (c : Counts) (w : List ℕ) (k r p : ℕ) {b m : Bool} → b ≡ committed_at (edits_of c w) k p
+    → (IsRow c.edits k → m ≡ (has_written (access_of (slot_at c w k) r))) → (b && m) ≡ wrote_at (edits_of c w) k r p
+unfolding wrote_at
+wrote_is c w k r p {b} {m} e d = go (dec_le 1 k) (dec_le k c.edits)
+  where
+    none : (IsRow c.edits k → ⊥) → (b && m) ≡ wrote_at (edits_of c w) k r p
+    none n = rw (e, none_fresh c w k n) refl
 
-  module _ (h : l.mode ≡ WRITE) {b : Bool} (eb : b ≡ covers p l) where
-    pub backs_off : b ≡ false → false ≡ backs es r p m
-    unfolding backs
-    backs_off z = rw (sym e) (and_on (eq-eqb l.mode WRITE h) (and_no _ (sym eb ∙ z)))
-
-    pub backs_settled : b ≡ true → l.owner ≡ SETTLED → true ≡ backs es r p m
-    unfolding backs
-    backs_settled z o =
-        rw (sym e) (and_on (eq-eqb l.mode WRITE h) (and_on (sym eb ∙ z) (or_yes _ (eq-eqb l.owner SETTLED o))))
-
-    pub backs_owned : {q : Bool} → b ≡ true → (l.owner ≡ SETTLED → ⊥) → q ≡ wrote_at es l.owner r p
-        → q ≡ backs es r p m
-    unfolding backs
-    backs_owned z o d =
-        rw (sym e) (and_on (eq-eqb l.mode WRITE h) (and_on (sym eb ∙ z) (or_on (ne_eqb l.owner SETTLED o) d)))
-
-module _ (es : List Edit) (r : ℕ) (x : Rec) (v : Version) {floor : ℕ} (ef : floor ≡ x.floor) where
-  pub backed_old : v.point ≤ floor → true ≡ is_backed es r x v
-  unfolding is_backed
-  backed_old h = or_yes _ (le-leb v.point x.floor (omega arith))
-
-  pub backed_new : {q : Bool} → floor < v.point → q ≡ any (backs es r v.point) x.locks → q ≡ is_backed es r x v
-  unfolding is_backed
-  backed_new h d = or_on (lt-leb v.point x.floor (omega arith)) d
+    go : Dec (1 ≤ k) → Dec (k ≤ c.edits) → (b && m) ≡ wrote_at (edits_of c w) k r p
+    go (yes l) (yes h) =
+        let row : IsRow c.edits k = record { low = l; high = h } in
+        rw (e, d row, edit_of_lem c w k row)
+        (and_assoc (eqb (slot_at c w k).state COMMITTED) (eqb (slot_at c w k).point p)
+        (has_written (access_of (slot_at c w k) r)))
+    go (no l) h = none (λ row. l row.low)
+    go (yes l) (no h) = none (λ row. h row.high)

@@ -1,12 +1,10 @@
--- Loops over the numbers below n that leave at the first one that fails, by `all` or by `for`, and two tests of single
--- words. Rests on Bounded of `chains`.
+-- Loops over the numbers below n that leave at the first one that fails, by `all` or by `for`. Rests on Bounded of
+-- `chains`.
 use Prim.Native.Nat.{ℕ, ◌+◌, ◌≤◌, ◌<◌}
 use mathlib.Core.Path.{◌≡◌, refl, sym, ap, ◌∙◌}
 use mathlib.Core.Bool.{Bool, true, false, false≢true}
 use native.Mathlib.Omega.{arith}
 use native.Mathlib.Numerals.{add-one}
-use lib.Dec.{leb, ltb}
-use borrow.Author.Tests.{le-leb, lt-leb, lt-ltb, le-ltb}
 use Rattle.chains.specs.Lists.{all_to}
 use lib.ListN.{length, get_or}
 use Rattle.std.specs.Prelude.{MatchBool}
@@ -54,17 +52,3 @@ all_ranged f n r h = go r h
     go false h =
         let l : h.0 < n = omega (arith, h.1, length-range_with_len 0 n) in
         sym (bool_false (all_to n f) (λ e. false≢true (sym (ap f (sym (at h.0 l)) ∙ h.2 0) ∙ all_at f n h.0 e l)))
-
--- a word that was read is at most b, or is not
-pub most_yes : (b : ℕ) {x y : ℕ} → x ≡ y → x ≤ b → leb y b ≡ true
-most_yes b {x} {y} e l = le-leb y b (omega arith)
-
-pub most_no : (b : ℕ) {x y : ℕ} → x ≡ y → b < x → leb y b ≡ false
-most_no b {x} {y} e l = lt-leb y b (omega arith)
-
--- below b, or not
-pub less_yes : (b : ℕ) {x y : ℕ} → x ≡ y → x < b → ltb y b ≡ true
-less_yes b {x} {y} e l = lt-ltb y b (omega arith)
-
-pub less_no : (b : ℕ) {x y : ℕ} → x ≡ y → b ≤ x → ltb y b ≡ false
-less_no b {x} {y} e l = le-ltb y b (omega arith)

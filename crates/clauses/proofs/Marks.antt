@@ -7,8 +7,7 @@ use mathlib.Core.List.{List, [], ◌∷◌, map}
 use native.Mathlib.Omega.{arith}
 use native.Mathlib.Decide.{ℕ_discrete}
 use native.Mathlib.Numerals.{add-one}
-use lib.ListN.{length, get_or, set, replicate, length-replicate}
-use lib.Dec.{eqb}
+use lib.ListN.{get_or, set, replicate}
 use borrow.Author.Tests.{lt-ltb, le-ltb}
 use Rattle.chains.specs.Lists.{occ}
 use Rattle.chains.specs.declared.Table.{Table}
@@ -16,13 +15,11 @@ use Rattle.chains.specs.Walk.{among, IsRow, rows}
 use Rattle.chains.specs.Table.{link, chain, head_of, rows_of}
 use Rattle.chains.proofs.Bounded.{all_at}
 use Rattle.chains.proofs.Occurs.{occ_nil, occ_other, occ_here, occ_there}
-use Rattle.chains.proofs.Parts.{zeros}
+use Rattle.chains.proofs.Parts.{clear_new}
 use Rattle.chains.proofs.Walks.{among_out}
 use Rattle.meaning.specs.Sound.{state_listed, generation_listed, point_listed, names_existing, names_once}
 use Rattle.meaning.specs.Sound.{reads_present}
 use Rattle.meaning.specs.Sound.{reads_locked, point_common, free_idle, sound_edit}
-use Rattle.meaning.specs.Store.{access_of}
-use Rattle.types.specs.declared.Lock.{Lock}
 use Rattle.types.specs.declared.Access.{Access}
 use Rattle.types.specs.declared.Counts.{Counts}
 use Rattle.meaning.proofs.Lists.{every_at}
@@ -30,9 +27,11 @@ use Rattle.tables.specs.Layout.{Fits, lock_table, lock_heads}
 use Rattle.tables.specs.Decode.{lock_at, record_at, slot_at, records_of, locks_of, lock_rows}
 use Rattle.tables.specs.Words.{locks_parted}
 use Rattle.clauses.specs.Clauses.{slots_sound}
-use Rattle.clauses.specs.Marks.{MARKS, own_mark, mark_own, mark_access, mark_accesses, mark_slots, Writers}
+use Rattle.chains.specs.Partition.{MARKS}
+use Rattle.clauses.specs.Marks.{own_mark, mark_own, mark_access, mark_accesses, mark_slots, Writers}
 use Rattle.clauses.proofs.Slots.{slots_all}
 use Rattle.clauses.proofs.Marking.{writers}
+use Rattle.meaning.specs.Store.{has_written}
 
 -- a row met is a row of the table
 rows_row : (nx : ℕ → ℕ) (n f h x : ℕ) → 1 ≤ occ x (rows nx n f h) → IsRow n x
@@ -79,9 +78,9 @@ module _ {all rs rest : List ℕ} {i : ℕ} (v : Ahead all rs) (e : rs ≡ i ∷
   pub ahead_on : Ahead all rest
   ahead_on = record { within = λ x o. v.within x (omega (arith, ap (occ x) e, occ_there x i rest)) }
 
-module _ (c : Counts) (w : List ℕ) (k : ℕ) (m : List ℕ) where
+module _ (c : Counts) (w : List ℕ) (k : ℕ) (m : List Bool) where
   -- one lock row
-  own_cons : (h x : ℕ) (rs : List ℕ) → x ≡ own_mark c w k (get_or m h 0) h
+  own_cons : (h : ℕ) (x : Bool) (rs : List ℕ) → x ≡ own_mark c w k (get_or m h false) h
       → mark_own c w k m (h ∷ rs) ≡ mark_own c w k (set m h x) rs
   unfolding mark_own
   own_cons h x rs e = ap (λ y. mark_own c w k (set m h y) rs) (sym e)
@@ -90,8 +89,8 @@ module _ (c : Counts) (w : List ℕ) (k : ℕ) (m : List ℕ) where
   unfolding mark_own
   own_nil = refl
 
-  module _ {rs answer : List ℕ} (i : mark_own c w k m rs ≡ answer) where
-    pub own_on_lem : {h x : ℕ} {rest : List ℕ} → rs ≡ h ∷ rest → x ≡ own_mark c w k (get_or m h 0) h
+  module _ {rs : List ℕ} {answer : List Bool} (i : mark_own c w k m rs ≡ answer) where
+    pub own_on_lem : {h : ℕ} {x : Bool} {rest : List ℕ} → rs ≡ h ∷ rest → x ≡ own_mark c w k (get_or m h false) h
         → mark_own c w k (set m h x) rest ≡ answer
     own_on_lem {h} {x} {rest} e ex = sym (ap (mark_own c w k m) e ∙ own_cons h x rest ex) ∙ i
 
@@ -99,15 +98,15 @@ module _ (c : Counts) (w : List ℕ) (k : ℕ) (m : List ℕ) where
     own_done e = sym (ap (mark_own c w k m) e ∙ own_nil) ∙ i
 
   -- one access
-  pub access_unwritten : (a : Access) → a.written ≡ false → m ≡ mark_access c w k m a
+  pub access_unwritten : (a : Access) → has_written a ≡ false → m ≡ mark_access c w k m a
   unfolding mark_access
   access_unwritten a e = rw e refl
 
-  pub access_past : (a : Access) → a.written ≡ true → c.records ≤ a.rec → m ≡ mark_access c w k m a
+  pub access_past : (a : Access) → has_written a ≡ true → c.records ≤ a.rec → m ≡ mark_access c w k m a
   unfolding mark_access
   access_past a e l = rw (e, le-ltb a.rec c.records l) refl
 
-  pub access_marked : {m' : List ℕ} {j r : ℕ} (a : Access) → a.written ≡ true → a.rec < c.records → j ≡ k
+  pub access_marked : {m' : List Bool} {j r : ℕ} (a : Access) → has_written a ≡ true → a.rec < c.records → j ≡ k
       → r ≡ a.rec → m' ≡ mark_own c w j m (lock_rows c w r) → m' ≡ mark_access c w k m a
   unfolding mark_access
   access_marked a e l ej er o = rw (e, lt-ltb a.rec c.records l) (o ∙ rw (ej, er) refl)
@@ -116,13 +115,13 @@ module _ (c : Counts) (w : List ℕ) (k : ℕ) (m : List ℕ) where
   unfolding mark_accesses
   accesses_nil = refl
 
-  accesses_cons : {m' : List ℕ} (a : Access) (xs : List Access) → m' ≡ mark_access c w k m a
+  accesses_cons : {m' : List Bool} (a : Access) (xs : List Access) → m' ≡ mark_access c w k m a
       → mark_accesses c w k m (a ∷ xs) ≡ mark_accesses c w k m' xs
   unfolding mark_accesses
   accesses_cons a xs o = sym (ap (λ y. mark_accesses c w k y xs) o)
 
-  module _ {xs : List Access} {answer : List ℕ} (i : mark_accesses c w k m xs ≡ answer) where
-    pub accesses_on : {m' : List ℕ} {a : Access} {rest : List Access} → xs ≡ a ∷ rest → m' ≡ mark_access c w k m a
+  module _ {xs : List Access} {answer : List Bool} (i : mark_accesses c w k m xs ≡ answer) where
+    pub accesses_on : {m' : List Bool} {a : Access} {rest : List Access} → xs ≡ a ∷ rest → m' ≡ mark_access c w k m a
         → mark_accesses c w k m' rest ≡ answer
     accesses_on {a = a} {rest} e o = sym (ap (mark_accesses c w k m) e ∙ accesses_cons a rest o) ∙ i
 
@@ -130,34 +129,26 @@ module _ (c : Counts) (w : List ℕ) (k : ℕ) (m : List ℕ) where
     accesses_done e = sym (ap (mark_accesses c w k m) e ∙ accesses_nil) ∙ i
 
 -- all slots
-module _ (c : Counts) (w m₀ : List ℕ) where
+module _ (c : Counts) (w : List ℕ) (m₀ : List Bool) where
   pub slots_none : m₀ ≡ mark_slots c w m₀ 0
   unfolding mark_slots
   slots_none = refl
 
-  pub slots_on : {m m' : List ℕ} (k : ℕ) → m ≡ mark_slots c w m₀ k
+  pub slots_on : {m m' : List Bool} (k : ℕ) → m ≡ mark_slots c w m₀ k
       → m' ≡ mark_accesses c w (k + 1) m (slot_at c w (k + 1)).accesses → m' ≡ mark_slots c w m₀ (k + 1)
   unfolding mark_slots
   slots_on {m} {m'} k e o = rw add-one (rw (add-one, e) at o)
 
-  pub slots_end : {m : List ℕ} {k n : ℕ} → m ≡ mark_slots c w m₀ k → k ≡ n → m ≡ mark_slots c w m₀ n
+  pub slots_end : {m : List Bool} {k n : ℕ} → m ≡ mark_slots c w m₀ k → k ≡ n → m ≡ mark_slots c w m₀ n
   slots_end e z = e ∙ ap (mark_slots c w m₀) z
 
-pub new_size : (n : ℕ) → n ≡ MARKS → length (replicate {A = ℕ} n 0) ≡ MARKS
-new_size n e = length-replicate n 0 ∙ e
-
--- what the marks say of the lock l of row i
-pub writers_at : (c : Counts) (w : List ℕ) (r i : ℕ) {m : List ℕ} {l : Lock} → Writers c w r m
-    → 1 ≤ occ i (lock_rows c w r) → l ≡ lock_at c w i → IsRow c.edits l.owner
-    → eqb (get_or m i 0) 1 ≡ (access_of (slot_at c w l.owner) r).written
-writers_at c w r i W on e row = rw e (W.wrote i on (rw e at row))
-
 -- the marks of the new array serve every record
-pub writers_new : (c : Counts) (w : List ℕ) (n : ℕ) {m : List ℕ} → n ≡ MARKS → Fits c w → locks_parted c w ≡ true
-    → slots_sound c w ≡ true → m ≡ mark_slots c w (replicate n 0) c.edits → (r : ℕ) → r < c.records → Writers c w r m
+pub writers_new : (c : Counts) (w : List ℕ) (n : ℕ) {m : List Bool} → n ≡ MARKS → Fits c w → locks_parted c w ≡ true
+    → slots_sound c w ≡ true → m ≡ mark_slots c w (replicate n false) c.edits → (r : ℕ)
+    → r < c.records → Writers c w r m
 unfolding locks_parted sound_edit
 writers_new c w n e f d s o r l =
-    rw o (writers c w (replicate n 0) d f.ranged.locks_high (length-replicate n 0 ∙ e) (zeros n) once r l)
+    rw o (writers c w (replicate n false) d f.ranged.locks_high (clear_new n e).size (clear_new n e).clear once r l)
   where
     once : (k : ℕ) → IsRow c.edits k → names_once (slot_at c w k) ≡ true
     once zero row = absurd (omega (arith, row.low))

@@ -10,8 +10,8 @@ use Rattle.types.specs.Limits.{LAST}
 use Rattle.meaning.specs.Store.{Edit}
 use Rattle.meaning.proofs.Lists.{and_left, and_right}
 use Rattle.sweeps.specs.declared.Swept.{Swept}
-use Rattle.sweeps.specs.Sweep.{passed, passing, swept_now}
-use Rattle.clauses.specs.Clauses.{span_lies, mode_listed, owner_used, lock_sound, lock_now}
+use Rattle.sweeps.specs.Sweep.{passed, passing}
+use Rattle.clauses.specs.Clauses.{span_lies, mode_listed, owner_used, lock_sound}
 use Rattle.clauses.proofs.Steps.{and_no, and_on}
 
 -- the locks ls are still to come; l is the next, b whether it passes
@@ -51,10 +51,3 @@ lock_lies es floor l h =
       leb-true l.low l.high (and_left (leb l.low l.high) (leb l.high LAST) ends),
       leb-true l.high LAST (and_right (leb l.low l.high) (leb l.high LAST) ends),
     )
-
--- so that its end can be computed
-pub passes_high : (es : List Edit) (floor : ℕ) (s : Swept) (l : Lock) {b : Bool} → b ≡ lock_now es floor s l → b ≡ true
-    → l.high ≤ LAST
-unfolding lock_now
-passes_high es floor s l e z =
-    (lock_lies es floor l (and_left (lock_sound es floor l) (swept_now s l) (sym e ∙ z))).2

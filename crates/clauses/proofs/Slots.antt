@@ -1,29 +1,22 @@
--- All records and all slots, as loops over their numbers; a free slot without accesses. Rests on Steps, on Records and
--- on Builds of the crate `tables`.
+-- All records and all slots, as loops over their numbers. Rests on Records and on Builds of the crate `tables`.
 use Prim.Native.Nat.{ℕ, suc, ◌+◌, ◌-◌, ◌<◌}
-use mathlib.Core.Path.{◌≡◌, sym, ap, ◌∙◌}
-use mathlib.Core.Bool.{Bool, true, not}
+use mathlib.Core.Path.{◌≡◌, refl, sym, ap, ◌∙◌}
+use mathlib.Core.Bool.{true}
 use mathlib.Core.List.{List}
 use native.Mathlib.Omega.{arith}
-use lib.ListN.{length, replicate, length-replicate}
-use lib.Dec.{eqb}
-use borrow.Author.Tests.{eq-eqb, ne_eqb, not-false, not-true}
-use Rattle.std.specs.Prelude.{Option, None, Some}
-use Rattle.std.specs.Option.{is_some}
-use Rattle.std.specs.Iterator.{YieldsFirst}
+use lib.ListN.{replicate, length-replicate}
 use Rattle.chains.specs.Lists.{all_to}
 use Rattle.chains.proofs.Bounded.{all_ext, all_at, all_all}
 use Rattle.chains.proofs.Parts.{zeros}
-use Rattle.types.specs.Limits.{MAX_RECORDS, FREE}
+use Rattle.types.specs.Limits.{MAX_RECORDS}
 use Rattle.meaning.specs.Lists.{pairwise}
 use Rattle.meaning.specs.Points.{no_later}
-use Rattle.meaning.specs.Sound.{free_idle, sound_rec, sound_edit}
+use Rattle.meaning.specs.Sound.{versions_backed, sound_rec, sound_edit}
 use Rattle.types.specs.declared.Counts.{Counts}
 use Rattle.tables.specs.Decode.{record_at, slot_at, records_of, edits_of}
 use Rattle.tables.proofs.Builds.{all_from_build}
-use Rattle.clauses.specs.Clauses.{Stamps, records_sound, slots_sound, locks_pass, all_pass}
-use Rattle.clauses.proofs.Records.{locks_rise_lem, rec_passes}
-use Rattle.clauses.proofs.Steps.{or_yes, or_on}
+use Rattle.clauses.specs.Clauses.{Stamps, record_rest, is_backed, records_sound, slots_sound, locks_pass, all_pass}
+use Rattle.clauses.proofs.Records.{locks_rise_lem, rec_checked, rec_passes}
 
 module _ (c : Counts) (w : List ℕ) where
   pub records_all : all_to c.records (λ j. sound_rec (edits_of c w) j (record_at c w j)) ≡ records_sound c w
@@ -43,6 +36,15 @@ module _ (c : Counts) (w : List ℕ) where
   pub all_rise : all_pass c w ≡ true → (r : ℕ) → r < c.records → pairwise no_later (record_at c w r).locks ≡ true
   all_rise h r l = locks_rise_lem (edits_of c w) (record_at c w r) (pass_at h r l)
 
+  -- so that what is left of their clauses makes them sound
+  pub records_passed : all_pass c w ≡ true
+      → all_to c.records (λ j. record_rest (edits_of c w) j (record_at c w j)) ≡ records_sound c w
+  unfolding versions_backed is_backed
+  records_passed h =
+      all_ext (λ j. record_rest (edits_of c w) j (record_at c w j)) (λ j. sound_rec (edits_of c w) j (record_at c w j))
+      c.records (λ j l. rec_checked (edits_of c w) j (record_at c w j) (pass_at h j l) refl)
+      ∙ records_all
+
   pub sound_pass : records_sound c w ≡ true → all_pass c w ≡ true
   unfolding all_pass
   sound_pass h =
@@ -57,24 +59,6 @@ module _ (c : Counts) (w : List ℕ) where
       (λ j. sound_edit (records_of c w) (1 + j) (slot_at c w (suc j))) c.edits
       (λ j l. let e : suc j ≡ 1 + j = omega arith in ap (λ i. sound_edit (records_of c w) i (slot_at c w (suc j))) e)
       ∙ sym (all_from_build c.edits 1 (λ i. slot_at c w (suc i)) (sound_edit (records_of c w)))
-
--- an iterator gives nothing exactly if nothing was left
-pub none_left : {S A : Type 0} (rest : S → List A) (s t : S) {q : Bool} (r : Option A) → YieldsFirst rest s r t
-    → is_some r ≡ not q → q ≡ eqb (length (rest s)) 0
-none_left rest s t {q} None y e = not-false q (sym e) ∙ ap (λ xs. eqb (length xs) 0) (sym y.0)
-none_left rest s t {q} (Some x) y e =
-    not-true q (sym e) ∙ sym (ne_eqb (suc (length (rest t))) 0 (λ z. omega arith))
-    ∙ ap (λ xs. eqb (length xs) 0) (sym y)
-
-module _ (c : Counts) (w : List ℕ) (k : ℕ) where
-  pub idle_used : {s : ℕ} → s ≡ (slot_at c w k).state → (s ≡ FREE → ⊥) → true ≡ free_idle (slot_at c w k)
-  unfolding free_idle
-  idle_used e h = or_yes _ (ap not (ne_eqb (slot_at c w k).state FREE (λ z. h (e ∙ z))))
-
-  pub idle_free : {s : ℕ} {q : Bool} → s ≡ (slot_at c w k).state → s ≡ FREE
-      → q ≡ eqb (length (slot_at c w k).accesses) 0 → q ≡ free_idle (slot_at c w k)
-  unfolding free_idle
-  idle_free e h d = or_on (ap not (eq-eqb (slot_at c w k).state FREE (sym e ∙ h))) d
 
 -- stamps: those of the slots before the next one, and none
 pub stamps_before : {k : ℕ} {m : List ℕ} → Stamps k m → Stamps (k + 1 - 1) m

@@ -3,9 +3,9 @@
 -- `meaning`.
 use Rattle.std.specs.Prelude.{ℕ, suc, ◌≤◌, ◌≡◌, Bool, true, not, ◌&&◌, ◌||◌, List, [], ◌∷◌, length, get_or, set, leb}
 use Rattle.std.specs.Prelude.{ltb, eqb}
-use Rattle.meaning.specs.Lists.{any, all_from}
+use Rattle.meaning.specs.Lists.{any, all, all_from}
 use Rattle.types.specs.Limits.{LAST, MAX_RECORDS, READ, WRITE, SETTLED}
-use Rattle.meaning.specs.Store.{Rec, Edit, rec_of, in_use, has_read}
+use Rattle.meaning.specs.Store.{Rec, Edit, rec_of, in_use}
 use Rattle.types.specs.declared.Version.{Version}
 use Rattle.types.specs.declared.Lock.{Lock}
 use Rattle.types.specs.declared.Access.{Access}
@@ -55,15 +55,16 @@ versions_sound x = leb x.floor LAST && falls_to x.floor (suc LAST) x.versions
 unfoldable pub is_backed : List Edit → ℕ → Rec → Version → Bool
 is_backed es r x v = leb v.point x.floor || any (backs es r v.point) x.locks
 
--- the version stands just before `from`, the point read + 1
-abbrev pub stands_before : ℕ → Version → Bool
-stands_before from v = eqb (suc v.point) from
+-- the clauses of a record whose locks pass
+abbrev pub record_rest : List Edit → ℕ → Rec → Bool
+record_rest es r x = versions_sound x && all (is_backed es r x) x.versions
 
--- a record read: its read lock, then the version
+-- a record read, its point + 1, or 0 where it was not: its read lock, then the version
+abbrev pub read_of : Rec → ℕ → ℕ → Bool
+read_of x k from = not (ltb 0 from) || any (starts_read k from) x.locks && is_present x from
+
 unfoldable pub read_sound : List Rec → ℕ → Access → Bool
-read_sound rs k a =
-    not (has_read a) || any (starts_read k a.from) (rec_of rs a.rec).locks
-    && is_present (rec_of rs a.rec) a.from
+read_sound rs k a = read_of (rec_of rs a.rec) k a.from
 
 -- the accesses of slot k from here on: each names a record that exists and has no stamp k yet, and its read is in order
 unfoldable pub accesses_sound : List Rec → ℕ → List ℕ → List Access → Bool

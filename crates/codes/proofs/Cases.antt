@@ -1,5 +1,5 @@
--- A refusal other than 8 has its bare number; the flags that 0 and the other numbers are. Rests on Codes.
-use Prim.Native.Nat.{ℕ, zero, suc}
+-- A refusal other than 8 has its bare number. Rests on Codes.
+use Prim.Native.Nat.{ℕ}
 use mathlib.Core.Path.{◌≡◌, refl}
 use mathlib.Core.List.{List, [], ◌∷◌}
 use types.Run.{OneOf, miss}
@@ -10,9 +10,7 @@ use Rattle.types.specs.contracts.Refusal.{the_type}
 use Rattle.types.specs.declared.Refusal.TheVariants.{Unsound, NoEdit, EditEnded, EditOpen, NoRecord, BadPoint}
 use Rattle.types.specs.declared.Refusal.TheVariants.{BelowFloor, Held, Frozen, NoAccessRow, NoLockRow, NoVersionRow}
 use Rattle.types.specs.declared.Refusal.TheVariants.{NoSlot, NotCommon, LockedBelow, BadFormat}
-use Rattle.types.specs.declared.Extent.TheVariants.{All, Part}
-use Rattle.types.specs.declared.Finish.TheVariants.{Settle, Keep}
-use Rattle.codes.specs.Codes.{code_of, extent_of, finish_of}
+use Rattle.codes.specs.Codes.{code_of}
 
 -- the variants of Refusal but Held, by their place
 abbrev others : List ℕ
@@ -36,18 +34,3 @@ bare NoSlot k = refl
 bare NotCommon k = refl
 bare LockedBelow k = refl
 bare BadFormat k = refl
-
--- 0, and any other number
-pub all_of : {n : ℕ} → n ≡ 0 → All ≡ extent_of n
-all_of e = rw e refl
-
-pub part_of : (n : ℕ) → (n ≡ 0 → ⊥) → Part ≡ extent_of n
-part_of zero k = absurd (k refl)
-part_of (suc n) k = refl
-
-pub settle_of : {n : ℕ} → n ≡ 0 → Settle ≡ finish_of n
-settle_of e = rw e refl
-
-pub keep_of : (n : ℕ) → (n ≡ 0 → ⊥) → Keep ≡ finish_of n
-keep_of zero k = absurd (k refl)
-keep_of (suc n) k = refl

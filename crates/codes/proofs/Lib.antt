@@ -1,5 +1,4 @@
--- The cases of a refusal's number and of the flags, how a reply is told, and the laws of the numbers of replies. Rests
--- on specs/.
+-- The cases of a refusal's number, how a reply is told, and the laws of the numbers of replies. Rests on specs/.
 pub mod Cases
 pub mod Telling
 pub mod Laws

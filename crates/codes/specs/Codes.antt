@@ -1,5 +1,5 @@
 -- What a C caller hears of a reply: one number, and the numbers that it lends. Rests on the replies of `types`.
-use Rattle.std.specs.Prelude.{ℕ, zero, suc, ◌+◌, ◌*◌, ◌%◌, ◌≡◌, List, [], ◌∷◌, Some, None}
+use Rattle.std.specs.Prelude.{ℕ, ◌+◌, ◌*◌, ◌%◌, ◌≡◌, cond, eqb, List, [], ◌∷◌, Some, None}
 use Rattle.types.specs.Limits.{GENERATIONS, SLOTS}
 use Rattle.types.specs.Replies.{Reply, ok, edit, locked, read, own, again, commit, nopoint, purged, at, point}
 use Rattle.types.specs.Replies.{refusing}
@@ -89,14 +89,15 @@ pub record Answers (Promise : Reply → Type 0) (code : ℕ) (held left : List �
   pub kept : Promise reply
   pub told : Tells reply code held left
 
--- the flags as numbers: 0 is A and S, any other number is P and K
+-- the flags as numbers: 0 is the first of two, A and S, any other number the second, P and K
+abbrev pub flag_of : {A : Type 0} → ℕ → A → A → A
+flag_of n zero other = cond (eqb n 0) zero other
+
 abbrev pub extent_of : ℕ → Extent
-extent_of zero = All
-extent_of (suc n) = Part
+extent_of n = flag_of n All Part
 
 abbrev pub finish_of : ℕ → Finish
-finish_of zero = Settle
-finish_of (suc n) = Keep
+finish_of n = flag_of n Settle Keep
 
 -- a named point and five counts, from the numbers of a call
 abbrev pub named : ℕ → Pick

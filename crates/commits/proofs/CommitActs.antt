@@ -2,10 +2,10 @@
 -- Acting of `calls`.
 use Rattle.std.specs.Prelude.{Result, Err}
 use Prim.Native.Nat.{ℕ, ◌≤◌, ◌<◌}
-use mathlib.Core.Path.{◌≡◌, refl, sym, ◌∙◌}
+use mathlib.Core.Path.{◌≡◌, refl, sym, ap, ◌∙◌}
 use mathlib.Core.Bool.{Bool, true, false}
 use mathlib.Core.List.{List, []}
-use lib.Dec.{ltb}
+use lib.Dec.{ltb, leb}
 use lib.ListN.{length}
 use borrow.Author.Tests.{lt-ltb}
 use Rattle.chains.specs.Walk.{IsRow}
@@ -36,7 +36,11 @@ use Rattle.blocking.specs.Search.{AllRise}
 use Rattle.changes.specs.Becomes.{Becomes}
 use Rattle.calls.specs.Contract.{Acts, Ready, Makes}
 use Rattle.calls.proofs.Acting.{all_rise, makes_refused, makes_done, makes_as, acts}
-use Rattle.endings.specs.Parts.{commit_at}
+use Rattle.std.specs.Prelude.{Option, None, Some}
+use Rattle.blocking.specs.Search.{upto}
+use Rattle.blocking.proofs.Answered.{upto_some, upto_none}
+use Rattle.common.specs.Commit.{positive}
+use Rattle.endings.specs.Parts.{commit_at, commit_at_or_none, CommonAt}
 use Rattle.commits.proofs.CommitExits
 use Rattle.endings.proofs.Ended.{open_row}
 use Rattle.endings.proofs.EndActs.{acts_refused}
@@ -55,9 +59,8 @@ module _ (c : Counts) (w : List ℕ) (k : ℕ) (R : Ready c w) (st : (edit_at (d
       all_in (λ a. ltb a.rec (length s.records)) (edit_at s k).accesses
       (λ a m. lt-ltb a.rec (length s.records) (((sound_out s R.store).edits k).existing a m))
 
-  pub search_needs : Fits c w × IsRow c.edits k × (names_existing (records_of c w) (slot_at c w k) ≡ true)
-      × AllRise c w
-  search_needs = (R.well.fits, row, rw (decoded_records c w, edit_at_lem c w k row) at names_there, all_rise c w R)
+  pub search_needs : AllRise c w × (names_existing (records_of c w) (slot_at c w k) ≡ true)
+  search_needs = (all_rise c w R, rw (decoded_records c w, edit_at_lem c w k row) at names_there)
 
   -- what they find, of the store
   pub first_is : {t : ℕ} → t ≡ earliest (records_of c w) k (slot_at c w k) → t ≡ earliest s.records k (edit_at s k)
@@ -89,28 +92,15 @@ module _ (c : Counts) (w : List ℕ) (k : ℕ) (R : Ready c w) (st : (edit_at (d
   pub none_done : (f : Finish) (w' : List ℕ) → Becomes c w' (finished f (aborted s k) k) → Makes c (none f) w w' nopoint
   none_done f w' B = makes_done c w (none f) w' (finished f (aborted s k) k) nopoint B.well B.means refl refl
 
-  module _ (f : Finish) (t : ℕ) (w' : List ℕ) (r : Reply) where
-    -- E
-    module _ (e : t ≡ earliest (records_of c w) k (slot_at c w k)) where
-      pub earliest_none : LAST < t → Makes c (none f) w w' r → Makes c (commit_open s k Earliest f) w w' r
-      earliest_none l M = makes_as c w (CommitExits.earliest_none s k f (rw (first_is e) at l)) M
+  -- E and L, at what the search found
+  module _ (f : Finish) {o : Option ℕ} where
+    pub earliest_at : o ≡ upto LAST (earliest (records_of c w) k (slot_at c w k))
+        → CommonAt s k o × (commit_open s k Earliest f ≡ commit_at_or_none s k o f)
+    earliest_at e = CommitExits.at_earliest s k f (e ∙ ap (upto LAST) (first_is refl))
 
-      pub earliest_common : t ≤ LAST → in_common s.records k (edit_at s k) t ≡ true
-      earliest_common l = rw (first_is e) (CommitExits.first_common s k f (rw (first_is e) at l))
-
-      pub earliest_some : t ≤ LAST → Makes c (commit_at s k t f) w w' r → Makes c (commit_open s k Earliest f) w w' r
-      earliest_some l M = makes_as c w (CommitExits.earliest_some s k f (rw (first_is e) at l)) (rw (first_is e) at M)
-
-    -- L
-    module _ (e : t ≡ latest (records_of c w) k (slot_at c w k)) where
-      pub latest_none : t ≡ 0 → Makes c (none f) w w' r → Makes c (commit_open s k Latest f) w w' r
-      latest_none z M = makes_as c w (CommitExits.latest_none s k f (sym (last_is e) ∙ z)) M
-
-      pub latest_common : (t ≡ 0 → ⊥) → in_common s.records k (edit_at s k) t ≡ true
-      latest_common n = rw (last_is e) (CommitExits.last_common s k f (λ z. n (last_is e ∙ z)))
-
-      pub latest_some : (t ≡ 0 → ⊥) → Makes c (commit_at s k t f) w w' r → Makes c (commit_open s k Latest f) w w' r
-      latest_some n M = makes_as c w (CommitExits.latest_some s k f (λ z. n (last_is e ∙ z))) (rw (last_is e) at M)
+    pub latest_at : o ≡ positive (latest (records_of c w) k (slot_at c w k))
+        → CommonAt s k o × (commit_open s k Latest f ≡ commit_at_or_none s k o f)
+    latest_at e = CommitExits.at_latest s k f (e ∙ ap positive (last_is refl))
 
   -- a named point
   module _ (f : Finish) (p : Point) (x : ℕ) (ex : x ≡ p.0) (q : Bool)
@@ -122,16 +112,19 @@ module _ (c : Counts) (w : List ℕ) (k : ℕ) (R : Ready c w) (st : (edit_at (d
         → Makes c (commit_open s k (Named p) f) w w' r
     named_in z w' r M = makes_as c w (CommitExits.named_in s k f p (rw ex at (common_is x eq z))) (rw ex at M)
 
-    pub named_none : (t : ℕ) → t ≡ earliest (records_of c w) k (slot_at c w k) → LAST < t → (w' : List ℕ) (r : Reply)
+    pub named_none : None ≡ upto LAST (earliest (records_of c w) k (slot_at c w k)) → (w' : List ℕ) (r : Reply)
         → Makes c (none f) w w' r
         → Makes c (commit_open s k (Named p) f) w w' r
-    named_none t e l w' r M = makes_as c w (CommitExits.named_none s k f p (rw (first_is e) at l)) M
+    named_none e w' r M =
+        makes_as c w (CommitExits.named_none s k f p
+        (rw (first_is refl) at (upto_none LAST (earliest (records_of c w) k (slot_at c w k)) e))) M
 
-    pub named_out : q ≡ false → (t : ℕ) → t ≡ earliest (records_of c w) k (slot_at c w k) → t ≤ LAST
+    pub named_out : q ≡ false → {t : ℕ} → Some t ≡ upto LAST (earliest (records_of c w) k (slot_at c w k))
         → Makes c (commit_open s k (Named p) f) w w (refusing 14 [])
-    named_out z t e l =
+    named_out z e =
         makes_refused c w (commit_open s k (Named p) f) 14 [] R.well
-        (CommitExits.named_out s k f p (rw ex at (common_is x eq z)) (rw (first_is e) at l))
+        (CommitExits.named_out s k f p (rw ex at (common_is x eq z))
+        (rw (first_is refl) at (upto_some LAST (earliest (records_of c w) k (slot_at c w k)) e).1))
 
 -- the call
 module _ (w : List ℕ) (c : Counts) (P : sound_words (lent w) ≡ true) (E : c ≡ counts_of w) (h : ℕ) (pick : Pick)

@@ -8,7 +8,8 @@ use mathlib.Core.Path.{◌≡◌, refl, ◌∙◌}
 use mathlib.Core.Logic.{◌⊎◌, inl, inr}
 use mathlib.Core.Bool.{Bool, true, false}
 use mathlib.Core.List.{[]}
-use borrow.Author.Tests.{lt-ltb, le-ltb}
+use lib.Dec.{leb}
+use borrow.Author.Tests.{lt-ltb, le-ltb, leb-true, leb-false}
 use Rattle.types.specs.Limits.{LAST}
 use Rattle.meaning.specs.Store.{Store, edit_at}
 use Rattle.types.specs.Numbers.{slot_of}
@@ -28,7 +29,10 @@ use Rattle.meaning.proofs.Laws.{common_set_is, earliest_is_least, latest_is_grea
 use Rattle.calls.proofs.Verdicts.{needs_fails, needs_holds, edit_open}
 use Rattle.calls.specs.Checks.{open_slot}
 use Rattle.calls.proofs.Checks.{open_refused}
-use Rattle.endings.specs.Parts.{commit_at}
+use Rattle.std.specs.Prelude.{Option}
+use Rattle.std.specs.Bool.{then_some}
+use Rattle.meaning.proofs.Lists.{test}
+use Rattle.endings.specs.Parts.{commit_at, commit_at_or_none, CommonAt}
 
 module _ (s : Store) (h : ℕ) (pick : Pick) (f : Finish) where
   abbrev rest : Outcome
@@ -86,7 +90,7 @@ module _ (s : Store) (k : ℕ) (f : Finish) where
       go (inl v) (inl w) = absurd (omega (arith, v.common.least, e))
       go (inr v) (inl w) = absurd (v.1 first w.common)
 
-  pub first_common : first ≤ LAST → common first ≡ true
+  first_common : first ≤ LAST → common first ≡ true
   first_common l = go (earliest_is_least s.records k (edit_at s k))
     where
       go : LeastCommon s.records k (edit_at s k) first
@@ -95,7 +99,7 @@ module _ (s : Store) (k : ℕ) (f : Finish) where
       go (inl w) = (common_set_is s.records k (edit_at s k) first).1 w.common
       go (inr w) = absurd (omega (arith, w.0))
 
-  pub last_common : (last ≡ 0 → ⊥) → common last ≡ true
+  last_common : (last ≡ 0 → ⊥) → common last ≡ true
   last_common n = go (latest_is_greatest s.records k (edit_at s k))
     where
       go : GreatestCommon s.records k (edit_at s k) last ⊎ ((last ≡ 0) × EmptyCommonSet s.records k (edit_at s k))
@@ -107,19 +111,41 @@ module _ (s : Store) (k : ℕ) (f : Finish) where
   unfolding commit_open_by no_common
   empty_ends pick l = rw (lt-ltb LAST first l) refl
 
-  pub earliest_none : LAST < first → commit_open s k Earliest f ≡ none
+  earliest_none : LAST < first → commit_open s k Earliest f ≡ none
   earliest_none l = empty_ends Earliest l
 
-  pub earliest_some : first ≤ LAST → commit_open s k Earliest f ≡ commit_at s k first f
+  earliest_some : first ≤ LAST → commit_open s k Earliest f ≡ commit_at s k first f
   unfolding commit_open_by no_common commit_verdict commit_at
   earliest_some l = rw (le-ltb LAST first l) refl
 
-  pub latest_none : last ≡ 0 → commit_open s k Latest f ≡ none
+  latest_none : last ≡ 0 → commit_open s k Latest f ≡ none
   latest_none e = empty_ends Latest (none_latest e)
 
-  pub latest_some : (last ≡ 0 → ⊥) → commit_open s k Latest f ≡ commit_at s k last f
+  latest_some : (last ≡ 0 → ⊥) → commit_open s k Latest f ≡ commit_at s k last f
   unfolding commit_open_by no_common commit_verdict commit_at
   latest_some n = rw (le-ltb LAST first (some_common last (last_common n))) refl
+
+  -- so the commit is at what the search found, or without a point
+  module _ {o : Option ℕ} (e : o ≡ then_some (leb first LAST) first) where
+    pub at_earliest : CommonAt s k o × (commit_open s k Earliest f ≡ commit_at_or_none s k o f)
+    at_earliest = go (test (leb first LAST))
+      where
+        go : (leb first LAST ≡ true) ⊎ (leb first LAST ≡ false)
+            → CommonAt s k o × (commit_open s k Earliest f ≡ commit_at_or_none s k o f)
+        go (inl q) =
+            let l = leb-true first LAST q in rw (e, q) (first_common l, earliest_some l)
+        go (inr q) = rw (e, q) (tt, earliest_none (leb-false first LAST q))
+
+  module _ {o : Option ℕ} (e : o ≡ then_some (leb 1 last) last) where
+    pub at_latest : CommonAt s k o × (commit_open s k Latest f ≡ commit_at_or_none s k o f)
+    at_latest = go (test (leb 1 last))
+      where
+        go : (leb 1 last ≡ true) ⊎ (leb 1 last ≡ false)
+            → CommonAt s k o × (commit_open s k Latest f ≡ commit_at_or_none s k o f)
+        go (inl q) =
+            let l = leb-true 1 last q in
+            rw (e, q) (last_common (λ z. omega (arith, l, z)), latest_some (λ z. omega (arith, l, z)))
+        go (inr q) = rw (e, q) (tt, latest_none (omega (arith, leb-false 1 last q)))
 
   module _ (p : Point) where
     pub named_in : common p.0 ≡ true → commit_open s k (Named p) f ≡ commit_at s k p.0 f

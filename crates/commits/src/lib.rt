@@ -3,66 +3,74 @@
 // and the locks of their records; if it settles the edit, along the locks of each record that it may have touched.
 // Rests on the crates `types`, `meaning`, `chains`, `tables`, `changes`, `slots`, `lookups`, `blocking`, `common`,
 // `index`, `calls` and `endings`.
+// Kept, words and counts: lent to be changed; over a struct of both each would promise, too, that they stay (BORROWS).
+// Kept, Ready c w: `Well` and more, of words before a change.
+// Kept, sound_words: what a caller proves once for many calls, of words that each call changes.
+// Kept, Indexed: between words that change and an index, which C callers lend one beside the other.
+// Kept, words and index: two memories that C callers lend, one of them to be changed.
+// Kept, finish and index: the call's own flag, and the memory that C callers lend.
+// Kept, state ≡ OPEN: what `open_slot` found, of words that change.
 #![tactic(auto)]
 
-ghost use Rattle.std.specs.Prelude.{◌≡◌, true, ◌∷◌, [], ◌≤◌, ◌<◌};
-ghost use Rattle.chains.specs.Walk.{IsRow};
-ghost use Rattle.types.specs.Limits.{LAST, OPEN, COMMITTED};
+ghost use Rattle.std.specs.Prelude.{◌≡◌, true, ◌≤◌};
+ghost use Rattle.types.specs.Limits.{OPEN};
 ghost use Rattle.meaning.specs.Store.{edit_at};
 ghost use Rattle.types.specs.Replies.{nopoint, of_commit};
 ghost use Rattle.meaning.specs.Ending.{finished, aborted, good_pick, commit_open, committing};
 ghost use Rattle.meaning.specs.Points.{in_common};
-ghost use Rattle.tables.specs.Decode.{access_at, decode_at};
-ghost use Rattle.tables.specs.Words.{lent, decode, sound_words, Well};
+ghost use Rattle.tables.specs.Decode.{decode_at};
+ghost use Rattle.tables.specs.Words.{lent, decode, sound_words};
 ghost use Rattle.index.specs.Index.{Indexed};
-ghost use Rattle.changes.specs.Becomes.{Becomes, Beside};
 ghost use Rattle.calls.specs.Contract.{Acts, Ready, Makes};
 ghost use Rattle.meaning.specs.Outcomes.{replies, is_point};
-ghost use Rattle.types.specs.declared.Pick.TheVariants.{Earliest, Latest, Named};
-ghost use Rattle.endings.specs.Parts.{commit_at};
-ghost use Rattle.endings.specs.Steps.{changed, along, saved_rec, SaveNeed};
+ghost use Rattle.types.specs.declared.Pick.TheVariants.{Named};
+ghost use Rattle.endings.specs.Parts.{commit_at, commit_at_or_none, CommonAt};
 
-use chains::Cursor;
-use types::{COMMITTED, Counts, Finish, Handle, LAST, Pick, Point, Refusal};
+use common::CommonSet;
+use endings::Step;
+use index::IndexOf;
+use tables::{Row, Slot, Tables};
+use types::{Access, Counts, Finish, Handle, LAST, Pick, Point, Refusal, State};
 
-// The version that access row i makes at t.
-fn save_row(w: &mut [u64], c: Counts, i: usize, t: u64)
-    requires { Well c w.old × IsRow c.accesses i × (1 ≤ t) × SaveNeed (access_at c w.old i ∷ []) (decode_at c w.old) }
-    ensures { Beside c w.old w.new
-        (changed (saved_rec t) (access_at c w.old i) (decode_at c w.old)) }
-{
-    let a = tables::access_at(w, c, i);
-    if a.written {
-        changes::add_version(w, c, chains::wide(a.rec), t, a.value);
-    }
+// The version that each written access makes at t.
+#[derive(Clone, Copy)]
+struct Save {
+    t: u64,
+    ghost later: { 1 ≤ t },
 }
 
-// The versions that the accesses of slot k make at t.
-fn save_versions(w: &mut [u64], c: Counts, k: usize, t: u64)
-    requires { Well c w.old × IsRow c.edits k × (1 ≤ t)
-        × SaveNeed (edit_at (decode_at c w.old) k).accesses (decode_at c w.old) }
-    ensures { Becomes c w.new
-        (along (saved_rec t) (edit_at (decode_at c w.old) k).accesses (decode_at c w.old)) }
-{
-    let table = tables::access_table(c);
-    let mut walk = Cursor::new(table, tables::first_access(w, c, k));
-    while let Some(i) = walk.step(w, table) {
-        save_row(w, c, i, t);
+impl Step for Save {
+    ghost use Rattle.endings.specs.Steps.{saved_rec, SaveNeed};
+
+    ghost makes = { λ s. saved_rec s.t };
+
+    ghost need = { λ s. SaveNeed };
+
+    fn turn(self, w: &mut [u64], c: Counts, i: usize) {
+        let tables = Tables {
+            words: w,
+            counts: c,
+        };
+        let a = Access::read(tables, i);
+        if let Some(value) = a.value {
+            changes::add_version(w, c, a.rec as usize, self.t, value);
+        }
     }
 }
 
 fn no_point(
     w: &mut [u64],
     c: Counts,
-    k: usize,
     finish: Finish,
-    ix: &[u16],
+    index: IndexOf<'_>,
 ) -> Result<Option<Point>, Refusal>
-    requires { Ready c w.old × ((edit_at (decode_at c w.old) k).state ≡ OPEN) × Indexed (decode_at c w.old) ix.now }
-    ensures { Makes c (replies (finished finish (aborted (decode_at c w.old) k) k) nopoint) w.old
-        w.new (of_commit result) }
+    requires { Ready c w.old × ((edit_at (decode_at c w.old) index.slot).state ≡ OPEN)
+        × Indexed (decode_at c w.old) index.numbers.now }
+    ensures { Makes c
+        (replies (finished finish (aborted (decode_at c w.old) index.entry.slot) index.entry.slot) nopoint)
+        w.old w.new (of_commit result) }
 {
-    endings::end_aborted(w, c, k, finish, ix);
+    endings::end_aborted(w, c, finish, index);
     Ok(None)
 }
 
@@ -70,98 +78,112 @@ fn no_point(
 fn commit_at(
     w: &mut [u64],
     c: Counts,
-    k: usize,
     t: u64,
     finish: Finish,
-    ix: &[u16],
+    index: IndexOf<'_>,
 ) -> Result<Option<Point>, Refusal>
-    requires { Ready c w.old × ((edit_at (decode_at c w.old) k).state ≡ OPEN)
-        × (in_common (decode_at c w.old).records k (edit_at (decode_at c w.old) k) t ≡ true)
-        × Indexed (decode_at c w.old) ix.now }
-    ensures { Makes c (commit_at (decode_at c w.old) k t finish) w.old w.new (of_commit result) }
+    requires { Ready c w.old × ((edit_at (decode_at c w.old) index.slot).state ≡ OPEN)
+        × (in_common (decode_at c w.old).records index.slot (edit_at (decode_at c w.old) index.slot) t ≡ true)
+        × Indexed (decode_at c w.old) index.numbers.now }
+    ensures { Makes c (commit_at (decode_at c w.old) index.entry.slot t finish) w.old w.new (of_commit result) }
 {
-    if !lookups::version_room(w, c, k) {
+    let tables = Tables {
+        words: w,
+        counts: c,
+    };
+    if !lookups::version_room(Slot {
+        tables,
+        number: index.slot,
+    }) {
         return Err(Refusal::NoVersionRow);
     }
-    save_versions(w, c, k, t);
-    slots::set_state(w, c, k, COMMITTED, t);
-    endings::finish_slot(w, c, k, finish, ix);
+    endings::each_access(w, c, index.slot, Save { t });
+    slots::set_state(w, c, index.slot, State::Committed, t);
+    endings::finish_slot(w, c, finish, index);
     Ok(Some(Point::from(t)))
 }
 
-fn commit_earliest(
+// At the point t of the common set, or nowhere where it has none.
+fn commit_at_or_none(
     w: &mut [u64],
     c: Counts,
-    k: usize,
+    t: Option<u64>,
     finish: Finish,
-    ix: &[u16],
+    index: IndexOf<'_>,
 ) -> Result<Option<Point>, Refusal>
-    requires { Ready c w.old × ((edit_at (decode_at c w.old) k).state ≡ OPEN) × Indexed (decode_at c w.old) ix.now }
-    ensures { Makes c (commit_open (decode_at c w.old) k Earliest finish) w.old w.new
+    requires { Ready c w.old × ((edit_at (decode_at c w.old) index.slot).state ≡ OPEN)
+        × CommonAt (decode_at c w.old) index.slot t × Indexed (decode_at c w.old) index.numbers.now }
+    ensures { Makes c (commit_at_or_none (decode_at c w.old) index.entry.slot t finish) w.old w.new
         (of_commit result) }
 {
-    let t = common::earliest(w, c, k);
-    if LAST < t {
-        return no_point(w, c, k, finish, ix);
+    match t {
+        Some(point) => commit_at(w, c, point, finish, index),
+        None => no_point(w, c, finish, index),
     }
-    commit_at(w, c, k, t, finish, ix)
-}
-
-fn commit_latest(
-    w: &mut [u64],
-    c: Counts,
-    k: usize,
-    finish: Finish,
-    ix: &[u16],
-) -> Result<Option<Point>, Refusal>
-    requires { Ready c w.old × ((edit_at (decode_at c w.old) k).state ≡ OPEN) × Indexed (decode_at c w.old) ix.now }
-    ensures { Makes c (commit_open (decode_at c w.old) k Latest finish) w.old w.new (of_commit result) }
-{
-    let t = common::latest(w, c, k);
-    if t == 0 {
-        return no_point(w, c, k, finish, ix);
-    }
-    commit_at(w, c, k, t, finish, ix)
 }
 
 fn commit_named(
     w: &mut [u64],
     c: Counts,
-    k: usize,
     p: Point,
     finish: Finish,
-    ix: &[u16],
+    index: IndexOf<'_>,
 ) -> Result<Option<Point>, Refusal>
-    requires { Ready c w.old × ((edit_at (decode_at c w.old) k).state ≡ OPEN) × Indexed (decode_at c w.old) ix.now }
-    ensures { Makes c (commit_open (decode_at c w.old) k (Named p) finish) w.old w.new
+    requires { Ready c w.old × ((edit_at (decode_at c w.old) index.slot).state ≡ OPEN)
+        × Indexed (decode_at c w.old) index.numbers.now }
+    ensures { Makes c (commit_open (decode_at c w.old) index.entry.slot (Named p) finish) w.old w.new
         (of_commit result) }
 {
     let x = u64::from(p);
-    if common::in_common(w, c, k, x) {
-        return commit_at(w, c, k, x, finish, ix);
+    let tables = Tables {
+        words: w,
+        counts: c,
+    };
+    let slot = Slot {
+        tables,
+        number: index.slot,
+    };
+    let set = CommonSet { slot };
+    if set.contains(x) {
+        return commit_at(w, c, x, finish, index);
     }
-    let t = common::earliest(w, c, k);
-    if LAST < t {
-        return no_point(w, c, k, finish, ix);
+    match set.earliest() {
+        None => no_point(w, c, finish, index),
+        Some(_) => Err(Refusal::NotCommon),
     }
-    Err(Refusal::NotCommon)
 }
 
+// Kept: the three ways to pick a point are three searches, an arm each; as closures they would all be handed on.
 fn commit_open(
     w: &mut [u64],
     c: Counts,
-    k: usize,
     pick: Pick,
     finish: Finish,
-    ix: &[u16],
+    index: IndexOf<'_>,
 ) -> Result<Option<Point>, Refusal>
-    requires { Ready c w.old × ((edit_at (decode_at c w.old) k).state ≡ OPEN) × Indexed (decode_at c w.old) ix.now }
-    ensures { Makes c (commit_open (decode_at c w.old) k pick finish) w.old w.new (of_commit result) }
+    requires { Ready c w.old × ((edit_at (decode_at c w.old) index.slot).state ≡ OPEN)
+        × Indexed (decode_at c w.old) index.numbers.now }
+    ensures { Makes c (commit_open (decode_at c w.old) index.entry.slot pick finish) w.old w.new (of_commit result) }
 {
+    let tables = Tables {
+        words: w,
+        counts: c,
+    };
+    let slot = Slot {
+        tables,
+        number: index.slot,
+    };
+    let set = CommonSet { slot };
     match pick {
-        Pick::Earliest => commit_earliest(w, c, k, finish, ix),
-        Pick::Latest => commit_latest(w, c, k, finish, ix),
-        Pick::Named(p) => commit_named(w, c, k, p, finish, ix),
+        Pick::Earliest => {
+            let t = set.earliest();
+            commit_at_or_none(w, c, t, finish, index)
+        }
+        Pick::Latest => {
+            let t = set.latest();
+            commit_at_or_none(w, c, t, finish, index)
+        }
+        Pick::Named(p) => commit_named(w, c, p, finish, index),
     }
 }
 
@@ -169,18 +191,15 @@ fn is_point(p: Point) -> bool
     ensures { result ≡ is_point p.0 }
 {
     let x = u64::from(p);
-    if x < 1 {
-        return false;
-    }
-    x <= LAST
+    1 <= x && x <= LAST
 }
 
+// Kept: only a named point can be bad: the match says it.
 fn good_pick(pick: Pick) -> bool
     ensures { result ≡ good_pick pick }
 {
     match pick {
-        Pick::Earliest => true,
-        Pick::Latest => true,
+        Pick::Earliest | Pick::Latest => true,
         Pick::Named(p) => is_point(p),
     }
 }
@@ -196,9 +215,17 @@ pub fn commit(
     ensures { Acts (committing h.0 pick finish) (lent w.old) (lent w.new) (of_commit result) }
 {
     let c = tables::counts_of(w);
-    let k = calls::open_slot(w, c, h)?;
+    let tables = Tables {
+        words: w,
+        counts: c,
+    };
+    let k = calls::open_slot(tables, h)?;
     if !good_pick(pick) {
         return Err(Refusal::BadPoint);
     }
-    commit_open(w, c, k, pick, finish, ix)
+    let index = IndexOf {
+        numbers: ix,
+        slot: k,
+    };
+    commit_open(w, c, pick, finish, index)
 }

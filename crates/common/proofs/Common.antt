@@ -7,51 +7,65 @@ use mathlib.Core.List.{List, ◌∷◌}
 use native.Mathlib.Omega.{arith}
 use lib.Dec.{leb, ltb}
 use lib.ListN.{length}
-use borrow.Author.Tests.{ltb-true, le-leb, lt-ltb}
+use borrow.Author.Tests.{leb-true, ltb-true, le-leb, lt-ltb}
 use Rattle.types.specs.Limits.{LAST}
 use Rattle.meaning.specs.Lists.{all}
-use Rattle.meaning.specs.Points.{covered, own, writes, first_free, own_on, allows_write, allows_read}
+use Rattle.meaning.specs.Points.{own, first_free, own_on, allows_read}
 use Rattle.meaning.specs.Store.{has_read}
 use Rattle.meaning.specs.Sound.{names_existing}
 use Rattle.types.specs.declared.Access.{Access}
 use Rattle.types.specs.declared.Lock.{Lock}
 use Rattle.types.specs.declared.Counts.{Counts}
-use Rattle.meaning.proofs.Lists.{and_left, and_right}
+use Rattle.meaning.proofs.Lists.{both, and_left, and_right}
 use Rattle.tables.specs.Decode.{record_at, records_of, slot_at}
 use Rattle.tables.proofs.Decoded.{rec_of_lem, records_length}
-use Rattle.blocking.specs.Search.{counted}
+use Rattle.blocking.specs.declared.Which.TheVariants.{Own}
+use Rattle.blocking.specs.Search.{counted, upto}
 use Rattle.blocking.proofs.Free.{counted_own}
-use Rattle.common.specs.Commit.{read_end}
+use Rattle.tables.specs.declared.views.Tables.{Tables}
+use Rattle.tables.specs.declared.views.Record.{Record}
+use Rattle.tables.specs.Views.{rec_in}
+use Rattle.common.specs.declared.sets.Limit.{Limit}
+use Rattle.common.specs.Commit.{own_locks, read_end}
 
 -- b implies x, where b holds
-when : {q x : Bool} (b : Bool) → b ≡ true → q ≡ x → q ≡ (not b || x)
+pub when : {q x : Bool} (b : Bool) → b ≡ true → q ≡ x → q ≡ (not b || x)
 when true e d = d
 when false e d = absurd (false≢true e)
 
 -- one access: j is slot k as a word, r the access's record as a row
 module _ (c : Counts) (w : List ℕ) (k : ℕ) (a : Access) (l : a.rec < c.records) {j r : ℕ} (ej : j ≡ k)
     (er : r ≡ a.rec) where
-  pub own_on_lem : own j (record_at c w r).locks ≡ own_on (records_of c w) k a
+  own_on_lem : own j (record_at c w r).locks ≡ own_on (records_of c w) k a
   unfolding own_on
   own_on_lem = rw (ej, er, rec_of_lem c w a.rec l) refl
 
-  pub allowed_write : {q : Bool} (p : ℕ) → a.written ≡ true → q ≡ covered (writes (own j (record_at c w r).locks)) p
-      → q ≡ allows_write (own_on (records_of c w) k a) a p
-  allowed_write p e d = when a.written e (d ∙ ap (λ ls. covered (writes ls) p) own_on_lem)
+-- as the code has them: the record and the slot of an access
+module _ (l : Limit) (r : Record) {j : ℕ} (ej : j ≡ l.set.slot.number)
+    (er : (r.number ≡ l.access.rec) × (r.tables ≡ l.set.slot.tables)) where
+  pub own_in : own j (rec_in r).locks ≡ own_locks l
+  own_in =
+      let t = l.set.slot.tables in
+      ap (λ (y : Tables). own j (record_at y.counts y.words.now r.number).locks) er.1
+      ∙ own_on_lem t.counts t.words.now l.set.slot.number l.access l.there ej er.0
 
-  pub own_reach : {q : ℕ} (mode from : ℕ) → q ≡ first_free (counted true mode j (record_at c w r).locks) from LAST
-      → q ≡ first_free (own_on (records_of c w) k a) from LAST
-  own_reach mode from d = d ∙ ap (λ ls. first_free ls from LAST)
-      (counted_own mode j (record_at c w r).locks ∙ own_on_lem)
+  pub own_free : upto LAST (first_free (counted (Own j) (rec_in r).locks) l.access.from LAST)
+      ≡ upto LAST (first_free (own_locks l) l.access.from LAST)
+  own_free = ap (λ ls. upto LAST (first_free ls l.access.from LAST)) (counted_own j (rec_in r).locks ∙ own_in)
 
--- the read part, over the locks: from its first point to the end of what was read
+-- the read part, over the locks: from its first point to the last one that was read
+le_lt : (p q : ℕ) → leb p q ≡ ltb p (suc q)
+le_lt p q =
+    both (leb p q) (ltb p (suc q)) (λ e. lt-ltb p (suc q) (omega (arith, leb-true p q e)))
+    (λ e. le-leb p q (omega (arith, ltb-true p (suc q) e)))
+
 module _ (ls : List Lock) (a : Access) (p : ℕ) where
-  pub read_is : {q : ℕ} → p ≤ LAST → a.from ≤ p → q ≡ read_end ls a → ltb p q ≡ allows_read ls a p
+  pub read_is : {last : ℕ} → p ≤ LAST → a.from ≤ p → suc last ≡ read_end ls a → leb p last ≡ allows_read ls a p
   unfolding read_end
-  read_is {q} last h = go (has_read a)
+  read_is {last} top h d = le_lt p last ∙ go (has_read a) d
     where
-      go : (b : Bool) → q ≡ cond b (first_free ls a.from LAST) (suc LAST)
-          → ltb p q ≡ (not b || (leb a.from p && ltb p (first_free ls a.from LAST)))
+      go : (b : Bool) → suc last ≡ cond b (first_free ls a.from LAST) (suc LAST)
+          → ltb p (suc last) ≡ (not b || (leb a.from p && ltb p (first_free ls a.from LAST)))
       go true d = rw (le-leb a.from p h, d) refl
       go false d = rw (d, lt-ltb p (suc LAST) (omega arith)) refl
 

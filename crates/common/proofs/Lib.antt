@@ -1,7 +1,7 @@
--- Laws of the common set: what an access allows (Reach), the set and its ends (Common, Fronts, Lifts, Ends). Rests on
--- the laws of `lookups` and `blocking`.
+-- Laws of the common set: what an access allows (Common, Reach), the accesses of an edit (Fronts), the search for the
+-- nearest point (Lifts) and the two ends of the set (TwoEnds). Rests on the laws of `tables` and `blocking`.
 pub mod Common
 pub mod Fronts
 pub mod Lifts
-pub mod Ends
+pub mod TwoEnds
 pub mod Reach

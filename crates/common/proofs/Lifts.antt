@@ -16,7 +16,8 @@ use Rattle.types.specs.declared.Access.{Access}
 use Rattle.types.specs.declared.Counts.{Counts}
 use Rattle.meaning.proofs.Lists.{and_in, and_left, and_right, test}
 use Rattle.tables.specs.Decode.{slot_at, records_of}
-use Rattle.common.specs.Commit.{LeastFrom, Lifted, first_accesses, Next}
+use Rattle.std.specs.Prelude.{Option, None, Some}
+use Rattle.common.specs.Commit.{LeastFrom, Lifted, NextFrom, first_accesses, Next}
 use Rattle.common.proofs.Common.{Named, named_all, named_on}
 use Rattle.common.proofs.Fronts.{either_side, taken, none_taken, next_front, next_last, next_both, left_after}
 use Rattle.common.proofs.Fronts.{access_counted, next_access, accesses_all, front_of_all}
@@ -70,11 +71,35 @@ module _ {allow : ℕ → Access → Bool} {xs : List Access} {p : ℕ} where
       done : Raising allow xs [] p q → Lifted (λ x. all (allow x) xs) p q
       done i = record { from = i.from; top = i.top; passed = i.passed; still = λ e l. i.still e l refl }
 
+  -- an access allows no point from q on
+  pub raise_out : (n m : ℕ) {a : Access} {left rest : List Access} {q : ℕ} → Raising allow xs (take n left) p q
+      → left ≡ a ∷ rest → m + 1 ≡ n → LeastFrom (λ x. allow x a) q (suc LAST)
+      → Lifted (λ x. all (allow x) xs) p (suc LAST)
+  raise_out n m i e s b =
+      let r = raise_on n m i e s b in
+      record { from = r.from; top = r.top; passed = r.passed; still = λ f l. absurd (omega arith) }
+
 -- Passes until none moves the point
 pub record Lifting (set : ℕ → Bool) (p q : ℕ) : Type 0 where
   pub from : p ≤ q
   pub top : q ≤ suc LAST
   pub passed : (x : ℕ) → p ≤ x → x < q → set x ≡ true → ⊥
+
+module _ {set : ℕ → Bool} {p q : ℕ} (i : Lifting set p q) where
+  pub lift_on : {x : ℕ} → Lifted set q x → Lifting set p x
+  lift_on {x} r =
+      record {
+        from = omega (arith, i.from, r.from);
+        top = r.top;
+        passed = λ y f g t. either_side y q (λ l. i.passed y f l t) (λ l. r.passed y l g t);
+      }
+
+  pub lift_found : {x : ℕ} → Lifted set q x → x ≡ q → q ≤ LAST → LeastFrom set p q
+  lift_found r e l =
+      record { from = i.from; top = i.top; inside = λ m. rw e at (r.still e (omega (arith, e))); least = i.passed }
+
+pub lift_none : {set : ℕ → Bool} {p : ℕ} → Lifting set p (suc LAST) → LeastFrom set p (suc LAST)
+lift_none i = record { from = i.from; top = i.top; inside = λ l. absurd (omega arith); least = i.passed }
 
 -- The search goes on from q, with no point of the set passed on the way there
 least_after : {set : ℕ → Bool} {p q y : ℕ} → p ≤ q → ((x : ℕ) → p ≤ x → x < q → set x ≡ true → ⊥) → LeastFrom set q y
@@ -124,6 +149,19 @@ module _ (allow : ℕ → Access → Bool) {c : Counts} {w : List ℕ} {k j : �
 
     pub next_moved : {z : ℕ} → LeastFrom (λ x. all (allow x) ys) y z → LeastFrom (λ x. all (allow x) ys) 1 z
     next_moved t = next_more (least_after r.from (λ x f g u. r.passed x f g (next_front c w k (allow x) s u)) t)
+
+    pub next_out : y ≡ suc LAST → LeastFrom (λ x. all (allow x) ys) 1 y
+    next_out e =
+        next_moved (record {
+          from = omega arith;
+          top = r.top;
+          inside = λ l. absurd (omega arith);
+          least = λ x f g. absurd (omega arith);
+        })
+
+    pub next_to : (z : Option ℕ) → NextFrom (λ x. all (allow x) ys) y z → NextFrom (λ x. all (allow x) ys) 1 z
+    next_to None t = next_moved t
+    next_to (Some z) t = (next_moved t.0, t.1)
 
 -- The search over the accesses of slot k: p so far, the first j asked, left those still to be asked
 pub record Seeking (allow : ℕ → Access → Bool) (c : Counts) (w : List ℕ) (k p j : ℕ) (left : List Access) : Type 0 where

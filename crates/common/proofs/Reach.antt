@@ -1,160 +1,140 @@
--- The least point at or above a point that one access allows, and the greatest at or below it. Rests on CommonSet and
--- Spans of the crate `meaning`.
+-- The least distance at or above one of a point that one access allows, as an end sees it. Rests on CommonSet and Spans
+-- of the crate `meaning`.
 use Prim.Native.Nat.{ℕ, suc, ◌-◌, ◌≤◌, ◌<◌, min, max}
-use mathlib.Core.Path.{◌≡◌, refl, sym, ap}
+use mathlib.Core.Path.{◌≡◌, refl, sym, ap, ◌∙◌}
 use mathlib.Core.Logic.{◌⊎◌, inl, inr}
-use mathlib.Core.Bool.{Bool, true, false, cond}
+use mathlib.Core.Bool.{Bool, true, false, cond, ◌&&◌}
 use mathlib.Core.List.Memᴰ
-use mathlib.Core.List.{List, map}
+use mathlib.Core.List.{List, [], ◌∷◌, map}
 use native.Mathlib.Omega.{arith}
-use borrow.Author.Tests.{leb-true, le-leb, ltb-true, lt-ltb}
+use lib.Dec.{leb}
+use borrow.Author.Tests.{leb-true, leb-false, le-leb, lt-ltb}
+use Rattle.std.specs.List.{fold}
+use Rattle.std.specs.Prelude.{Option, None, Some}
+use Rattle.std.specs.Bool.{then_some}
 use Rattle.types.specs.Limits.{LAST}
-use Rattle.meaning.specs.Lists.{◌∈◌, keep, least, greatest}
+use Rattle.meaning.specs.Lists.{◌∈◌, keep, least}
 use Rattle.meaning.specs.Points.{own, writes, first_free, own_on, allows}
 use Rattle.meaning.specs.Store.{Rec, has_read}
 use Rattle.types.specs.declared.Lock.{Lock}
 use Rattle.types.specs.declared.Access.{Access}
-use Rattle.meaning.proofs.Lists.{not_both, keep_in, keep_out, least_default, least_le, least_out, greatest_ge}
-use Rattle.meaning.proofs.Lists.{greatest_out}
+use Rattle.meaning.proofs.Lists.{and_right, keep_in, keep_out, least_default, least_le, least_out, test}
 use Rattle.meaning.proofs.Tests.{Covered, unread_in}
 use Rattle.meaning.proofs.Spans.{first_free_top, first_free_low}
 use Rattle.meaning.proofs.CommonSet.{Parts, parts_out, parts_in}
-use Rattle.blocking.specs.Search.{owns_write}
-use Rattle.common.specs.Commit.{LeastFrom, GreatestTo, read_end, starts_after, first_under, ends_before, last_under}
-use Rattle.common.specs.Commit.{up_from, down_from}
-use Rattle.blocking.proofs.Extremes.{valued}
+use Rattle.blocking.specs.Search.{owns_write, upto}
+use Rattle.common.specs.Commit.{LeastFrom, NextFrom, allows_at, read_end, start_from, starts_after, first_under}
+use Rattle.common.specs.Commit.{nearer, up_from, written_from}
+use Rattle.common.specs.Ends.{Sees}
+use Rattle.blocking.proofs.Answered.{upto_some, upto_none}
+use Rattle.blocking.proofs.Extremes.{fold_least}
 use Rattle.blocking.proofs.Free.{own_writes}
+use Rattle.meaning.specs.Store.{has_written}
 
--- the least point under one of the locks
-module _ (ls : List Lock) (low : ℕ) where
-  abbrev starts : List ℕ
-  starts = map (λ l. max low l.low) (keep (starts_after low) ls)
+-- the least distance under one of the locks
+module _ (point : ℕ → ℕ) (near far : ℕ → ℕ → ℕ) (sees : Sees point near far) where
+  module _ (ls : List Lock) (d : ℕ) where
+    abbrev starts : List ℕ
+    starts = map (start_from near far d) (keep (starts_after near far d) ls)
 
-  record Start : Type 0 where
-    pub lock : Lock
-    pub member : lock ∈ ls
-    pub fits : max low lock.low ≤ min LAST lock.high
-    pub starting : max low lock.low ≡ first_under ls low
+    record Start : Type 0 where
+      pub lock : Lock
+      pub member : lock ∈ ls
+      pub fits : start_from near far d lock ≤ far lock.low lock.high
+      pub starting : start_from near far d lock ≡ first_under near far ls d
 
-  start_out : (first_under ls low ≡ suc LAST) ⊎ Start
-  unfolding first_under
-  start_out = go (least_out (suc LAST) starts)
-    where
-      go : (first_under ls low ≡ suc LAST) ⊎ (first_under ls low ∈ starts) → (first_under ls low ≡ suc LAST) ⊎ Start
-      go (inl e) = inl e
-      go (inr m) =
-          let w = Memᴰ.of_map (λ (l : Lock). max low l.low) (keep (starts_after low) ls) m in
-          let k = keep_out (starts_after low) ls w.1 in
-          inr (record {
-            lock = w.0;
-            member = k.0;
-            fits = leb-true (max low w.0.low) (min LAST w.0.high) k.1;
-            starting = w.2;
-          })
+    start_out : (first_under near far ls d ≡ suc LAST) ⊎ Start
+    unfolding first_under
+    start_out = go (least_out (suc LAST) starts)
+      where
+        go : (first_under near far ls d ≡ suc LAST) ⊎ (first_under near far ls d ∈ starts)
+            → (first_under near far ls d ≡ suc LAST) ⊎ Start
+        go (inl e) = inl e
+        go (inr m) =
+            let w = Memᴰ.of_map (start_from near far d) (keep (starts_after near far d) ls) m in
+            let k = keep_out (starts_after near far d) ls w.1 in
+            inr (record {
+              lock = w.0;
+              member = k.0;
+              fits = leb-true (start_from near far d w.0) (far w.0.low w.0.high) k.1;
+              starting = w.2;
+            })
 
-  first_under_top : first_under ls low ≤ suc LAST
-  unfolding first_under
-  first_under_top = least_default (suc LAST) starts
+    first_under_top : first_under near far ls d ≤ suc LAST
+    unfolding first_under
+    first_under_top = least_default (suc LAST) starts
 
-  first_under_low : low ≤ suc LAST → low ≤ first_under ls low
-  first_under_low h = go start_out
-    where
-      go : (first_under ls low ≡ suc LAST) ⊎ Start → low ≤ first_under ls low
-      go (inl e) = omega arith
-      go (inr w) = omega (arith, w.starting)
+    first_under_low : first_under near far ls d ≤ LAST → d ≤ first_under near far ls d
+    first_under_low h = go start_out
+      where
+        go : (first_under near far ls d ≡ suc LAST) ⊎ Start → d ≤ first_under near far ls d
+        go (inl e) = absurd (omega arith)
+        go (inr w) = omega (arith, w.starting)
 
-  first_under_is : first_under ls low ≤ LAST → Covered ls (first_under ls low)
-  first_under_is h = go start_out
-    where
-      go : (first_under ls low ≡ suc LAST) ⊎ Start → Covered ls (first_under ls low)
-      go (inl e) = absurd (omega arith)
-      go (inr w) =
-          record {
-            lock = w.lock;
-            member = w.member;
-            under = record { from = omega (arith, w.starting); upto = omega (arith, w.starting, w.fits) };
-          }
+    first_under_is : 1 ≤ d → first_under near far ls d ≤ LAST → Covered ls (point (first_under near far ls d))
+    first_under_is pos h = go start_out
+      where
+        go : (first_under near far ls d ≡ suc LAST) ⊎ Start → Covered ls (point (first_under near far ls d))
+        go (inl e) = absurd (omega arith)
+        go (inr w) =
+            let o =
+            sees.out w.lock.low w.lock.high (first_under near far ls d) (omega (arith, w.starting)) h
+            (omega (arith, w.starting)) (omega (arith, w.starting, w.fits)) in
+            record { lock = w.lock; member = w.member; under = record { from = o.0; upto = o.1 } }
 
-  first_under_least : (x : ℕ) → low ≤ x → x < first_under ls low → Covered ls x → ⊥
-  unfolding first_under
-  first_under_least x h g b =
-      let t = first_under_top in
-      let s : starts_after low b.lock ≡ true =
-      le-leb (max low b.lock.low) (min LAST b.lock.high) (omega (arith, b.under.from, b.under.upto)) in
-      let i : max low b.lock.low ∈ starts =
-      Memᴰ.map (λ (l : Lock). max low l.low) (keep_in (starts_after low) b.member s) in
-      omega (arith, b.under.from, least_le (suc LAST) i)
+    first_under_least : 1 ≤ d → (x : ℕ) → d ≤ x → x < first_under near far ls d → Covered ls (point x) → ⊥
+    unfolding first_under
+    first_under_least pos x h g b =
+        let t = first_under_top in
+        let i = sees.into b.lock.low b.lock.high x (omega arith) (omega arith) b.under.from b.under.upto in
+        let s : starts_after near far d b.lock ≡ true =
+        le-leb (start_from near far d b.lock) (far b.lock.low b.lock.high) (omega (arith, i.0, i.1)) in
+        let m : start_from near far d b.lock ∈ starts =
+        Memᴰ.map (start_from near far d) (keep_in (starts_after near far d) b.member s) in
+        omega (arith, i.0, least_le (suc LAST) m)
 
--- the greatest
-module _ (ls : List Lock) (high : ℕ) where
-  abbrev ends : List ℕ
-  ends = map (λ l. min high l.high) (keep (ends_before high) ls)
+  -- over the write locks of slot k, as the code walks them
+  module _ (k d : ℕ) where
+    abbrev asked : Lock → Bool
+    asked l = owns_write k l && starts_after near far d l
 
-  record End : Type 0 where
-    pub lock : Lock
-    pub member : lock ∈ ls
-    pub fits : lock.low ≤ min high lock.high
-    pub ending : min high lock.high ≡ last_under ls high
+    abbrev value : Lock → ℕ
+    value l = start_from near far d l
 
-  end_out : (last_under ls high ≡ 0) ⊎ End
-  unfolding last_under
-  end_out = go (greatest_out 0 ends)
-    where
-      go : (last_under ls high ≡ 0) ⊎ (last_under ls high ∈ ends) → (last_under ls high ≡ 0) ⊎ End
-      go (inl e) = inl e
-      go (inr m) =
-          let w = Memᴰ.of_map (λ (l : Lock). min high l.high) (keep (ends_before high) ls) m in
-          let k = keep_out (ends_before high) ls w.1 in
-          inr (record {
-            lock = w.0;
-            member = k.0;
-            fits = leb-true w.0.low (min high w.0.high) k.1;
-            ending = w.2;
-          })
+    turn : (b : ℕ) (l : Lock) → nearer near far k d (upto LAST b) l ≡ upto LAST (cond (asked l) (min b (value l)) b)
+    turn b l = go (test (asked l)) (test (leb b LAST))
+      where
+        go : (asked l ≡ true) ⊎ (asked l ≡ false) → (leb b LAST ≡ true) ⊎ (leb b LAST ≡ false)
+            → nearer near far k d (upto LAST b) l ≡ upto LAST (cond (asked l) (min b (value l)) b)
+        go (inr e) t = rw e refl
+        go (inl e) (inl t) =
+            let below = leb-true b LAST t in
+            rw (e, t, le-leb (min b (value l)) LAST (omega arith)) refl
+        go (inl e) (inr t) =
+            let above = leb-false b LAST t in
+            let top = sees.top l.low l.high in
+            let in-it =
+            leb-true (value l) (far l.low l.high) (and_right (owns_write k l) (starts_after near far d l) e) in
+            let m : min b (value l) ≡ value l = omega arith in
+            rw (e, t, m, le-leb (value l) LAST (omega arith)) refl
 
-  last_under_high : last_under ls high ≤ high
-  last_under_high = go end_out
-    where
-      go : (last_under ls high ≡ 0) ⊎ End → last_under ls high ≤ high
-      go (inl e) = omega arith
-      go (inr w) = omega (arith, w.ending)
+    fold_turns : (b : ℕ) (ls : List Lock)
+        → fold (nearer near far k d) (upto LAST b) ls
+        ≡ upto LAST (fold (λ b l. cond (asked l) (min b (value l)) b) b ls)
+    fold_turns b [] = refl
+    fold_turns b (l ∷ ls) =
+        ap (λ y. fold (nearer near far k d) y ls) (turn b l) ∙ fold_turns (cond (asked l) (min b (value l)) b) ls
 
-  last_under_is : 1 ≤ last_under ls high → Covered ls (last_under ls high)
-  last_under_is h = go end_out
-    where
-      go : (last_under ls high ≡ 0) ⊎ End → Covered ls (last_under ls high)
-      go (inl e) = absurd (omega arith)
-      go (inr w) =
-          record {
-            lock = w.lock;
-            member = w.member;
-            under = record { from = omega (arith, w.ending, w.fits); upto = omega (arith, w.ending) };
-          }
+    none_past : None ≡ upto LAST (suc LAST)
+    none_past = refl
 
-  last_under_greatest : (x : ℕ) → last_under ls high < x → x ≤ high → Covered ls x → ⊥
-  unfolding last_under
-  last_under_greatest x g h b =
-      let s : ends_before high b.lock ≡ true =
-      le-leb b.lock.low (min high b.lock.high) (omega (arith, b.under.from, b.under.upto)) in
-      let i : min high b.lock.high ∈ ends =
-      Memᴰ.map (λ (l : Lock). min high l.high) (keep_in (ends_before high) b.member s) in
-      omega (arith, b.under.upto, greatest_ge 0 i)
-
--- over the write locks of slot k, as the code walks them
-pub first_under_own : (k low : ℕ) (ls : List Lock)
-    → least (suc LAST) (valued (starts_after low) (owns_write k) (λ (l : Lock). max low l.low) ls)
-    ≡ first_under (writes (own k ls)) low
-unfolding first_under
-first_under_own k low ls =
-    ap (λ ys. least (suc LAST) (map (λ (l : Lock). max low l.low) (keep (starts_after low) ys)))
-    (sym (own_writes k ls))
-
-pub last_under_own : (k high : ℕ) (ls : List Lock)
-    → greatest 0 (valued (ends_before high) (owns_write k) (λ (l : Lock). min high l.high) ls)
-    ≡ last_under (writes (own k ls)) high
-unfolding last_under
-last_under_own k high ls =
-    ap (λ ys. greatest 0 (map (λ (l : Lock). min high l.high) (keep (ends_before high) ys))) (sym (own_writes k ls))
+    pub first_under_own : (ls : List Lock)
+        → fold (nearer near far k d) None ls ≡ upto LAST (first_under near far (writes (own k ls)) d)
+    unfolding first_under
+    first_under_own ls =
+        ap (λ y. fold (nearer near far k d) y ls) none_past ∙ fold_turns (suc LAST) ls
+        ∙ ap (upto LAST) (fold_least (starts_after near far d) (owns_write k) value (suc LAST) ls
+        ∙ ap (λ ys. least (suc LAST) (map value (keep (starts_after near far d) ys))) (sym (own_writes k ls)))
 
 pub has_read_lem : (a : Access) → (a.from ≡ 0 → ⊥) → has_read a ≡ true
 has_read_lem a n = lt-ltb 0 a.from (omega arith)
@@ -181,163 +161,140 @@ module _ (ls : List Lock) (a : Access) where
       go true e = w.upto e
       go false e = omega arith
 
-pub read_end_top : (ls : List Lock) (a : Access) → read_end ls a ≤ suc LAST
-unfolding read_end
-read_end_top ls a = go (has_read a)
-  where
-    go : (b : Bool) → cond b (first_free ls a.from LAST) (suc LAST) ≤ suc LAST
-    go true = first_free_top ls a.from LAST
-    go false = omega arith
+-- the last point that was read, from the first free one
+module _ (ls : List Lock) (a : Access) (read : a.from ≡ 0 → ⊥) (early : a.from ≤ LAST) where
+  module _ {f : ℕ} (e : Some f ≡ upto LAST (first_free ls a.from LAST)) where
+    pub free_pos : 1 ≤ f
+    free_pos =
+        let s = upto_some LAST (first_free ls a.from LAST) e in
+        omega (arith, read, s.0, first_free_low ls a.from LAST (omega arith))
 
-pub read_end_pos : (ls : List Lock) (a : Access) → a.from ≤ LAST → 1 ≤ read_end ls a
-unfolding read_end
-read_end_pos ls a l = go (has_read a) refl
-  where
-    go : (b : Bool) → has_read a ≡ b → 1 ≤ cond b (first_free ls a.from LAST) (suc LAST)
-    go true e = omega (arith, ltb-true 0 a.from e, first_free_low ls a.from LAST (omega arith))
-    go false e = omega arith
+    pub read_some : suc (f - 1) ≡ read_end ls a
+    read_some =
+        let s = free_pos in
+        read_end_is ls a read (omega (arith, (upto_some LAST (first_free ls a.from LAST) e).0))
 
--- written to or not: the point that up_from leads to is allowed as written, and none before it
-module _ (ls : List Lock) (a : Access) (low : ℕ) {q : ℕ} (d : q ≡ up_from ls a low) where
-  up_low : low ≤ suc LAST → low ≤ q
-  up_low h = go a.written d
+  pub read_none : None ≡ upto LAST (first_free ls a.from LAST) → suc LAST ≡ read_end ls a
+  read_none e =
+      read_end_is ls a read
+      (omega (arith, upto_none LAST (first_free ls a.from LAST) e, first_free_top ls a.from LAST))
+
+-- written to or not: the point at the distance that up_from leads to is allowed as written, and none before it
+module _ (point : ℕ → ℕ) (near far : ℕ → ℕ → ℕ) (sees : Sees point near far) (ls : List Lock) (a : Access) (d : ℕ) where
+  abbrev led : ℕ
+  led = up_from near far ls a d
+
+  up_low : led ≤ LAST → d ≤ led
+  up_low h = go (has_written a) h
     where
-      go : (b : Bool) → q ≡ cond b (first_under (writes ls) low) low → low ≤ q
-      go true e = omega (arith, first_under_low (writes ls) low h)
-      go false e = omega arith
+      go : (b : Bool) → cond b (first_under near far (writes ls) d) d ≤ LAST
+          → d ≤ cond b (first_under near far (writes ls) d) d
+      go true l = first_under_low point near far sees (writes ls) d l
+      go false l = omega arith
 
-  up_written : q ≤ LAST → a.written ≡ true → Covered (writes ls) q
-  up_written h e = let s = go a.written e d in rw s (first_under_is (writes ls) low (omega arith))
-    where
-      go : (b : Bool) → b ≡ true → q ≡ cond b (first_under (writes ls) low) low → q ≡ first_under (writes ls) low
-      go true x y = y
-      go false x y = absurd (not_both x refl)
+  up_written : 1 ≤ d → led ≤ LAST → has_written a ≡ true → Covered (writes ls) (point led)
+  up_written pos h e = rw e (first_under_is point near far sees (writes ls) d pos (rw e at h))
 
-  up_none : (x : ℕ) → low ≤ x → x < q → Parts ls a x → ⊥
-  up_none x h g w = go a.written refl d
+  up_none : 1 ≤ d → (x : ℕ) → d ≤ x → x < led → Parts ls a (point x) → ⊥
+  up_none pos x h g w = go (has_written a) refl g
     where
-      go : (b : Bool) → a.written ≡ b → q ≡ cond b (first_under (writes ls) low) low → ⊥
-      go true e y = first_under_least (writes ls) low x h (omega arith) (w.written e)
+      go : (b : Bool) → has_written a ≡ b → x < cond b (first_under near far (writes ls) d) d → ⊥
+      go true e y = first_under_least point near far sees (writes ls) d pos x h y (w.written e)
       go false e y = omega arith
 
-module _ (ls : List Lock) (a : Access) (high : ℕ) {q : ℕ} (d : q ≡ down_from ls a high) where
-  down_high : q ≤ high
-  down_high = go a.written d
+  -- the answer of the code, and what is asked where a is written
+  pub led_to : {q : ℕ} → Some q ≡ written_from near far ls a d → q ≡ led
+  led_to {q} e = go (has_written a) e
     where
-      go : (b : Bool) → q ≡ cond b (last_under (writes ls) high) high → q ≤ high
-      go true e = omega (arith, last_under_high (writes ls) high)
-      go false e = omega arith
+      go : (b : Bool) → Some q ≡ cond {A = Option ℕ} b (upto LAST (first_under near far (writes ls) d)) (Some d)
+          → q ≡ cond b (first_under near far (writes ls) d) d
+      go true f = (upto_some LAST (first_under near far (writes ls) d) f).0
+      go false f = cc
 
-  down_written : 1 ≤ q → a.written ≡ true → Covered (writes ls) q
-  down_written h e = let s = go a.written e d in rw s (last_under_is (writes ls) high (omega arith))
+  pub led_nowhere : None ≡ written_from near far ls a d → LAST < led
+  led_nowhere e = go (has_written a) e
     where
-      go : (b : Bool) → b ≡ true → q ≡ cond b (last_under (writes ls) high) high → q ≡ last_under (writes ls) high
-      go true x y = y
-      go false x y = absurd (not_both x refl)
-
-  down_none : (x : ℕ) → q < x → x ≤ high → Parts ls a x → ⊥
-  down_none x g h w = go a.written refl d
-    where
-      go : (b : Bool) → a.written ≡ b → q ≡ cond b (last_under (writes ls) high) high → ⊥
-      go true e y = last_under_greatest (writes ls) high x (omega arith) h (w.written e)
-      go false e y = omega arith
-
--- where a is written, the code asks the locks
-module _ (ls : List Lock) (a : Access) where
-  pub up_asks : (low : ℕ) {q : ℕ} → a.written ≡ true → q ≡ first_under (writes ls) low → q ≡ up_from ls a low
-  up_asks low e d = rw e d
-
-  pub down_asks : (high : ℕ) {q : ℕ} → a.written ≡ true → q ≡ last_under (writes ls) high → q ≡ down_from ls a high
-  down_asks high e d = rw e d
+      go : (b : Bool) → None ≡ cond {A = Option ℕ} b (upto LAST (first_under near far (writes ls) d)) (Some d)
+          → LAST < cond b (first_under near far (writes ls) d) d
+      go true f = upto_none LAST (first_under near far (writes ls) d) f
+      go false f = absurd (let z : ◌≡◌ {A = ℕ} 0 1 = cc in omega arith)
 
 -- one access
-module _ (rs : List Rec) (k p : ℕ) (a : Access) where
-  parts : {x : ℕ} → allows rs k x a ≡ true → Parts (own_on rs k a) a x
+module _ (point : ℕ → ℕ) (near far : ℕ → ℕ → ℕ) (sees : Sees point near far) (rs : List Rec) (k : ℕ) (a : Access)
+    (d : ℕ) (pos : 1 ≤ d) (top : d ≤ LAST) where
+  abbrev ls : List Lock
+  ls = own_on rs k a
+
+  abbrev set : ℕ → Bool
+  set x = allows_at point rs k x a
+
+  parts : {x : ℕ} → set x ≡ true → Parts ls a (point x)
   unfolding allows
-  parts {x} e = parts_out (own_on rs k a) a x e
+  parts {x} e = parts_out ls a (point x) e
 
-  allowed : {x : ℕ} → Parts (own_on rs k a) a x → allows rs k x a ≡ true
+  allowed : {x : ℕ} → Parts ls a (point x) → set x ≡ true
   unfolding allows
-  allowed {x} w = parts_in (own_on rs k a) a x w
+  allowed {x} w = parts_in ls a (point x) w
 
-  module _ (top : p ≤ suc LAST) {low : ℕ} (m : low ≡ max p a.from) where
-    pub next_late : LAST < low → LeastFrom (λ x. allows rs k x a) p (suc LAST)
-    next_late h =
-        record {
-          from = top;
-          top = omega arith;
-          inside = λ g. absurd (omega arith);
-          least = λ x f g e. let w = parts e in omega (arith, w.from);
-        }
-
-    module _ (late : low ≤ LAST) {end q : ℕ} (d : end ≡ read_end (own_on rs k a) a)
-        (u : q ≡ up_from (own_on rs k a) a low) where
-      none : (x : ℕ) → p ≤ x → x < q → allows rs k x a ≡ true → ⊥
-      none x f g e = let w = parts e in up_none (own_on rs k a) a low u x (omega (arith, w.from)) g w
-
-      pub next_hit : q < end → LeastFrom (λ x. allows rs k x a) p q
-      next_hit h =
-          let t = read_end_top (own_on rs k a) a in
-          let lower = up_low (own_on rs k a) a low u (omega arith) in
-          record {
-            from = omega arith;
-            top = omega (arith, d);
-            inside = λ g. allowed (record {
-              written = up_written (own_on rs k a) a low u g;
-              from = omega arith;
-              upto = end_in (own_on rs k a) a (rw d at h);
-            });
-            least = none;
-          }
-
-      pub next_miss : end ≤ q → LeastFrom (λ x. allows rs k x a) p (suc LAST)
-      next_miss h =
-          record {
-            from = top;
-            top = omega arith;
-            inside = λ g. absurd (omega arith);
-            least = λ x f g e. none x f (omega (arith, end_by (own_on rs k a) a {x = x} (omega arith) (parts e))) e;
-          }
-
-  -- downwards; the end of what was read is above high
-  pub before_none : p < a.from → GreatestTo (λ x. allows rs k x a) p 0
-  before_none h =
+  none_from : ((x : ℕ) → d ≤ x → x ≤ LAST → Parts ls a (point x) → ⊥) → LeastFrom set d (suc LAST)
+  none_from f =
       record {
-        upto = omega arith;
+        from = omega arith;
+        top = omega arith;
         inside = λ g. absurd (omega arith);
-        greatest = λ x f g e. let w = parts e in omega (arith, w.from);
+        least = λ x g h e. f x g (omega arith) (parts e);
       }
 
-  module _ (last : p ≤ LAST) (late : a.from ≤ p) {end high q : ℕ} (d : end ≡ read_end (own_on rs k a) a)
-      (m : high ≡ min p (end - 1)) (u : q ≡ down_from (own_on rs k a) a high) where
-    some : 1 ≤ end
-    some = omega (arith, d, read_end_pos (own_on rs k a) a (omega arith))
+  pub read_late : LAST < a.from → LeastFrom set d (suc LAST)
+  read_late h = none_from (λ x f g w. omega (arith, w.from, sees.within x (omega arith) g))
 
-    gone : (x : ℕ) → q < x → x ≤ p → allows rs k x a ≡ true → ⊥
-    gone x f g e =
-        let w = parts e in
-        let s = some in
-        let b = end_by (own_on rs k a) a {x = x} (omega arith) w in
-        down_none (own_on rs k a) a high u x f (omega arith) w
+  module _ (early : a.from ≤ LAST) (last : ℕ) (r : suc last ≡ read_end ls a) {low : ℕ}
+      (m : low ≡ max d (near a.from last)) where
+    -- a point that it allows is one that its reads allow
+    seen : (x : ℕ) → d ≤ x → x ≤ LAST → Parts ls a (point x) → (low ≤ x) × (x ≤ far a.from last)
+    seen x f g w =
+        let e = end_by ls a {x = point x} (sees.within x (omega arith) g) w in
+        let i = sees.into a.from last x (omega arith) g w.from (omega (arith, r)) in
+        (omega (arith, i.0), i.1)
 
-    pub before_hit : a.from ≤ q → GreatestTo (λ x. allows rs k x a) p q
-    before_hit h =
-        let s = some in
-        let upper = down_high (own_on rs k a) a high u in
-        record {
-          upto = omega arith;
-          inside = λ g. allowed (record {
-            written = down_written (own_on rs k a) a high u g;
-            from = h;
-            upto = let l : q < end = omega arith in end_in (own_on rs k a) a (rw d at l);
-          });
-          greatest = gone;
-        }
+    abbrev q : ℕ
+    q = up_from near far ls a low
 
-    pub before_miss : q < a.from → GreatestTo (λ x. allows rs k x a) p 0
-    before_miss h =
-        record {
-          upto = omega arith;
-          inside = λ g. absurd (omega arith);
-          greatest = λ x f g e. let w = parts e in gone x (omega (arith, w.from)) g e;
-        }
+    pub reads_miss : far a.from last < q → LeastFrom set d (suc LAST)
+    reads_miss h =
+        none_from (λ x f g w. (let i = seen x f g w in
+        up_none point near far sees ls a low (omega arith) x i.0 (omega (arith, i.1)) w))
+
+    pub reads_hit : q ≤ far a.from last → LeastFrom set d q × (q ≤ LAST)
+    reads_hit h =
+        let t = sees.top a.from last in
+        let lower : low ≤ q = up_low point near far sees ls a low (omega arith) in
+        let o = sees.out a.from last q (omega arith) (omega arith) (omega arith) h in (
+          record {
+            from = omega arith;
+            top = omega arith;
+            inside = λ g. allowed (record {
+              written = up_written point near far sees ls a low (omega arith) (omega arith);
+              from = o.0;
+              upto = end_in ls a (omega (arith, o.1, r));
+            });
+            least = λ x f g e.
+                let w = parts e in
+                up_none point near far sees ls a low (omega arith) x (seen x f (omega arith) w).0 g w;
+          },
+          omega arith,
+        )
+
+    pub reads_led : {x : ℕ} → Some x ≡ written_from near far ls a low
+        → NextFrom set d (then_some (leb x (far a.from last)) x)
+    reads_led {x} e = let s = led_to point near far sees ls a low e in go s (test (leb x (far a.from last)))
+      where
+        go : x ≡ q → (leb x (far a.from last) ≡ true) ⊎ (leb x (far a.from last) ≡ false)
+            → NextFrom set d (then_some (leb x (far a.from last)) x)
+        go s (inl t) = rw (t, s) (reads_hit (omega (arith, leb-true x (far a.from last) t)))
+        go s (inr t) = rw t (reads_miss (omega (arith, leb-false x (far a.from last) t)))
+
+    pub reads_nowhere : None ≡ written_from near far ls a low → LeastFrom set d (suc LAST)
+    reads_nowhere e =
+        let t = sees.top a.from last in
+        reads_miss (omega (arith, led_nowhere point near far sees ls a low e))

@@ -1,21 +1,16 @@
-// The common set of an edit: the points that every access of it allows, asked of one point. Also the end of what an
-// access has read, on which both ends of the set rest (`lifting`, `sinking`). Rests on the crates `types`, `meaning`,
-// `locks`, `chains`, `tables` and `blocking`.
-ghost use Rattle.std.specs.Prelude.{◌≡◌, true, ◌&&◌, ◌≤◌, ◌<◌};
-ghost use Rattle.chains.specs.Walk.{IsRow};
-ghost use Rattle.types.specs.Limits.{LAST};
-ghost use Rattle.meaning.specs.Lists.{all};
-ghost use Rattle.meaning.specs.Points.{covered, own, writes, covers, own_on, allows_write, allows_read, allows};
-ghost use Rattle.meaning.specs.Points.{in_common};
-ghost use Rattle.meaning.specs.Sound.{names_existing};
-ghost use Rattle.tables.specs.Layout.{Fits};
-ghost use Rattle.tables.specs.Decode.{records_of, record_at, slot_at};
-ghost use Rattle.blocking.specs.Search.{AllRise, owns_write};
-ghost use Rattle.common.specs.Commit.{read_end};
+// The points that every access of an edit allows, asked of one point, and the last one that an access allows by what it
+// has read. Rests on the crates `types`, `meaning`, `locks`, `tables` and `blocking` and on the module `sets`.
+// Kept, p ≤ LAST: `contains` tests it once; a struct of a tested point would be opened at each comparison.
+ghost use Rattle.std.specs.Prelude.{◌≡◌, ◌&&◌};
+ghost use Rattle.meaning.specs.Points.{covered, own, writes, covers};
+ghost use Rattle.tables.specs.Views.{rec_in};
+ghost use Rattle.blocking.specs.Search.{owns_write};
 
 use crate::LOWEST;
-use blocking::first_free;
-use types::{Access, Counts, LAST, Lock, READ, WRITE};
+use crate::sets::{CommonSet, Limit};
+use blocking::{Points, Which, first_free};
+use tables::Record;
+use types::{Access, LAST, Lock, WRITE};
 
 pub fn owns_write(k: u64, l: Lock) -> bool
     ensures { result ≡ owns_write k l }
@@ -29,67 +24,84 @@ fn writes_at(k: u64, p: u64, l: Lock) -> bool
     owns_write(k, l) && locks::covers(p, l)
 }
 
-pub fn write_on(w: &[u64], c: Counts, k: u64, r: usize, p: u64) -> bool
-    requires { Fits c w.now × (r < c.records) }
-    ensures { result ≡ covered (writes (own k (record_at c w.now r).locks)) p }
+pub fn write_on(r: Record<'_>, k: u64, p: u64) -> bool
+    ensures { result ≡ covered (writes (own k (rec_in r.entry).locks)) p }
 {
-    tables::locks(w, c, r).any(|l| writes_at(k, p, l))
+    r.locks().any(|l| writes_at(k, p, l))
 }
 
-fn allows_write(w: &[u64], c: Counts, k: usize, p: u64, a: Access) -> bool
-    requires { Fits c w.now × (a.rec < c.records) }
-    ensures { result ≡ allows_write (own_on (records_of c w.now) k a) a p }
-{
-    !a.written || write_on(w, c, chains::word(k), chains::wide(a.rec), p)
-}
+impl<'a> Limit<'a> {
+    ghost use Rattle.std.specs.Prelude.{◌≡◌, ◌&&◌, suc, ◌≤◌};
+    ghost use Rattle.types.specs.Limits.{LAST};
+    ghost use Rattle.meaning.specs.Points.{allows_write, allows_read};
+    ghost use Rattle.common.specs.Commit.{own_locks, read_end};
 
-fn allows_read(w: &[u64], c: Counts, k: usize, p: u64, a: Access) -> bool
-    requires { Fits c w.now × (a.rec < c.records) × (p ≤ LAST) × AllRise c w.now }
-    ensures { result ≡ allows_read (own_on (records_of c w.now) k a) a p }
-{
-    a.from <= p && p < read_end(w, c, k, a)
-}
-
-#[tactic(auto, unfolding(meaning::specs::Points::allows))]
-pub fn allows(w: &[u64], c: Counts, k: usize, p: u64, a: Access) -> bool
-    requires { Fits c w.now × (a.rec < c.records) × (p ≤ LAST) × AllRise c w.now }
-    ensures { result ≡ allows (records_of c w.now) k p a }
-{
-    allows_write(w, c, k, p, a) && allows_read(w, c, k, p, a)
-}
-
-fn all_allow(w: &[u64], c: Counts, k: usize, p: u64) -> bool
-    requires { Fits c w.now × IsRow c.edits k × (names_existing (records_of c w.now) (slot_at c w.now k) ≡ true)
-        × (p ≤ LAST) × AllRise c w.now }
-    ensures { result ≡ all (allows (records_of c w.now) k p) (slot_at c w.now k).accesses }
-{
-    tables::accesses(w, c, k).all(|a| allows(w, c, k, p, a))
-}
-
-#[tactic(auto, unfolding(meaning::specs::Points::in_common))]
-pub fn in_common(w: &[u64], c: Counts, k: usize, p: u64) -> bool
-    requires { Fits c w.now × IsRow c.edits k × (names_existing (records_of c w.now) (slot_at c w.now k) ≡ true)
-        × AllRise c w.now }
-    ensures { result ≡ in_common (records_of c w.now) k (slot_at c w.now k) p }
-{
-    LOWEST <= p && p <= LAST && all_allow(w, c, k, p)
-}
-
-pub fn read_end(w: &[u64], c: Counts, k: usize, a: Access) -> u64
-    requires { Fits c w.now × (a.rec < c.records) × (a.from ≤ LAST) × AllRise c w.now }
-    ensures { result ≡ read_end (own_on (records_of c w.now) k a) a }
-{
-    if a.from == 0 {
-        return LAST + 1;
+    // The last point that it allows by what it has read: the one before the first that is under no own lock.
+    pub fn read_last(self) -> u64
+        requires { self.access.from ≤ LAST }
+        ensures { suc result ≡ read_end (own_locks self.entry) self.entry.access }
+    {
+        if self.access.from == 0 {
+            return LAST;
+        }
+        let own = Which::Own(self.owner());
+        let p = Points {
+            low: self.access.from,
+            high: LAST,
+        };
+        match first_free(self.named(), own, p) {
+            None => LAST,
+            Some(free) => free - 1,
+        }
     }
-    first_free(
-        w,
-        c,
-        true,
-        READ,
-        chains::word(k),
-        chains::wide(a.rec),
-        a.from,
-        LAST,
-    )
+
+    fn allows_write(self, p: u64) -> bool
+        ensures { result ≡ allows_write (own_locks self.entry) self.entry.access p }
+    {
+        self.access.value.is_none() || write_on(self.named(), self.owner(), p)
+    }
+
+    fn allows_read(self, p: u64) -> bool
+        requires { p ≤ LAST }
+        ensures { result ≡ allows_read (own_locks self.entry) self.entry.access p }
+    {
+        self.access.from <= p && p <= self.read_last()
+    }
+}
+
+impl<'a> CommonSet<'a> {
+    ghost use Rattle.std.specs.Prelude.{◌≡◌, ◌≤◌, ◌<◌};
+    ghost use Rattle.types.specs.Limits.{LAST};
+    ghost use Rattle.meaning.specs.Lists.{all};
+    ghost use Rattle.meaning.specs.Points.{allows, in_common};
+    ghost use Rattle.tables.specs.Views.{edit_in};
+    ghost use Rattle.common.specs.Commit.{recs_in};
+
+    #[tactic(auto, unfolding(meaning::specs::Points::allows))]
+    pub fn allows(self, p: u64, a: Access) -> bool
+        requires { (a.rec < self.slot.tables.counts.records) × (p ≤ LAST) }
+        ensures { result ≡ allows (recs_in self.entry) self.entry.slot.number p a }
+    {
+        let l = Limit {
+            set: self,
+            access: a,
+        };
+        l.allows_write(p) && l.allows_read(p)
+    }
+
+    // Kept: `all` is the generic; what stays is a line with the test.
+    fn all_allow(self, p: u64) -> bool
+        requires { p ≤ LAST }
+        ensures { result
+            ≡ all (allows (recs_in self.entry) self.entry.slot.number p) (edit_in self.entry.slot).accesses }
+    {
+        self.slot.accesses().all(|a| self.allows(p, a))
+    }
+
+    #[tactic(auto, unfolding(meaning::specs::Points::in_common))]
+    pub fn contains(self, p: u64) -> bool
+        ensures { result ≡ in_common (recs_in self.entry) self.entry.slot.number (edit_in self.entry.slot) p }
+    {
+        LOWEST <= p && p <= LAST && self.all_allow(p)
+    }
 }

@@ -1,19 +1,16 @@
 // The common set of an edit: whether a point is in it, its earliest and its latest point, access by access. Read-only
-// searches as those of `blocking`: each equals a function of the decoded store, and a caller proves that the words have
-// these counts (`Fits`), that records and slots are in range and, for all but `write_on`, that every record's locks
-// rise (`AllRise`). `allowed` has the points that an access allows, `nearing` the search for the point nearest to an
-// end of all points, `lifting` by it the earliest point of the set and `sinking` the latest. Rests on the crates
-// `types`, `meaning`, `locks`, `chains`, `tables`, `lookups` and `blocking`.
+// searches as those of `blocking`: each equals a function of the decoded store. `sets` has the set and what one access
+// asks of it, `allowed` the points that an access allows, `ends` the two ends of all points, `nearing` the search from
+// an end for the nearest point of the set. Rests on the crates `types`, `meaning`, `locks`, `tables` and `blocking`.
 #![tactic(auto)]
 
 mod allowed;
-mod lifting;
+mod ends;
 mod nearing;
-mod sinking;
+mod sets;
 
-pub use allowed::{allows, in_common, write_on};
-pub use lifting::earliest;
-pub use sinking::latest;
+pub use allowed::write_on;
+pub use sets::CommonSet;
 
 // The least point that an edit may commit at.
 const LOWEST: u64 = 1;

@@ -1,97 +1,102 @@
-// The common set seen from one end of all points: access by access, the nearest point that the first ones allow. The
-// search counts the distance from the end, which lies at 0, so that it is one search for both ends; a distance of
-// LAST + 1 means that there is no such point. Rests on the crates `types`, `meaning`, `chains`, `tables` and
-// `blocking`.
-ghost use Rattle.std.specs.Prelude.{◌≡◌, true, ℕ, suc, ◌+◌, ◌≤◌, ◌<◌};
-ghost use Rattle.chains.specs.Walk.{IsRow};
-ghost use Rattle.types.specs.Limits.{LAST};
-ghost use Rattle.meaning.specs.Lists.{all};
-ghost use Rattle.meaning.specs.Sound.{names_existing};
-ghost use Rattle.tables.specs.Layout.{Fits};
-ghost use Rattle.tables.specs.Decode.{records_of, slot_at};
-ghost use Rattle.blocking.specs.Search.{AllRise};
-ghost use Rattle.common.specs.Commit.{LeastFrom, Lifted, allows_at, first_accesses, Next};
-
+// The search from an end for the nearest point of the common set: access by access, the nearest one that the first ones
+// allow. It counts the distance from the end, so that it is one search for both ends. Rests on the crates `types`,
+// `meaning`, `tables` and `blocking` and on the modules `sets` and `ends`.
+// Kept, 1 ≤ p and p ≤ LAST: of a distance, which the loops compare and hand on; a struct would be opened at each.
 use crate::LOWEST;
-use types::{Access, Counts, LAST};
+use crate::ends::{End, High, Low};
+use crate::sets::{CommonSet, Limit};
+use types::LAST;
 
-// An end that a search starts from.
-pub trait End {
-    // the point at a distance
-    ghost point: { ℕ → ℕ };
+impl<'a> CommonSet<'a> {
+    ghost use Rattle.std.specs.Prelude.{◌≡◌, ◌+◌, ◌≤◌, ◌<◌};
+    ghost use Rattle.types.specs.Limits.{LAST};
+    ghost use Rattle.meaning.specs.Lists.{all};
+    ghost use Rattle.meaning.specs.Points.{earliest, latest};
+    ghost use Rattle.tables.specs.Views.{edit_in};
+    ghost use Rattle.blocking.specs.Search.{upto};
+    ghost use Rattle.common.specs.Commit.{NextFrom, LiftedTo, all_allow_at, first_in, recs_in, positive};
 
-    // The least distance at or above d of a point that one access allows, or LAST + 1.
-    fn next_allowed(w: &[u64], c: Counts, k: usize, d: u64, a: Access) -> u64
-        requires { Fits c w.now × (a.rec < c.records) × (1 ≤ d) × (d ≤ suc LAST) × AllRise c w.now }
-        ensures { LeastFrom (λ x. allows_at point (records_of c w.now) k x a) d result };
-}
-
-// One pass over the first j accesses, from distance p on.
-fn raise<E: End>(w: &[u64], c: Counts, k: usize, p: u64, j: usize) -> u64
-    requires { Fits c w.now × IsRow c.edits k × (names_existing (records_of c w.now) (slot_at c w.now k) ≡ true)
-        × (1 ≤ p) × (p ≤ suc LAST) × AllRise c w.now }
-    ensures { Lifted (λ x. all (allows_at E.point (records_of c w.now) k x) (first_accesses c w.now k j)) p result }
-{
-    let mut q = p;
-    for a in tables::accesses(w, c, k).take(j) {
-        q = E::next_allowed(w, c, k, q, a);
-    }
-    q
-}
-
-// The least distance at or above p of a point that the first j accesses allow, or LAST + 1.
-fn lift<E: End>(w: &[u64], c: Counts, k: usize, p: u64, j: usize) -> u64
-    requires { Fits c w.now × IsRow c.edits k × (names_existing (records_of c w.now) (slot_at c w.now k) ≡ true)
-        × (1 ≤ p) × (p ≤ suc LAST) × AllRise c w.now }
-    ensures { LeastFrom (λ x. all (allows_at E.point (records_of c w.now) k x) (first_accesses c w.now k j)) p result }
-{
-    let mut q = p;
-    while q <= LAST {
-        let x = raise::<E>(w, c, k, q, j);
-        if x == q {
-            return q;
+    // One pass over the first j accesses, from distance p on.
+    fn raise<E: End>(self, p: u64, j: usize) -> Option<u64>
+        requires { (1 ≤ p) × (p ≤ LAST) }
+        ensures { LiftedTo (all_allow_at E.point self.entry (first_in self.entry j)) p result }
+    {
+        let mut q = p;
+        for a in self.slot.accesses().take(j) {
+            let limit = Limit {
+                set: self,
+                access: a,
+            };
+            q = limit.next_allowed::<E>(q)?;
         }
-        q = x;
+        Some(q)
     }
-    q
-}
 
-// From the least distance p of a point that the first j accesses allow to that of one more, a. Where a moves the point
-// and the first j allow it there, it is found: a has been asked already.
-fn lift_next<E: End>(w: &[u64], c: Counts, k: usize, p: u64, j: usize, a: Access) -> u64
-    requires { Fits c w.now × IsRow c.edits k × (names_existing (records_of c w.now) (slot_at c w.now k) ≡ true)
-        × (a.rec < c.records) × (p ≤ LAST) × (j < c.accesses) × Next c w.now k j a
-        × LeastFrom (λ x. all (allows_at E.point (records_of c w.now) k x) (first_accesses c w.now k j)) 1 p
-        × AllRise c w.now }
-    ensures { LeastFrom (λ x. all (allows_at E.point (records_of c w.now) k x) (first_accesses c w.now k (j + 1))) 1
-        result }
-{
-    let next = E::next_allowed(w, c, k, p, a);
-    if next == p {
-        return p;
-    }
-    if LAST < next {
-        return next;
-    }
-    let q = raise::<E>(w, c, k, next, j);
-    if q == next {
-        return q;
-    }
-    lift::<E>(w, c, k, q, j + 1)
-}
-
-// The least distance of a point that all accesses allow, or LAST + 1.
-pub fn nearest<E: End>(w: &[u64], c: Counts, k: usize) -> u64
-    requires { Fits c w.now × IsRow c.edits k × (names_existing (records_of c w.now) (slot_at c w.now k) ≡ true)
-        × AllRise c w.now }
-    ensures { LeastFrom (λ x. all (allows_at E.point (records_of c w.now) k x) (slot_at c w.now k).accesses) 1 result }
-{
-    let mut p = LOWEST;
-    for (j, a) in tables::accesses(w, c, k).enumerate() {
-        p = lift_next::<E>(w, c, k, p, j, a);
-        if LAST < p {
-            return p;
+    // The least distance at or above p of a point that the first j accesses allow.
+    // Kept: passes until none moves the point are no walk of a list, so a loop says it.
+    fn lift<E: End>(self, p: u64, j: usize) -> Option<u64>
+        requires { (1 ≤ p) × (p ≤ LAST) }
+        ensures { NextFrom (all_allow_at E.point self.entry (first_in self.entry j)) p result }
+    {
+        let mut q = p;
+        loop {
+            let x = self.raise::<E>(q, j)?;
+            if x == q {
+                return Some(q);
+            }
+            q = x;
         }
     }
-    p
+
+    // The least distance of a point that all accesses allow.
+    fn nearest<E: End>(self) -> Option<u64>
+        ensures { NextFrom (all_allow_at E.point self.entry (edit_in self.entry.slot).accesses) 1 result }
+    {
+        let mut p = LOWEST;
+        for (j, a) in self.slot.accesses().enumerate() {
+            let next = Limit {
+                set: self,
+                access: a,
+            };
+            p = next.lift::<E>(p, j)?;
+        }
+        Some(p)
+    }
+
+    pub fn earliest(self) -> Option<u64>
+        ensures { result ≡ upto LAST (earliest (recs_in self.entry) self.entry.slot.number (edit_in self.entry.slot)) }
+    {
+        self.nearest::<Low>()
+    }
+
+    pub fn latest(self) -> Option<u64>
+        ensures { result ≡ positive (latest (recs_in self.entry) self.entry.slot.number (edit_in self.entry.slot)) }
+    {
+        let d = self.nearest::<High>()?;
+        Some(LAST + 1 - d)
+    }
+}
+
+impl<'a> Limit<'a> {
+    ghost use Rattle.std.specs.Prelude.{◌≡◌, ◌+◌, ◌≤◌, ◌<◌, Some};
+    ghost use Rattle.types.specs.Limits.{LAST};
+    ghost use Rattle.common.specs.Commit.{NextFrom, all_allow_at, first_in, Follows};
+
+    // From the least distance p of a point that the first j accesses allow to that of one more, this one. Where it
+    // moves the point and the first j allow it there, it is found: this one has been asked already.
+    fn lift<E: End>(self, p: u64, j: usize) -> Option<u64>
+        requires { (1 ≤ p) × (j < self.set.slot.tables.counts.accesses) × Follows self j
+            × NextFrom (all_allow_at E.point self.set (first_in self.set j)) 1 (Some p) }
+        ensures { NextFrom (all_allow_at E.point self.entry.set (first_in self.entry.set (j + 1))) 1 result }
+    {
+        let moved = self.next_allowed::<E>(p)?;
+        if moved == p {
+            return Some(p);
+        }
+        let q = self.set.raise::<E>(moved, j)?;
+        if q == moved {
+            return Some(q);
+        }
+        self.set.lift::<E>(q, j + 1)
+    }
 }

@@ -1,22 +1,27 @@
-// For programs that show what calls did: a line on standard output, and whether any word moved. Rests on the crates
-// `replies` and `printing`.
+// For programs that show what calls did: whether any word moved, as it is printed. Rests on nothing.
 #![tactic(auto)]
 
-ghost use Rattle.console.specs.Words.{Moved};
+ghost use Rattle.std.specs.Prelude.{Some};
 
-use replies::Line;
-use std::io;
+use std::fmt;
 
-// The line's text, with no end of line.
-pub fn print_line(rt: &impl Print, l: Line) -> io::Result<()> {
-    let mut out = [0u8; printing::WIDTH];
-    let n = printing::print(l, &mut out);
-    rt.write_all(&out[..n])
+// The words before a call and after it.
+#[derive(Clone, Copy)]
+pub struct Moved<'a> {
+    pub before: &'a [u64],
+    pub after: &'a [u64],
 }
 
-// Whether the words after are others than those before.
-pub fn moved(before: &[u64], after: &[u64]) -> bool
-    ensures { Moved before.now after.now result }
-{
-    before != after
+impl fmt::Display for Moved<'_> {
+    ghost use Rattle.console.specs.Words.{moved_text};
+
+    ghost output = { λ m. Some (moved_text m.before.now m.after.now) };
+
+    fn fmt<W: fmt::Write>(&self, f: &mut fmt::Formatter<W>) -> fmt::Result {
+        f.write_str(if self.before == self.after {
+            "no word moved"
+        } else {
+            "words moved"
+        })
+    }
 }

@@ -7,16 +7,20 @@
 
 mod state;
 
-use state::{WORDS, access, lock, put, put_state, reads, record, slot, version, writes};
+use state::{COUNTS, WORDS, place, put, put_state};
 use std::io;
 use tables::{
     A_FROM, A_NEXT, A_RECORD, A_VALUE, A_WRITTEN, FREE_ACCESS, FREE_LOCK, FREE_VERSION, H_ACCESSES,
-    H_EDITS, H_LOCKS, H_RECORDS, H_VERSIONS, L_HIGH, L_LOW, L_MODE, L_NEXT, L_RECORD, R_FLOOR,
-    R_LOCK, S_GENERATION, S_POINT, S_STATE, V_NEXT, V_POINT, V_SPARE,
+    H_EDITS, H_LOCKS, H_RECORDS, H_VERSIONS, L_HIGH, L_LOW, L_MODE, L_NEXT, L_RECORD, MODES,
+    R_FLOOR, R_LOCK, Records, S_GENERATION, S_POINT, S_STATE, Slots, V_NEXT, V_POINT, V_SPARE,
 };
-use types::{Counts, FREE, GENERATIONS, LAST, MAX_EDITS, MAX_RECORDS, MAX_ROWS};
+use types::{
+    Access, Counts, FREE, GENERATIONS, LAST, Lock, MAX_EDITS, MAX_RECORDS, MAX_ROWS, READ, Version,
+    WRITE,
+};
 
 // Formats the slice, and prints the reply and the verdict.
+// Kept: the words and the counts are what Format takes.
 fn lay_out(rt: &impl Print, w: &mut [u64], c: Counts, text: &str) -> io::Result<()> {
     match format::format(w, c) {
         Ok(()) => print!(rt; "ok ")?,
@@ -68,17 +72,37 @@ fn damage_chains(rt: &impl Print, w: &[u64; WORDS]) -> io::Result<()> {
         rt,
         w,
         &[
-            (version(7, V_NEXT), 6, "the free versions in a circle"),
-            (version(7, V_NEXT), 8, "a version link past the table"),
-            (version(7, V_NEXT), 1, "a version row on two chains"),
+            (
+                place::<Version>(7, V_NEXT),
+                6,
+                "the free versions in a circle",
+            ),
+            (
+                place::<Version>(7, V_NEXT),
+                8,
+                "a version link past the table",
+            ),
+            (
+                place::<Version>(7, V_NEXT),
+                1,
+                "a version row on two chains",
+            ),
             (FREE_VERSION, 7, "a version row on no chain"),
-            (lock(12, L_NEXT), 11, "the free locks in a circle"),
-            (lock(12, L_NEXT), 13, "a lock link past the table"),
-            (lock(12, L_NEXT), 10, "a lock row on two chains"),
+            (place::<Lock>(12, L_NEXT), 11, "the free locks in a circle"),
+            (place::<Lock>(12, L_NEXT), 13, "a lock link past the table"),
+            (place::<Lock>(12, L_NEXT), 10, "a lock row on two chains"),
             (FREE_LOCK, 12, "a lock row on no chain"),
-            (access(8, A_NEXT), 8, "the free accesses in a circle"),
-            (access(8, A_NEXT), 9, "an access link past the table"),
-            (access(8, A_NEXT), 5, "an access row on two chains"),
+            (
+                place::<Access>(8, A_NEXT),
+                8,
+                "the free accesses in a circle",
+            ),
+            (
+                place::<Access>(8, A_NEXT),
+                9,
+                "an access link past the table",
+            ),
+            (place::<Access>(8, A_NEXT), 5, "an access row on two chains"),
             (FREE_ACCESS, 0, "access rows on no chain"),
         ],
     )
@@ -91,17 +115,25 @@ fn damage_used_chains(rt: &impl Print, w: &[u64; WORDS]) -> io::Result<()> {
         w,
         &[
             (
-                version(3, V_NEXT),
+                place::<Version>(3, V_NEXT),
                 1,
                 "the versions of record 0 in a circle",
             ),
             (
-                version(4, V_NEXT),
+                place::<Version>(4, V_NEXT),
                 2,
                 "versions on the chains of two records",
             ),
-            (lock(5, L_NEXT), 1, "the locks of record 0 in a circle"),
-            (access(4, A_NEXT), 2, "the accesses of edit 2 in a circle"),
+            (
+                place::<Lock>(5, L_NEXT),
+                1,
+                "the locks of record 0 in a circle",
+            ),
+            (
+                place::<Access>(4, A_NEXT),
+                2,
+                "the accesses of edit 2 in a circle",
+            ),
         ],
     )
 }
@@ -113,14 +145,30 @@ fn damage_marks(rt: &impl Print, w: &[u64; WORDS]) -> io::Result<()> {
         rt,
         w,
         &[
-            (lock(1, L_RECORD), 1, "a lock row that names another record"),
-            (slot(3, S_STATE), 4, "a state of 4"),
-            (slot(3, S_GENERATION), GENERATIONS, "a generation of 65536"),
-            (slot(3, S_POINT), 3, "a commit point of an open edit"),
-            (slot(4, S_POINT), 3, "a commit point of a free slot"),
-            (access(5, A_WRITTEN), 2, "a written mark of 2"),
-            (lock(9, L_MODE), 3, "a mode of 3"),
-            (lock(9, L_MODE), 0, "a mode of 0"),
+            (
+                place::<Lock>(1, L_RECORD),
+                1,
+                "a lock row that names another record",
+            ),
+            (place::<Slots>(3, S_STATE), 4, "a state of 4"),
+            (
+                place::<Slots>(3, S_GENERATION),
+                GENERATIONS,
+                "a generation of 65536",
+            ),
+            (
+                place::<Slots>(3, S_POINT),
+                3,
+                "a commit point of an open edit",
+            ),
+            (
+                place::<Slots>(4, S_POINT),
+                3,
+                "a commit point of a free slot",
+            ),
+            (place::<Access>(5, A_WRITTEN), 2, "a written mark of 2"),
+            (place::<Lock>(9, L_MODE), 3, "a mode of 3"),
+            (place::<Lock>(9, L_MODE), 0, "a mode of 0"),
         ],
     )
 }
@@ -131,13 +179,17 @@ fn damage_versions(rt: &impl Print, w: &[u64; WORDS]) -> io::Result<()> {
         rt,
         w,
         &[
-            (version(1, V_POINT), 7, "versions that do not fall strictly"),
             (
-                version(3, V_POINT),
+                place::<Version>(1, V_POINT),
+                7,
+                "versions that do not fall strictly",
+            ),
+            (
+                place::<Version>(3, V_POINT),
                 6,
                 "versions that do not end at the floor",
             ),
-            (version(4, V_POINT), 0, "a version with point 0"),
+            (place::<Version>(4, V_POINT), 0, "a version with point 0"),
         ],
     )
 }
@@ -150,18 +202,26 @@ fn damage_range(rt: &impl Print, w: &[u64; WORDS]) -> io::Result<()> {
         rt,
         w,
         &[
-            (version(3, V_POINT), 4, "a version below the floor"),
-            (record(2, R_FLOOR), 6, "a floor above the versions"),
-            (version(4, V_POINT), LAST + 1, "a version above LAST"),
+            (place::<Version>(3, V_POINT), 4, "a version below the floor"),
+            (
+                place::<Records>(3, R_FLOOR),
+                6,
+                "a floor above the versions",
+            ),
+            (
+                place::<Version>(4, V_POINT),
+                LAST + 1,
+                "a version above LAST",
+            ),
         ],
     )?;
     let mut high = *w;
-    put(&mut high, record(2, R_FLOOR), &[LAST + 1]);
+    put(&mut high, place::<Records>(3, R_FLOOR), &[LAST + 1]);
     damage(
         rt,
         &high,
         &[(
-            version(5, V_POINT),
+            place::<Version>(5, V_POINT),
             LAST + 1,
             "a version and its floor above LAST",
         )],
@@ -175,13 +235,21 @@ fn damage_locks(rt: &impl Print, w: &[u64; WORDS]) -> io::Result<()> {
         rt,
         w,
         &[
-            (lock(1, L_LOW), 5, "a lock at the floor"),
-            (lock(2, L_HIGH), 5, "a lock with low above high"),
-            (lock(9, L_HIGH), LAST + 1, "a lock above LAST"),
-            (lock(9, L_MODE), reads(4), "an owner that is a free slot"),
-            (lock(9, L_MODE), reads(5), "an owner slot that there is not"),
+            (place::<Lock>(1, L_LOW), 5, "a lock at the floor"),
+            (place::<Lock>(2, L_HIGH), 5, "a lock with low above high"),
+            (place::<Lock>(9, L_HIGH), LAST + 1, "a lock above LAST"),
             (
-                lock(7, L_HIGH),
+                place::<Lock>(9, L_MODE),
+                4 * MODES + READ,
+                "an owner that is a free slot",
+            ),
+            (
+                place::<Lock>(9, L_MODE),
+                5 * MODES + READ,
+                "an owner slot that there is not",
+            ),
+            (
+                place::<Lock>(7, L_HIGH),
                 3,
                 "a write lock that shares a point with another owner",
             ),
@@ -193,8 +261,8 @@ fn damage_locks(rt: &impl Print, w: &[u64; WORDS]) -> io::Result<()> {
 fn swapped(state: &[u64; WORDS], at: usize, i: usize, j: usize, next: u64) -> [u64; WORDS] {
     let mut w = *state;
     put(&mut w, at, &[j as u64]);
-    put(&mut w, lock(j, L_NEXT), &[i as u64]);
-    put(&mut w, lock(i, L_NEXT), &[next]);
+    put(&mut w, place::<Lock>(j, L_NEXT), &[i as u64]);
+    put(&mut w, place::<Lock>(i, L_NEXT), &[next]);
     w
 }
 
@@ -204,28 +272,28 @@ fn damage_order(rt: &impl Print, w: &[u64; WORDS]) -> io::Result<()> {
         rt,
         w,
         &[(
-            lock(1, L_LOW),
+            place::<Lock>(1, L_LOW),
             7,
             "a lock that starts before the one before it",
         )],
     )?;
     for (at, i, j, next, text) in [
         (
-            record(0, R_LOCK),
+            place::<Records>(1, R_LOCK),
             1,
             2,
             3,
             "two locks with equal low ends, swapped",
         ),
         (
-            lock(1, L_NEXT),
+            place::<Lock>(1, L_NEXT),
             2,
             3,
             4,
             "two locks with other low ends, swapped",
         ),
         (
-            lock(3, L_NEXT),
+            place::<Lock>(3, L_NEXT),
             4,
             5,
             0,
@@ -238,46 +306,41 @@ fn damage_order(rt: &impl Print, w: &[u64; WORDS]) -> io::Result<()> {
 }
 
 // Row 11 as the last lock of record 1, after the settled read lock 20..30.
-fn with_last(state: &[u64; WORDS], low: u64, high: u64, mode: u64) -> [u64; WORDS] {
+fn with_last(state: &[u64; WORDS], row: &[u64; 5]) -> [u64; WORDS] {
     let mut w = *state;
     put(&mut w, FREE_LOCK, &[12]);
-    put(&mut w, lock(9, L_NEXT), &[11]);
-    put(&mut w, lock(11, 0), &[low, high, mode, 1, 0]);
+    put(&mut w, place::<Lock>(9, L_NEXT), &[11]);
+    put(&mut w, place::<Lock>(11, 0), row);
     w
 }
 
 // "settled read rows that overlap or adjoin are one row".
 fn damage_joined(rt: &impl Print, w: &[u64; WORDS]) -> io::Result<()> {
-    for (low, high, mode, text) in [
-        (30, 40, reads(0), "settled read locks that share a point"),
-        (22, 28, reads(0), "a settled read lock inside another"),
-        (31, 40, reads(0), "settled read locks that adjoin"),
+    for (row, text) in [
         (
-            32,
-            40,
-            reads(0),
+            [30, 40, READ, 1, 0],
+            "settled read locks that share a point",
+        ),
+        ([22, 28, READ, 1, 0], "a settled read lock inside another"),
+        ([31, 40, READ, 1, 0], "settled read locks that adjoin"),
+        (
+            [32, 40, READ, 1, 0],
             "settled read locks with one point between them",
         ),
         (
-            20,
-            30,
-            writes(0),
+            [20, 30, WRITE, 1, 0],
             "a settled write lock on the points of a settled read lock",
         ),
         (
-            31,
-            40,
-            writes(0),
+            [31, 40, WRITE, 1, 0],
             "a settled write lock that adjoins a settled read lock",
         ),
         (
-            20,
-            40,
-            reads(3),
+            [20, 40, 3 * MODES + READ, 1, 0],
             "a read lock of an edit over a settled read lock",
         ),
     ] {
-        judge(rt, &with_last(w, low, high, mode), text)?;
+        judge(rt, &with_last(w, &row), text)?;
     }
     Ok(())
 }
@@ -289,19 +352,27 @@ fn damage_backing(rt: &impl Print, w: &[u64; WORDS]) -> io::Result<()> {
         rt,
         w,
         &[
-            (lock(8, L_MODE), reads(0), "a version under a read lock"),
-            (version(4, V_POINT), 4, "a version off its lock"),
             (
-                access(1, A_WRITTEN),
+                place::<Lock>(8, L_MODE),
+                READ,
+                "a version under a read lock",
+            ),
+            (place::<Version>(4, V_POINT), 4, "a version off its lock"),
+            (
+                place::<Access>(1, A_WRITTEN),
                 0,
                 "a version whose edit did not write the record",
             ),
             (
-                slot(1, S_POINT),
+                place::<Slots>(1, S_POINT),
                 11,
                 "a version whose edit committed elsewhere",
             ),
-            (lock(8, L_MODE), writes(3), "a version whose edit is open"),
+            (
+                place::<Lock>(8, L_MODE),
+                3 * MODES + WRITE,
+                "a version whose edit is open",
+            ),
         ],
     )
 }
@@ -315,19 +386,27 @@ fn damage_accesses(rt: &impl Print, w: &[u64; WORDS]) -> io::Result<()> {
         w,
         &[
             (
-                access(3, A_RECORD),
+                place::<Access>(3, A_RECORD),
                 4,
                 "an access of a record that there is not",
             ),
-            (access(3, A_RECORD), 1, "an edit that names a record twice"),
-            (access(1, A_FROM), 9, "a point read that is no version"),
-            (access(5, A_FROM), 1, "a read without a lock"),
             (
-                lock(7, L_MODE),
-                writes(2),
+                place::<Access>(3, A_RECORD),
+                1,
+                "an edit that names a record twice",
+            ),
+            (
+                place::<Access>(1, A_FROM),
+                9,
+                "a point read that is no version",
+            ),
+            (place::<Access>(5, A_FROM), 1, "a read without a lock"),
+            (
+                place::<Lock>(7, L_MODE),
+                2 * MODES + WRITE,
                 "a read whose lock is a write lock",
             ),
-            (lock(7, L_LOW), 2, "a read whose lock starts later"),
+            (place::<Lock>(7, L_LOW), 2, "a read whose lock starts later"),
         ],
     )
 }
@@ -339,22 +418,26 @@ fn damage_ends(rt: &impl Print, w: &[u64; WORDS]) -> io::Result<()> {
         w,
         &[
             (
-                slot(2, S_POINT),
+                place::<Slots>(2, S_POINT),
                 2,
                 "a commit point outside the write locks",
             ),
             (
-                lock(10, L_MODE),
-                reads(2),
+                place::<Lock>(10, L_MODE),
+                2 * MODES + READ,
                 "a commit point under a read lock only",
             ),
             (
-                lock(3, L_HIGH),
+                place::<Lock>(3, L_HIGH),
                 9,
                 "a commit point past a gap in the own locks",
             ),
-            (slot(2, S_POINT), 0, "a commit point of 0"),
-            (slot(3, S_STATE), FREE, "a free slot with accesses"),
+            (place::<Slots>(2, S_POINT), 0, "a commit point of 0"),
+            (
+                place::<Slots>(3, S_STATE),
+                FREE,
+                "a free slot with accesses",
+            ),
         ],
     )
 }
@@ -365,16 +448,20 @@ fn damage_nothing(rt: &impl Print, w: &[u64; WORDS]) -> io::Result<()> {
         rt,
         w,
         &[
-            (access(7, A_FROM), 77, "words of a free row"),
-            (version(1, V_SPARE), 9, "a third word of a version"),
-            (access(2, A_VALUE), 5, "a value of an unwritten access"),
+            (place::<Access>(7, A_FROM), 77, "words of a free row"),
+            (place::<Version>(1, V_SPARE), 9, "a third word of a version"),
             (
-                slot(4, S_GENERATION),
+                place::<Access>(2, A_VALUE),
+                5,
+                "a value of an unwritten access",
+            ),
+            (
+                place::<Slots>(4, S_GENERATION),
                 GENERATIONS - 1,
                 "a generation of 65535",
             ),
             (
-                lock(9, L_LOW),
+                place::<Lock>(9, L_LOW),
                 3,
                 "a settled lock that shares a point with a settled write lock",
             ),
@@ -382,31 +469,34 @@ fn damage_nothing(rt: &impl Print, w: &[u64; WORDS]) -> io::Result<()> {
     )
 }
 
-fn counts(records: usize, edits: usize, versions: usize, locks: usize, accesses: usize) -> Counts {
-    Counts {
-        records,
-        edits,
-        versions,
-        locks,
-        accesses,
-    }
-}
-
 // The lengths 118 and 60,662 are document 01's own numbers, so that Format is tried against them.
 fn format_stores(rt: &impl Print) -> io::Result<()> {
     let mut small = [7u64; 118];
-    for (c, text) in [
-        (counts(2, 2, 4, 8, 8), "store 2 2 4 8 8"),
+    for ([records, edits, versions, locks, accesses], text) in [
+        ([2, 2, 4, 8, 8], "store 2 2 4 8 8"),
         (
-            counts(0, 2, 4, 8, 8),
+            [0, 2, 4, 8, 8],
             "store 0 2 4 8 8 is refused and changes nothing",
         ),
-        (counts(2, 2, 4, 8, 7), "store 2 2 4 8 7 has another length"),
+        ([2, 2, 4, 8, 7], "store 2 2 4 8 7 has another length"),
     ] {
+        let c = Counts {
+            records,
+            edits,
+            versions,
+            locks,
+            accesses,
+        };
         lay_out(rt, &mut small, c, text)?;
     }
     let mut large = [7u64; 60662];
-    let most = counts(MAX_RECORDS, MAX_EDITS, MAX_ROWS, MAX_ROWS, MAX_ROWS);
+    let most = Counts {
+        records: MAX_RECORDS,
+        edits: MAX_EDITS,
+        versions: MAX_ROWS,
+        locks: MAX_ROWS,
+        accesses: MAX_ROWS,
+    };
     lay_out(rt, &mut large, most, "the largest store")
 }
 
@@ -416,7 +506,7 @@ fn main(rt: HostRuntime) -> io::Result<()> {
     judge(&rt, &[0u64; 0], "no word")?;
     judge(&rt, &[1u64; 7], "seven words")?;
     let mut state = [7u64; WORDS];
-    lay_out(&rt, &mut state, counts(4, 4, 7, 12, 8), "store 4 4 7 12 8")?;
+    lay_out(&rt, &mut state, COUNTS, "store 4 4 7 12 8")?;
     put_state(&mut state);
     judge(&rt, &state, "the state as it is")?;
     damage_header(&rt, &state)?;

@@ -38,6 +38,7 @@ use Rattle.desk.specs.Cases.{ends_edit}
 use Rattle.desk.specs.Desk.{ended, closed, between, within, cut_to, named, good_start, point_at, starting, ByLook}
 use Rattle.desk.specs.Desk.{start_reply, ended_reply, unless_ended, once_read, once_locked}
 use Rattle.desk.specs.Desk.{desk_open, desk_read, desk_write, desk_commit}
+use Rattle.desk.specs.declared.Setting.{Setting}
 use Rattle.desk.specs.declared.Session.{Session}
 
 -- what `?` passes on is the refusal
@@ -186,30 +187,30 @@ module _ (s : Session) {w : List ℕ} where
     commit_refused x e = commit_goes (Err x) e
 
 -- Opening
-module _ (t : Point) (width : ℕ) (latest : Bool) {w : List ℕ} where
+module _ (t : Point) (width : ℕ) (setting : Setting) {w : List ℕ} where
   pub open_bad : (r : Refusal) → good_start t.0 width ≡ false → ByLook slot start_reply w r
-      → Layer (desk_open t.0 width latest) w w (declined (of_refusal r))
+      → Layer (desk_open t.0 width setting) w w (declined (of_refusal r))
   unfolding desk_open
   open_bad r g b = rw g (looked slot start_reply declined r b)
 
   module _ {w₁ : List ℕ} (g : good_start t.0 width ≡ true) (r : Result Handle Refusal)
       (d : Does beginning w w₁ (of_begin r)) where
-    pub open_refused : (x : Refusal) → r ≡ Err x → Layer (desk_open t.0 width latest) w w₁ (declined (of_refusal x))
+    pub open_refused : (x : Refusal) → r ≡ Err x → Layer (desk_open t.0 width setting) w w₁ (declined (of_refusal x))
     unfolding desk_open
     open_refused x e = rw g (asked C.Begin of_begin {r' = Err x} d e answered)
 
-    begun : (h : Handle) → r ≡ Ok h → Layer (desk_open t.0 width latest) w w₁ (opened (starting t.0 width latest h.0))
+    begun : (h : Handle) → r ≡ Ok h → Layer (desk_open t.0 width setting) w w₁ (opened (starting t.0 width setting h.0))
     unfolding desk_open
     begun h e = rw g (asked C.Begin of_begin {r' = Ok h} d e answered)
 
     -- high is the point of the sum
     pub open_begun : (h : Handle) → r ≡ Ok h → (high : Point) → high.0 ≡ t.0 + width
-        → Layer (desk_open t.0 width latest) w w₁
-        (opened (record { handle = h; low = t; high = high; width = width; latest = latest }))
+        → Layer (desk_open t.0 width setting) w w₁
+        (opened (record { handle = h; low = t; high = high; width = width; setting = setting }))
     open_begun h f high i =
         subst
         (λ (x : ℕ).
-        Layer (desk_open t.0 width latest) w w₁
-        (opened (record { handle = h; low = t; high = point_at x; width = width; latest = latest })))
+        Layer (desk_open t.0 width setting) w w₁
+        (opened (record { handle = h; low = t; high = point_at x; width = width; setting = setting })))
         (sym i)
         (begun h f)

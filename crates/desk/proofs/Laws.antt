@@ -38,6 +38,8 @@ use Rattle.desk.specs.Laws.{RefusalIsPassedOn, GoodStartIs, BadStart, BadStartOr
 use Rattle.desk.specs.Laws.{OwnAndAgainLeave, Aborted}
 use Rattle.desk.specs.Laws.{EmptiedIsAborted, Inside, WriteShrinks, WriteStores, CommitsAt, CommitNames}
 use Rattle.desk.specs.Laws.{CommitSettles}
+use Rattle.desk.specs.declared.Setting.{Setting}
+use Rattle.desk.specs.declared.Setting.TheVariants.{Earliest, Latest}
 use Rattle.desk.specs.declared.Session.{Session}
 use Rattle.desk.proofs.Cases as cases
 use Rattle.desk.proofs.Cases.{LockedOr, taken, locked_or, ReadOr, new, read_or}
@@ -155,7 +157,7 @@ may_begin_lem s = go (leb (free_slot s) (length s.edits)) _ _ refl
 
 pub bad_start_order : BadStartOrder
 unfolding play desk_open
-bad_start_order t width latest s g = rw g (go (may_begin_lem s))
+bad_start_order t width setting s g = rw g (go (may_begin_lem s))
   where
     told_as : {q q' : Reply} → q ≡ q' → unchanged (declined q) s ≡ unchanged (declined q') s
     told_as e = ap (λ (x : Reply). unchanged (declined x) s) e
@@ -182,24 +184,24 @@ bad_start_order t width latest s g = rw g (go (may_begin_lem s))
 
 pub unsound_opens_none : UnsoundOpensNone
 unfolding denied desk_open
-unsound_opens_none t width latest = go (good_start t width)
+unsound_opens_none t width setting = go (good_start t width)
   where
-    go : (b : Bool) → denied (cond b (begin t width latest) refuse_start) ≡ declined (refusing 1 [])
+    go : (b : Bool) → denied (cond b (begin t width setting) refuse_start) ≡ declined (refusing 1 [])
     go true = refl
     go false = refl
 
 pub good_start_opens : GoodStartOpens
 unfolding play desk_open act_by
-good_start_opens t width latest s g =
+good_start_opens t width setting s g =
     rw g
     record {
       store = refl;
       edit = λ h e. (
-        starting t width latest h,
+        starting t width setting h,
         rw e,
         record {
           handle = refl;
-          interval = just_between (starting t width latest h) t (t + width);
+          interval = just_between (starting t width setting h) t (t + width);
           width = refl;
           setting = refl;
         },
@@ -295,27 +297,30 @@ write_stores s rec low high v t m e = rw (write_plays s t m rec v, e) (refl, ref
 
 -- Commit.
 
+not_both : {A : Type 0} → Earliest ≡ Latest → A
+not_both e = let z : ◌≡◌ {A = ℕ} 0 1 = cc in absurd (omega arith)
+
 names : (s : Session) (p : ℕ) → ended s ≡ false → p ≡ (named s).0 → CommitsAt s p
 unfolding named ended
-names s p m e = go s.latest refl
+names s p m e = go s.setting refl
   where
     some : s.low.0 ≤ s.high.0
     some = ltb-false s.high.0 s.low.0 m
 
-    go : (b : Bool) → s.latest ≡ b → CommitsAt s p
-    go true f =
+    go : (x : Setting) → s.setting ≡ x → CommitsAt s p
+    go Latest f =
         let x : p ≡ s.high.0 = rw f at e in
         record {
           point = record { from = omega (arith, some); upto = omega arith };
-          earliest = λ k. true_not_false (sym f ∙ k);
+          earliest = λ k. not_both (sym k ∙ f);
           latest = λ k y h. let u = h.upto in omega arith;
         }
-    go false f =
+    go Earliest f =
         let x : p ≡ s.low.0 = rw f at e in
         record {
           point = record { from = omega arith; upto = omega (arith, some) };
           earliest = λ k y h. let u = h.from in omega arith;
-          latest = λ k. true_not_false (sym k ∙ f);
+          latest = λ k. not_both (sym f ∙ k);
         }
 
 -- a Commit that was not refused: the session had not ended, and the reply is the store's

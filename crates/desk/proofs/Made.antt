@@ -28,6 +28,7 @@ use Rattle.desk.specs.Desk as D
 use Rattle.desk.specs.Made.{Made, reads, empties, writes, no_lock, commits, DeskCallsMade, EndedMakesNone}
 use Rattle.desk.specs.Made.{Begun, begun, none, OpeningMade}
 use Rattle.desk.specs.Made as made
+use Rattle.desk.specs.declared.Setting.{Setting}
 use Rattle.desk.specs.declared.Session.{Session}
 use Rattle.desk.proofs.Cases as cases
 use Rattle.desk.proofs.Cases.{EditOr, edited, edit_or, ReadOr, new, read_or}
@@ -139,14 +140,14 @@ ended_makes_none (D.write rec v) s w w' a e l = refuses s (over s _ e l.follows)
 ended_makes_none D.commit s w w' a e l = refuses s (over s _ e l.follows)
 
 -- Opening
-module _ (t width : ℕ) (latest : Bool) where
+module _ (t width : ℕ) (setting : Setting) where
   begins : {q : Reply} → EditOr q
-      → Begun (on_edit q (declined q) (λ h. opened (starting t width latest h))) (C.Begin ∷ []) (q ∷ [])
+      → Begun (on_edit q (declined q) (λ h. opened (starting t width setting h))) (C.Begin ∷ []) (q ∷ [])
   begins (edited h) = begun
   begins (cases.passed {q} e) = rw (e _ _ _) made.refused
 
   begin_made : {w w' : Lent} {cs : List Call} {qs : List Reply} {o : Opening}
-      → Goes (begin t width latest) w cs qs w' o
+      → Goes (begin t width setting) w cs qs w' o
       → Begun o cs qs
   begin_made (asks {q = q} d r) = at_answer (λ o cs qs. Begun o (C.Begin ∷ cs) (q ∷ qs)) r (begins (edit_or q))
 
@@ -156,10 +157,10 @@ start_made (looks d r) = at_answer Begun r none
 
 pub opening_made : OpeningMade
 unfolding desk_open
-opening_made t width latest w w' o l = go (good_start t width) l.follows
+opening_made t width setting w w' o l = go (good_start t width) l.follows
   where
     go : (b : Bool) {cs : List Call} {qs : List Reply}
-        → Goes (cond b (begin t width latest) refuse_start) (lent w) cs qs (lent w') o
+        → Goes (cond b (begin t width setting) refuse_start) (lent w) cs qs (lent w') o
         → Begun o cs qs
-    go true f = begin_made t width latest f
+    go true f = begin_made t width setting f
     go false f = start_made f

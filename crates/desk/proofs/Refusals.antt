@@ -102,11 +102,11 @@ module _ (s s' : Session) (n : ℕ) (more : List ℕ) (w₁ w' : Lent) where
 
 pub open_refusal_keeps : OpenRefusalKeeps
 unfolding desk_open
-open_refusal_keeps t width latest w w' n more l =
+open_refusal_keeps t width setting w w' n more l =
     go (good_start t width) l
   where
     refusal : {q : Reply} → EditOr q
-        → on_edit q (declined q) (λ h. opened (starting t width latest h)) ≡ declined (refusing n more)
+        → on_edit q (declined q) (λ h. opened (starting t width setting h)) ≡ declined (refusing n more)
         → refused q ≡ true
     refusal (edited h) e = let z : ◌≡◌ {A = ℕ} 0 1 = cc in absurd (omega arith)
     refusal (cases.passed {q} f) e =
@@ -115,7 +115,7 @@ open_refusal_keeps t width latest w w' n more l =
         ap refused k
 
     go : (b : Bool)
-        → Done (cond b (begin t width latest) refuse_start) (lent w) (lent w') (declined (refusing n more))
+        → Done (cond b (begin t width setting) refuse_start) (lent w) (lent w') (declined (refusing n more))
         → lent w' ≡ lent w
     go true d =
         let x = of_ask Lent decode sound_words d.follows in

@@ -1,6 +1,7 @@
 -- The planning desk (M-101): opening, read, write and commit, each as a program of calls of the store. The program is
 -- the definition: what a call answers and leaves is `play` of it (Programs of `layers`). Rests on Programs and Cases.
-use Rattle.std.specs.Prelude.{ℕ, suc, ◌+◌, ◌-◌, min, max, ◌≡◌, Bool, cond, ◌&&◌, List, [], leb, ltb, Option, Some, None}
+use Rattle.std.specs.Prelude.{ℕ, suc, ◌+◌, ◌-◌, min, max, ◌≡◌, Bool, true, false, cond, ◌&&◌, List, [], leb, ltb}
+use Rattle.std.specs.Prelude.{Option, Some, None, Result, Ok, Err}
 use Rattle.types.specs.Limits.{LAST}
 use Rattle.types.specs.Values.{Val}
 use Rattle.types.specs.Replies.{Reply, refusing, refused, of_refusal}
@@ -14,6 +15,8 @@ use Rattle.store.specs.Promises.{Shows}
 use Rattle.layers.specs.Programs.{Program, answer, ask, look, Look, shown, slot, view}
 use Rattle.desk.specs.Replies.{Opening, opened, declined, emptied, After, says}
 use Rattle.desk.specs.Cases.{on_edit, on_locked, on_read, ends_edit, says_one}
+use Rattle.desk.specs.declared.Setting.{Setting}
+use Rattle.desk.specs.declared.Setting.TheVariants.{Earliest, Latest}
 use Rattle.desk.specs.declared.Session.{Session}
 
 -- Sessions.
@@ -29,7 +32,7 @@ between s low high =
       low = point_at low;
       high = point_at high;
       width = s.width;
-      latest = s.latest;
+      setting = s.setting;
     }
 
 -- a session has ended if its interval has no point
@@ -49,22 +52,26 @@ unfoldable pub cut_to : Session → ℕ → ℕ → Option Session
 cut_to s low high = cond (ended (within s low high)) None (Some (within s low high))
 
 -- "Commit names the earliest or the latest point of the interval left, by a setting"
+abbrev pub end_of : Setting → Point → Point → Point
+end_of Earliest low high = low
+end_of Latest low high = high
+
 unfoldable pub named : Session → Point
-named s = cond s.latest s.high s.low
+named s = end_of s.setting s.low s.high
 
 -- "t 0, or t + width above LAST, is 6"
 unfoldable pub good_start : ℕ → ℕ → Bool
 good_start t width = leb 1 t && leb t LAST && leb width (LAST - t)
 
 -- "A desk edit has a working interval t to t + width."
-abbrev pub starting : ℕ → ℕ → Bool → ℕ → Session
-starting t width latest h =
+abbrev pub starting : ℕ → ℕ → Setting → ℕ → Session
+starting t width setting h =
     record {
       handle = record { 0 = h };
       low = point_at t;
       high = point_at (t + width);
       width = width;
-      latest = latest;
+      setting = setting;
     }
 
 -- Opening.
@@ -76,12 +83,12 @@ start_reply q = cond (refused q) q (refusing 6 [])
 abbrev pub refuse_start : Program Opening
 refuse_start = look slot (λ q. answer (declined (start_reply q)))
 
-abbrev pub begin : ℕ → ℕ → Bool → Program Opening
-begin t width latest =
-    ask C.Begin (λ q. answer (on_edit q (declined q) (λ h. opened (starting t width latest h))))
+abbrev pub begin : ℕ → ℕ → Setting → Program Opening
+begin t width setting =
+    ask C.Begin (λ q. answer (on_edit q (declined q) (λ h. opened (starting t width setting h))))
 
-unfoldable pub desk_open : ℕ → ℕ → Bool → Program Opening
-desk_open t width latest = cond (good_start t width) (begin t width latest) refuse_start
+unfoldable pub desk_open : ℕ → ℕ → Setting → Program Opening
+desk_open t width setting = cond (good_start t width) (begin t width setting) refuse_start
 
 -- Read, write and commit.
 
@@ -144,3 +151,8 @@ pub record ByLook (l : Look) (of : Reply → Reply) (w : List ℕ) (r : Refusal)
   pub seen : Reply
   pub shows : Shows (shown l) w seen
   pub is : of_refusal r ≡ of seen
+
+-- whether a session goes on, or the refusal of one that has ended
+abbrev pub GoesOn : Session → List ℕ → Result (Unit {0}) Refusal → Type 0
+GoesOn s w (Ok x) = ended s ≡ false
+GoesOn s w (Err r) = (ended s ≡ true) × ByLook (view 0 0) ended_reply w r

@@ -1,6 +1,6 @@
 -- The laws of the desk, as statements: the order of its own refusals, that a refusal changes nothing, and, point by
 -- point, what becomes of the interval. The theorem of each is in proofs/Laws, under the same name. Rests on Desk.
-use Rattle.std.specs.Prelude.{ℕ, ◌+◌, ◌≤◌, ◌<◌, ◌≡◌, ◌⊎◌, Bool, true, false, List, []}
+use Rattle.std.specs.Prelude.{ℕ, ◌+◌, ◌≤◌, ◌<◌, ◌≡◌, ◌⊎◌, true, false, List, []}
 use Rattle.types.specs.Limits.{LAST}
 use Rattle.types.specs.Values.{Val}
 use Rattle.types.specs.Replies.{Reply, ok, edit, locked, read, own, again, commit, nopoint, refusing, refused}
@@ -22,6 +22,8 @@ use Rattle.desk.specs.Replies.{Opening, opened, declined, told, emptied, After, 
 use Rattle.desk.specs.Desk.{ended, between, named, good_start, desk_open, desk_read, desk_write, desk_commit}
 use Rattle.desk.specs.Desk.{DeskCall, program}
 use Rattle.desk.specs.Desk as D
+use Rattle.desk.specs.declared.Setting.{Setting}
+use Rattle.desk.specs.declared.Setting.TheVariants.{Earliest, Latest}
 use Rattle.desk.specs.declared.Session.{Session}
 
 -- Intervals, point by point.
@@ -48,7 +50,7 @@ EndedIsEmpty = (s : Session) → EndedHasNone s
 pub record Same (s s' : Session) : Type 0 where
   pub handle : s'.handle ≡ s.handle
   pub width : s'.width ≡ s.width
-  pub setting : s'.latest ≡ s.latest
+  pub setting : s'.setting ≡ s.setting
 
 abbrev pub OnlyTheInterval : Type 0
 OnlyTheInterval = (c : DeskCall) (s : Session) (t : Store) → Same s (play (program c s) t).told.session
@@ -60,7 +62,7 @@ abbrev pub UnsoundSaysOne : Type 0
 UnsoundSaysOne = (c : DeskCall) (s : Session) → denied (program c s) ≡ says s (refusing 1 [])
 
 abbrev pub UnsoundOpensNone : Type 0
-UnsoundOpensNone = (t width : ℕ) (latest : Bool) → denied (desk_open t width latest) ≡ declined (refusing 1 [])
+UnsoundOpensNone = (t width : ℕ) (setting : Setting) → denied (desk_open t width setting) ≡ declined (refusing 1 [])
 
 -- an answer that leaves the store as it is
 abbrev pub unchanged : {A : Type 0} → A → Store → Played A
@@ -84,8 +86,8 @@ RefusalIsPassedOn = (c : DeskCall) (s : Session) (t : Store) (n : ℕ) (more : L
 
 -- "All memory stays the same", the session too
 abbrev pub OpenRefusalKeeps : Type 0
-OpenRefusalKeeps = (t width : ℕ) (latest : Bool) (w w' : List ℕ) (n : ℕ) (more : List ℕ)
-    → Layer (desk_open t width latest) w w' (declined (refusing n more)) → lent w' ≡ lent w
+OpenRefusalKeeps = (t width : ℕ) (setting : Setting) (w w' : List ℕ) (n : ℕ) (more : List ℕ)
+    → Layer (desk_open t width setting) w w' (declined (refusing n more)) → lent w' ≡ lent w
 
 abbrev pub ReadRefusalKeeps : Type 0
 ReadRefusalKeeps = (s s' : Session) (rec : ℕ) (w w' : List ℕ) (n : ℕ) (more : List ℕ)
@@ -125,24 +127,24 @@ pub record BadStart (begun : Outcome) (s : Store) (o : Played Opening) : Type 0 
   pub six : (h : ℕ) → begun.reply ≡ edit h → o ≡ unchanged (declined (refusing 6 [])) s
 
 abbrev pub BadStartOrder : Type 0
-BadStartOrder = (t width : ℕ) (latest : Bool) (s : Store) → good_start t width ≡ false
-    → BadStart (beginning s) s (play (desk_open t width latest) s)
+BadStartOrder = (t width : ℕ) (setting : Setting) (s : Store) → good_start t width ≡ false
+    → BadStart (beginning s) s (play (desk_open t width setting) s)
 
 -- a good one: what Begin does and replies; "A desk edit has a working interval t to t + width"
-pub record OpensAt (t wide : ℕ) (latest : Bool) (h : ℕ) (s : Session) : Type 0 where
+pub record OpensAt (t wide : ℕ) (chosen : Setting) (h : ℕ) (s : Session) : Type 0 where
   pub handle : s.handle.0 ≡ h
   pub interval : HasJust s (λ p. (t ≤ p) × (p ≤ t + wide))
   pub width : s.width ≡ wide
-  pub setting : s.latest ≡ latest
+  pub setting : s.setting ≡ chosen
 
-pub record GoodStart (t width : ℕ) (latest : Bool) (begun : Outcome) (o : Played Opening) : Type 0 where
+pub record GoodStart (t width : ℕ) (setting : Setting) (begun : Outcome) (o : Played Opening) : Type 0 where
   pub store : o.store ≡ begun.store
-  pub edit : (h : ℕ) → begun.reply ≡ edit h → (s : Session) × (o.told ≡ opened s) × OpensAt t width latest h s
+  pub edit : (h : ℕ) → begun.reply ≡ edit h → (s : Session) × (o.told ≡ opened s) × OpensAt t width setting h s
   pub refusal : (n : ℕ) (more : List ℕ) → begun.reply ≡ refusing n more → o.told ≡ declined (refusing n more)
 
 abbrev pub GoodStartOpens : Type 0
-GoodStartOpens = (t width : ℕ) (latest : Bool) (s : Store) → good_start t width ≡ true
-    → GoodStart t width latest (beginning s) (play (desk_open t width latest) s)
+GoodStartOpens = (t width : ℕ) (setting : Setting) (s : Store) → good_start t width ≡ true
+    → GoodStart t width setting (beginning s) (play (desk_open t width setting) s)
 
 -- Read.
 
@@ -202,8 +204,8 @@ WriteStores = (s : Session) (rec low high : ℕ) (v : Val) (t : Store) → ended
 -- "Commit names the earliest or the latest point of the interval left, by a setting"
 pub record CommitsAt (s : Session) (p : ℕ) : Type 0 where
   pub point : Has s p
-  pub earliest : s.latest ≡ false → (x : ℕ) → Has s x → p ≤ x
-  pub latest : s.latest ≡ true → (x : ℕ) → Has s x → x ≤ p
+  pub earliest : s.setting ≡ Earliest → (x : ℕ) → Has s x → p ≤ x
+  pub latest : s.setting ≡ Latest → (x : ℕ) → Has s x → x ≤ p
 
 abbrev pub CommitNames : Type 0
 CommitNames = (s : Session) (t : Store) (p : ℕ) → (play (desk_commit s) t).told.report ≡ told (commit p)

@@ -1,7 +1,7 @@
 -- Which calls of the store a call of the desk is, in a list of calls, and what they replied. Demand 3 and charts speak
 -- of that list (Serial of `layers`): what a desk is told is what the list has. The theorem of each law is in
 -- proofs/Made, under the same name. Rests on Desk.
-use Rattle.std.specs.Prelude.{ℕ, ◌≡◌, Bool, true, false, List, [], ◌∷◌}
+use Rattle.std.specs.Prelude.{ℕ, ◌≡◌, true, false, List, [], ◌∷◌}
 use Rattle.types.specs.Values.{Val}
 use Rattle.types.specs.Replies.{Reply}
 use Rattle.types.specs.Replies as R
@@ -14,6 +14,7 @@ use Rattle.types.specs.Values.{Value}
 use Rattle.layers.specs.Serial.{Layer}
 use Rattle.desk.specs.Replies.{Opening, opened, declined, Report, told, emptied, After}
 use Rattle.desk.specs.Desk.{ended, named, desk_open, DeskCall, read, write, commit, program}
+use Rattle.desk.specs.declared.Setting.{Setting}
 use Rattle.desk.specs.declared.Session.{Session}
 
 -- a call of a session that has not ended, by what the desk is told: the reply of its Read, of its Write or of its
@@ -50,5 +51,5 @@ pub data Begun : Opening → List Call → List Reply → Type 0 where
   none : {q : Reply} → Begun (declined q) [] []
 
 abbrev pub OpeningMade : Type 0
-OpeningMade = (t width : ℕ) (latest : Bool) (w w' : List ℕ) (o : Opening)
-    → (l : Layer (desk_open t width latest) w w' o) → Begun o l.calls l.replies
+OpeningMade = (t width : ℕ) (setting : Setting) (w w' : List ℕ) (o : Opening)
+    → (l : Layer (desk_open t width setting) w w' o) → Begun o l.calls l.replies

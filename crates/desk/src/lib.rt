@@ -9,11 +9,18 @@ ghost use Rattle.std.specs.Prelude.{◌≡◌, suc};
 ghost use Rattle.types.specs.Replies.{of_done, of_commit};
 ghost use Rattle.layers.specs.Programs.{slot, view};
 ghost use Rattle.layers.specs.Serial.{Layer};
-ghost use Rattle.desk.specs.Desk.{ended, closed, good_start, named, cut_to, ByLook, ended_reply, start_reply};
+ghost use Rattle.desk.specs.Desk.{ended, closed, good_start, named, cut_to, ByLook, GoesOn, ended_reply, start_reply};
 ghost use Rattle.desk.specs.Desk.{desk_open, desk_read, desk_write, desk_commit};
 ghost use Rattle.desk.specs.Replies.{of_open, of_read_step, of_write_step, of_commit_step, says, reports};
 
 use types::{Extent, Finish, Found, Handle, LAST, Pick, Point, Refusal};
+
+// Which end of the interval left a commit names.
+#[derive(Clone, Copy, PartialEq, Eq)]
+pub enum Setting {
+    Earliest,
+    Latest,
+}
 
 // A desk's session. It has ended if the interval is empty.
 #[derive(Clone, Copy)]
@@ -22,7 +29,7 @@ pub struct Session {
     pub low: Point,
     pub high: Point,
     pub width: u64,
-    pub latest: bool,
+    pub setting: Setting,
 }
 
 // The session after a call, and what the desk is told.
@@ -41,6 +48,7 @@ fn has_ended(s: Session) -> bool
 }
 
 // The session once its edit has ended.
+// Kept: C has a session as five numbers, which the header says have ended exactly if high is below low.
 fn closed(s: Session) -> Session
     ensures { result ≡ closed s }
 {
@@ -70,7 +78,10 @@ fn cut(s: Session, tr: Point, end: Point) -> Option<Session>
 fn named_point(s: Session) -> Point
     ensures { result ≡ named s }
 {
-    if s.latest { s.high } else { s.low }
+    match s.setting {
+        Setting::Earliest => s.low,
+        Setting::Latest => s.high,
+    }
 }
 
 // Whether a session can start at t. The sum t + width is not made: it may not fit in a word.
@@ -92,6 +103,16 @@ fn refuse_ended(words: &[u64]) -> Refusal
     }
 }
 
+// The refusal of an ended session.
+fn going(words: &[u64], s: Session) -> Result<(), Refusal>
+    ensures { GoesOn s words.now result }
+{
+    if has_ended(s) {
+        return Err(refuse_ended(words));
+    }
+    Ok(())
+}
+
 // What opening at a bad point is refused with: 1, 13 or 6.
 fn refuse_start(words: &[u64]) -> Refusal
     ensures { ByLook slot start_reply words.now result }
@@ -103,8 +124,8 @@ fn refuse_start(words: &[u64]) -> Refusal
 }
 
 // A new edit with the working interval t to t + width.
-pub fn open(words: &mut [u64], t: Point, width: u64, latest: bool) -> Result<Session, Refusal>
-    ensures { Layer (desk_open t.0 width latest) words.old words.new (of_open result) }
+pub fn open(words: &mut [u64], t: Point, width: u64, setting: Setting) -> Result<Session, Refusal>
+    ensures { Layer (desk_open t.0 width setting) words.old words.new (of_open result) }
 {
     if !good_start(t, width) {
         return Err(refuse_start(words));
@@ -115,7 +136,7 @@ pub fn open(words: &mut [u64], t: Point, width: u64, latest: bool) -> Result<Ses
         low: t,
         high: Point::from(u64::from(t) + width),
         width,
-        latest,
+        setting,
     })
 }
 
@@ -124,9 +145,7 @@ pub fn open(words: &mut [u64], t: Point, width: u64, latest: bool) -> Result<Ses
 pub fn read(words: &mut [u64], s: &mut Session, rec: u64) -> Result<Option<Found>, Refusal>
     ensures { Layer (desk_read s.old rec) words.old words.new (reports s.new result) }
 {
-    if has_ended(*s) {
-        return Err(refuse_ended(words));
-    }
+    going(words, *s)?;
     let found = store::read(words, s.handle, rec, s.high, Extent::Part)?;
     if let Found::Read(tr, end, _) = found {
         match cut(*s, tr, end) {
@@ -142,13 +161,12 @@ pub fn read(words: &mut [u64], s: &mut Session, rec: u64) -> Result<Option<Found
 }
 
 // A value for the record, pending until the commit. The interval shrinks to what was locked.
+// Kept: `read`, `write` and `commit` share `going` and `?`; what they ask of the store and make of it differs.
 pub fn write(words: &mut [u64], s: &mut Session, rec: u64, value: u64) -> Result<(), Refusal>
     ensures { Layer (desk_write s.old rec value) words.old words.new
         (says s.new (of_done result)) }
 {
-    if has_ended(*s) {
-        return Err(refuse_ended(words));
-    }
+    going(words, *s)?;
     let locked = store::lock(words, s.handle, rec, s.low, s.high, Extent::Part)?;
     s.low = locked.low;
     s.high = locked.high;
@@ -156,13 +174,12 @@ pub fn write(words: &mut [u64], s: &mut Session, rec: u64, value: u64) -> Result
 }
 
 // The edit is committed at an end of the interval left, and settled.
+// Kept: as `write`.
 pub fn commit(words: &mut [u64], s: &mut Session) -> Result<Option<Point>, Refusal>
     ensures { Layer (desk_commit s.old) words.old words.new
         (says s.new (of_commit result)) }
 {
-    if has_ended(*s) {
-        return Err(refuse_ended(words));
-    }
+    going(words, *s)?;
     let point = store::commit(
         words,
         s.handle,

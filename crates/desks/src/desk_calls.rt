@@ -2,8 +2,8 @@
 // of the store moved. `lending` lends the call its session. Rests on `desk` and, for the text of calls and replies, on
 // `answers`, `rendering` and `console`.
 use answers::answer;
-use console::print_line;
-use desk::Session;
+use console::Moved;
+use desk::{Session, Setting};
 use rendering::line_of_answer;
 use std::io;
 use types::{Granted, Handle, Point, Refusal};
@@ -21,14 +21,21 @@ pub struct Stage<'a, R, const N: usize> {
     pub words: [u64; N],
 }
 
+// Kept: its ends are two numbers, also such as are no points.
 // A session that no opening gave. Its width is never looked at.
-pub fn made(handle: u64, low: u64, high: u64, latest: bool) -> Session {
+pub fn made(handle: u64, low: u64, high: u64, setting: Setting) -> Session {
     Session {
         handle: Handle::from(handle),
         low: Point::from(low),
         high: Point::from(high),
         width: HIGHEST,
-        latest,
+        setting,
+    }
+}
+
+impl<'a, R, const N: usize> Stage<'a, R, N> {
+    pub fn new(rt: &'a R, words: [u64; N]) -> Self {
+        Stage { rt, words }
     }
 }
 
@@ -43,17 +50,17 @@ impl<R: Print, const N: usize> Stage<'_, R, N> {
 
     // A call of the store itself, or a Format.
     pub fn step(&mut self, line: &str) -> io::Result<()> {
-        print!(self.rt; "{line}: ")?;
-        print_line(self.rt, answer(&mut self.words, N, line.as_bytes()).line)?;
-        println!(self.rt)
+        let reply = answer(&mut self.words, N, line.as_bytes()).line;
+        println!(self.rt; "{line}: {reply}")
     }
 
     fn print_reply(&self, reply: Result<Granted, Refusal>) -> io::Result<()> {
-        print_line(self.rt, line_of_answer(reply))
+        print!(self.rt; "{}", line_of_answer(reply))
     }
 
     // The interval left, which is empty once the session has ended, and what no call may change: nothing is printed if
     // it stayed.
+    // Kept: it tells two sessions apart, of which no one value is printed.
     fn print_session(&self, s: Session, after: Session) -> io::Result<()> {
         let low = u64::from(after.low);
         let high = u64::from(after.high);
@@ -67,77 +74,92 @@ impl<R: Print, const N: usize> Stage<'_, R, N> {
         if s.width != after.width {
             print!(self.rt; "; another width")?;
         }
-        if s.latest != after.latest {
+        if s.setting != after.setting {
             print!(self.rt; "; another setting")?;
         }
         Ok(())
     }
 
     // Whether a word moved, and the end of the line; the empty slice has none that could.
+    // Kept: what is said of the words is the Display of `Moved`; this ends a line.
     fn print_moved(&self, before: &[u64; N]) -> io::Result<()> {
         if N > 0 {
-            let moved = if console::moved(before, &self.words) {
-                "words moved"
-            } else {
-                "no word moved"
-            };
-            print!(self.rt; "; {moved}")?;
+            let after = &self.words;
+            print!(self.rt; "; {}", Moved { before, after })?;
         }
         println!(self.rt)
+    }
+
+    // What a call with a session told, which is None where a read emptied the interval, and the session after it.
+    fn print_step(
+        &self,
+        before: &[u64; N],
+        s: Session,
+        after: Session,
+        reply: Result<Option<Granted>, Refusal>,
+    ) -> io::Result<Session> {
+        match reply {
+            Ok(Some(given)) => self.print_reply(Ok(given))?,
+            Ok(None) => print!(self.rt; "emptied")?,
+            Err(no) => self.print_reply(Err(no))?,
+        }
+        self.print_session(s, after)?;
+        self.print_moved(before)?;
+        Ok(after)
     }
 
     // Each call of the desk answers the session after it.
 
     // The session is that asked for; an ended one of no edit if there is none.
-    pub fn open(&mut self, t: u64, width: u64, latest: bool) -> io::Result<Session> {
-        let pick = if latest { "latest" } else { "earliest" };
+    pub fn open(&mut self, t: u64, width: u64, setting: Setting) -> io::Result<Session> {
+        let pick = match setting {
+            Setting::Earliest => "earliest",
+            Setting::Latest => "latest",
+        };
         print!(self.rt; "open {t} {width} {pick}: ")?;
         let before = self.words;
-        let reply = desk::open(&mut self.words, Point::from(t), width, latest);
+        let reply = desk::open(&mut self.words, Point::from(t), width, setting);
         match reply {
             Ok(s) => {
                 self.print_reply(Ok(Granted::Edit(s.handle)))?;
-                let asked = Session { width, latest, ..s };
+                let asked = Session {
+                    width,
+                    setting,
+                    ..s
+                };
                 self.print_session(asked, s)?;
             }
             Err(no) => self.print_reply(Err(no))?,
         }
         self.print_moved(&before)?;
-        Ok(reply.unwrap_or(made(0, 1, 0, false)))
+        Ok(reply.unwrap_or(made(0, 1, 0, Setting::Earliest)))
     }
 
+    // Kept: `read`, `write` and `commit` name a step of a scene each; what they share is `print_step`.
     pub fn read(&mut self, s: Session, rec: u64) -> io::Result<Session> {
         print!(self.rt; "{} read {rec}: ", u64::from(s.handle))?;
         let before = self.words;
         let step = crate::lending::read(&mut self.words, s, rec);
-        match step.reply {
-            Ok(Some(found)) => self.print_reply(Ok(Granted::Read(found)))?,
-            Ok(None) => print!(self.rt; "emptied")?,
-            Err(no) => self.print_reply(Err(no))?,
-        }
-        self.print_session(s, step.session)?;
-        self.print_moved(&before)?;
-        Ok(step.session)
+        let reply = step.reply.map(|found| found.map(Granted::Read));
+        self.print_step(&before, s, step.session, reply)
     }
 
+    // Kept: the same.
     pub fn write(&mut self, s: Session, rec: u64, value: u64) -> io::Result<Session> {
         print!(self.rt; "{} write {rec} {value}: ", u64::from(s.handle))?;
         let before = self.words;
         let step = crate::lending::write(&mut self.words, s, rec, value);
-        self.print_reply(step.reply.map(|_| Granted::Done))?;
-        self.print_session(s, step.session)?;
-        self.print_moved(&before)?;
-        Ok(step.session)
+        let reply = step.reply.map(|()| Some(Granted::Done));
+        self.print_step(&before, s, step.session, reply)
     }
 
+    // Kept: the same.
     pub fn commit(&mut self, s: Session) -> io::Result<Session> {
         print!(self.rt; "{} commit: ", u64::from(s.handle))?;
         let before = self.words;
         let step = crate::lending::commit(&mut self.words, s);
-        self.print_reply(step.reply.map(Granted::Commit))?;
-        self.print_session(s, step.session)?;
-        self.print_moved(&before)?;
-        Ok(step.session)
+        let reply = step.reply.map(|point| Some(Granted::Commit(point)));
+        self.print_step(&before, s, step.session, reply)
     }
 
     // Every call with a session that each refuses, and so leaves as it was.
@@ -150,10 +172,7 @@ impl<R: Print, const N: usize> Stage<'_, R, N> {
 
     // The same store again, for a call that shall not change this one.
     pub fn copy(&self) -> Self {
-        Stage {
-            rt: self.rt,
-            words: self.words,
-        }
+        Stage::new(self.rt, self.words)
     }
 
     // Each call on a copy of the words of its own.
@@ -165,9 +184,9 @@ impl<R: Print, const N: usize> Stage<'_, R, N> {
     }
 
     pub fn try_opens(&self) -> io::Result<()> {
-        self.copy().open(4, 4, false)?;
-        self.copy().open(0, 4, false)?;
-        self.copy().open(4, HIGHEST, true)?;
+        self.copy().open(4, 4, Setting::Earliest)?;
+        self.copy().open(0, 4, Setting::Earliest)?;
+        self.copy().open(4, HIGHEST, Setting::Latest)?;
         Ok(())
     }
 }

@@ -7,6 +7,7 @@ ghost use Rattle.desk.specs.Replies.{of_read_step, of_write_step, of_commit_step
 use desk::{Session, Step};
 use types::{Found, Point, Refusal};
 
+// Kept: it and the next two are `desk`'s functions by value once more, so that an edit can break each contract here.
 pub fn read(words: &mut [u64], s: Session, rec: u64) -> Step<Result<Option<Found>, Refusal>>
     ensures { Layer (desk_read s rec) words.old words.new (of_read_step result) }
 {
@@ -15,6 +16,7 @@ pub fn read(words: &mut [u64], s: Session, rec: u64) -> Step<Result<Option<Found
     Step { session: t, reply }
 }
 
+// Kept: the same.
 pub fn write(words: &mut [u64], s: Session, rec: u64, value: u64) -> Step<Result<(), Refusal>>
     ensures { Layer (desk_write s rec value) words.old words.new (of_write_step result) }
 {
@@ -23,6 +25,7 @@ pub fn write(words: &mut [u64], s: Session, rec: u64, value: u64) -> Step<Result
     Step { session: t, reply }
 }
 
+// Kept: the same.
 pub fn commit(words: &mut [u64], s: Session) -> Step<Result<Option<Point>, Refusal>>
     ensures { Layer (desk_commit s) words.old words.new (of_commit_step result) }
 {

@@ -7,6 +7,7 @@ mod desk_calls;
 mod lending;
 
 use desk::Session;
+use desk::Setting::{Earliest, Latest};
 use desk_calls::{HIGHEST, Stage, WORDS, made};
 use std::io;
 use types::LAST;
@@ -15,23 +16,23 @@ use types::LAST;
 
 // Refused with 6 while a slot is free. A begin made and taken back would show in the next handle.
 fn open_badly(d: &mut Stage<impl Print, WORDS>) -> io::Result<()> {
-    d.open(0, 4, false)?;
-    d.open(LAST + 1, 0, false)?;
-    d.open(HIGHEST, 0, false)?;
-    d.open(LAST, 1, false)?;
-    d.open(1, LAST, false)?;
-    d.open(4, HIGHEST, false)?;
-    d.open(HIGHEST, HIGHEST, false)?;
+    d.open(0, 4, Earliest)?;
+    d.open(LAST + 1, 0, Earliest)?;
+    d.open(HIGHEST, 0, Earliest)?;
+    d.open(LAST, 1, Earliest)?;
+    d.open(1, LAST, Earliest)?;
+    d.open(4, HIGHEST, Earliest)?;
+    d.open(HIGHEST, HIGHEST, Earliest)?;
     Ok(())
 }
 
 fn opening(d: &mut Stage<impl Print, WORDS>) -> io::Result<()> {
     d.title("opening: 6 before a begin is made, 13 before 6")?;
     d.step("F 2 2 4 8 8")?;
-    let a = d.open(1, LAST - 1, true)?;
+    let a = d.open(1, LAST - 1, Latest)?;
     open_badly(d)?;
-    let b = d.open(LAST, 0, false)?;
-    d.open(4, 4, false)?;
+    let b = d.open(LAST, 0, Earliest)?;
+    d.open(4, 4, Earliest)?;
     open_badly(d)?;
     d.commit(a)?;
     d.commit(b)?;
@@ -43,7 +44,7 @@ fn opening(d: &mut Stage<impl Print, WORDS>) -> io::Result<()> {
 fn working(d: &mut Stage<impl Print, WORDS>) -> io::Result<()> {
     d.title("a session that reads, writes and commits at its earliest point")?;
     d.step("F 2 2 4 8 8")?;
-    let s = d.open(4, 4, false)?;
+    let s = d.open(4, 4, Earliest)?;
     let s = d.read(s, 0)?;
     let s = d.read(s, 0)?;
     let s = d.write(s, 0, 501)?;
@@ -58,15 +59,15 @@ fn working(d: &mut Stage<impl Print, WORDS>) -> io::Result<()> {
 // A version at 4 of record 0 and a lock of another desk on record 1 leave less than is asked.
 fn shrinking(d: &mut Stage<impl Print, WORDS>) -> io::Result<()> {
     d.title("the interval shrinks from below and from above, by reads")?;
-    let a = d.open(2, 8, true)?;
+    let a = d.open(2, 8, Latest)?;
     let a = d.read(a, 0)?;
-    let b = d.open(6, 8, false)?;
+    let b = d.open(6, 8, Earliest)?;
     let b = d.write(b, 1, 7)?;
     let a = d.read(a, 1)?;
     d.commit(a)?;
     d.title("and by a write; a commit at the latest point")?;
     d.step("L 66 1 18 30 A")?;
-    let c = d.open(12, 10, true)?;
+    let c = d.open(12, 10, Latest)?;
     let c = d.write(c, 1, 8)?;
     d.commit(c)?;
     d.commit(b)?;
@@ -77,13 +78,13 @@ fn shrinking(d: &mut Stage<impl Print, WORDS>) -> io::Result<()> {
 fn empty_at_version(d: &mut Stage<impl Print, WORDS>) -> io::Result<()> {
     d.title("a read that empties the interval: a version at 4")?;
     d.step("F 2 2 4 8 8")?;
-    let a = d.open(4, 0, false)?;
+    let a = d.open(4, 0, Earliest)?;
     let a = d.write(a, 0, 501)?;
     d.commit(a)?;
-    let b = d.open(3, 1, true)?;
+    let b = d.open(3, 1, Latest)?;
     let b = d.read(b, 0)?;
     d.commit(b)?;
-    let c = d.open(4, 0, false)?;
+    let c = d.open(4, 0, Earliest)?;
     let c = d.read(c, 0)?;
     d.try_three(c)?;
     d.step("A 193 S")
@@ -92,14 +93,14 @@ fn empty_at_version(d: &mut Stage<impl Print, WORDS>) -> io::Result<()> {
 // The read stops before the other desk's lock, which lies below the interval. The aborted edit's write and lock go.
 fn empty_at_lock(d: &mut Stage<impl Print, WORDS>) -> io::Result<()> {
     d.title("the same: a lock of another desk from 6 on")?;
-    let a = d.open(6, 3, false)?;
+    let a = d.open(6, 3, Earliest)?;
     let a = d.write(a, 1, 7)?;
-    let b = d.open(10, 4, false)?;
+    let b = d.open(10, 4, Earliest)?;
     let b = d.write(b, 0, 8)?;
     let b = d.read(b, 1)?;
     d.commit(b)?;
     d.step("W 66 0 9")?;
-    let c = d.open(10, 4, false)?;
+    let c = d.open(10, 4, Earliest)?;
     let c = d.write(c, 0, 9)?;
     d.commit(c)?;
     d.commit(a)?;
@@ -112,7 +113,7 @@ fn empty_at_lock(d: &mut Stage<impl Print, WORDS>) -> io::Result<()> {
 fn refused_edit(d: &mut Stage<impl Print, WORDS>) -> io::Result<()> {
     d.title("no such record; the edit is ended by another call, then gone: 5, 3, 2")?;
     d.step("F 2 2 4 8 8")?;
-    let s = d.open(4, 4, false)?;
+    let s = d.open(4, 4, Earliest)?;
     d.read(s, 2)?;
     d.write(s, 2, 7)?;
     d.step("A 65 K")?;
@@ -120,7 +121,7 @@ fn refused_edit(d: &mut Stage<impl Print, WORDS>) -> io::Result<()> {
     d.step("S 65")?;
     d.try_three(s)?;
     d.title("the same with a commit")?;
-    let t = d.open(4, 4, false)?;
+    let t = d.open(4, 4, Earliest)?;
     d.step("C 129 4 K")?;
     d.try_three(t)?;
     d.step("S 129")?;
@@ -130,9 +131,9 @@ fn refused_edit(d: &mut Stage<impl Print, WORDS>) -> io::Result<()> {
 fn refused_held(d: &mut Stage<impl Print, WORDS>) -> io::Result<()> {
     d.title("held: 8")?;
     d.step("F 2 2 4 8 8")?;
-    let a = d.open(1, 0, false)?;
+    let a = d.open(1, 0, Earliest)?;
     let a = d.write(a, 0, 501)?;
-    let b = d.open(1, 3, true)?;
+    let b = d.open(1, 3, Latest)?;
     let b = d.read(b, 0)?;
     let b = d.read(b, 1)?;
     d.write(a, 1, 7)?;
@@ -146,7 +147,7 @@ fn refused_held(d: &mut Stage<impl Print, WORDS>) -> io::Result<()> {
 // the read is refused and the interval stays; above, at 4, it was granted and emptied the interval.
 fn refused_frozen(d: &mut Stage<impl Print, WORDS>) -> io::Result<()> {
     d.title("frozen: 9")?;
-    let s = d.open(1, 0, false)?;
+    let s = d.open(1, 0, Earliest)?;
     let s = d.read(s, 0)?;
     let s = d.write(s, 0, 7)?;
     let s = d.write(s, 1, 7)?;
@@ -157,11 +158,11 @@ fn refused_frozen(d: &mut Stage<impl Print, WORDS>) -> io::Result<()> {
 fn refused_floor(d: &mut Stage<impl Print, WORDS>) -> io::Result<()> {
     d.title("at or below the floor: 7")?;
     d.step("F 2 2 4 8 8")?;
-    let a = d.open(9, 0, false)?;
+    let a = d.open(9, 0, Earliest)?;
     let a = d.write(a, 0, 501)?;
     d.commit(a)?;
-    let b = d.open(4, 4, false)?;
-    let c = d.open(4, 8, false)?;
+    let b = d.open(4, 4, Earliest)?;
+    let c = d.open(4, 8, Earliest)?;
     d.step("P 0 9")?;
     let b = d.read(b, 0)?;
     let b = d.write(b, 0, 7)?;
@@ -179,7 +180,7 @@ fn refused_access(d: &mut Stage<impl Print, WORDS>) -> io::Result<()> {
         "no access row: 10; a write keeps the lock that it was granted and the shrunken interval",
     )?;
     d.step("F 2 2 4 15 1")?;
-    let s = d.open(4, 4, true)?;
+    let s = d.open(4, 4, Latest)?;
     let s = d.read(s, 0)?;
     let s = d.read(s, 1)?;
     d.step("B")?;
@@ -195,7 +196,7 @@ fn refused_access(d: &mut Stage<impl Print, WORDS>) -> io::Result<()> {
 fn refused_lock(d: &mut Stage<impl Print, WORDS>) -> io::Result<()> {
     d.title("no lock row: 11")?;
     d.step("F 2 2 4 1 15")?;
-    let s = d.open(4, 4, false)?;
+    let s = d.open(4, 4, Earliest)?;
     let s = d.read(s, 0)?;
     let s = d.read(s, 1)?;
     let s = d.write(s, 0, 7)?;
@@ -209,13 +210,13 @@ fn refused_lock(d: &mut Stage<impl Print, WORDS>) -> io::Result<()> {
 fn refused_version(d: &mut Stage<impl Print, WORDS>) -> io::Result<()> {
     d.title("no version row: 12, and after a purge the commit")?;
     d.step("F 2 4 2 8 8")?;
-    let a = d.open(2, 0, false)?;
+    let a = d.open(2, 0, Earliest)?;
     let a = d.write(a, 0, 501)?;
     d.commit(a)?;
-    let b = d.open(3, 0, false)?;
+    let b = d.open(3, 0, Earliest)?;
     let b = d.write(b, 0, 502)?;
     d.commit(b)?;
-    let c = d.open(4, 4, true)?;
+    let c = d.open(4, 4, Latest)?;
     let c = d.write(c, 0, 503)?;
     let c = d.commit(c)?;
     d.step("P 0 3")?;
@@ -227,14 +228,14 @@ fn refused_version(d: &mut Stage<impl Print, WORDS>) -> io::Result<()> {
 fn refused_point(d: &mut Stage<impl Print, WORDS>) -> io::Result<()> {
     d.title("the point is not in the common set: 14")?;
     d.step("F 2 2 4 8 8")?;
-    let a = d.open(4, 4, false)?;
+    let a = d.open(4, 4, Earliest)?;
     d.step("R 65 0 3 A")?;
     let a = d.commit(a)?;
     let a = d.read(a, 0)?;
     d.step("L 65 0 4 8 A")?;
     d.commit(a)?;
     d.title("the common set is empty: nopoint")?;
-    let b = d.open(4, 4, true)?;
+    let b = d.open(4, 4, Latest)?;
     d.step("W 129 1 7")?;
     let b = d.commit(b)?;
     d.try_three(b)?;
@@ -257,10 +258,10 @@ fn made_ended(d: &Stage<impl Print, WORDS>) -> io::Result<()> {
     try_sessions(
         d,
         &[
-            made(65, 9, 4, false),
-            made(65, HIGHEST, LAST, true),
-            made(0, 1, 0, false),
-            made(HIGHEST, HIGHEST, 0, true),
+            made(65, 9, 4, Earliest),
+            made(65, HIGHEST, LAST, Latest),
+            made(0, 1, 0, Earliest),
+            made(HIGHEST, HIGHEST, 0, Latest),
         ],
     )
 }
@@ -269,9 +270,9 @@ fn made_ended(d: &Stage<impl Print, WORDS>) -> io::Result<()> {
 // other end.
 fn made_low(d: &Stage<impl Print, WORDS>) -> io::Result<()> {
     d.title("low 0, the earliest point named, then the latest")?;
-    try_sessions(d, &[made(65, 0, 8, false), made(65, 0, 8, true)])?;
+    try_sessions(d, &[made(65, 0, 8, Earliest), made(65, 0, 8, Latest)])?;
     d.title("high 0")?;
-    try_sessions(d, &[made(65, 0, 0, false), made(65, 0, 0, true)])
+    try_sessions(d, &[made(65, 0, 0, Earliest), made(65, 0, 0, Latest)])
 }
 
 fn made_high(d: &Stage<impl Print, WORDS>) -> io::Result<()> {
@@ -279,10 +280,10 @@ fn made_high(d: &Stage<impl Print, WORDS>) -> io::Result<()> {
     try_sessions(
         d,
         &[
-            made(65, 4, LAST + 1, false),
-            made(65, 4, LAST + 1, true),
-            made(65, LAST + 1, HIGHEST, false),
-            made(65, 0, HIGHEST, true),
+            made(65, 4, LAST + 1, Earliest),
+            made(65, 4, LAST + 1, Latest),
+            made(65, LAST + 1, HIGHEST, Earliest),
+            made(65, 0, HIGHEST, Latest),
         ],
     )
 }
@@ -293,13 +294,13 @@ fn made_handle(d: &Stage<impl Print, WORDS>) -> io::Result<()> {
     try_sessions(
         d,
         &[
-            made(0, 4, 8, false),
-            made(66, 4, 8, false),
-            made(67, 4, 8, false),
-            made(1, 4, 8, false),
-            made(129, 4, 8, false),
-            made(HIGHEST, 4, 8, false),
-            made(66, 0, HIGHEST, false),
+            made(0, 4, 8, Earliest),
+            made(66, 4, 8, Earliest),
+            made(67, 4, 8, Earliest),
+            made(1, 4, 8, Earliest),
+            made(129, 4, 8, Earliest),
+            made(HIGHEST, 4, 8, Earliest),
+            made(66, 0, HIGHEST, Earliest),
         ],
     )
 }
@@ -307,7 +308,7 @@ fn made_handle(d: &Stage<impl Print, WORDS>) -> io::Result<()> {
 // The width is that of all sessions made here; the interval and the handle are good.
 fn made_width(d: &Stage<impl Print, WORDS>) -> io::Result<()> {
     d.title("a width that was never asked for")?;
-    try_sessions(d, &[made(65, 4, 8, false), made(65, 4, 8, true)])
+    try_sessions(d, &[made(65, 4, 8, Earliest), made(65, 4, 8, Latest)])
 }
 
 fn hand_made(d: &mut Stage<impl Print, WORDS>) -> io::Result<()> {
@@ -326,7 +327,7 @@ fn hand_made(d: &mut Stage<impl Print, WORDS>) -> io::Result<()> {
 fn share(d: &mut Stage<impl Print, WORDS>) -> io::Result<()> {
     d.title("two sessions with one handle; the first commits")?;
     d.step("F 2 2 4 8 8")?;
-    let a = d.open(4, 4, true)?;
+    let a = d.open(4, 4, Latest)?;
     d.step("B")?;
     d.step("L 66 1 7 9 A")?;
     let b = a;
@@ -360,8 +361,8 @@ fn share_after(d: &mut Stage<impl Print, WORDS>, a: Session, b: Session) -> io::
 // The first has ended and its edit has not.
 fn share_ended(d: &mut Stage<impl Print, WORDS>) -> io::Result<()> {
     d.title("two sessions with one handle; the first has ended, the second goes on")?;
-    let b = d.open(4, 4, false)?;
-    let a = made(129, 1, 0, false);
+    let b = d.open(4, 4, Earliest)?;
+    let a = made(129, 1, 0, Earliest);
     d.say("first: ")?;
     d.read(a, 0)?;
     d.say("second: ")?;
@@ -379,13 +380,13 @@ fn share_ended(d: &mut Stage<impl Print, WORDS>) -> io::Result<()> {
 fn try_all<const N: usize>(d: &Stage<impl Print, N>, s: Session) -> io::Result<()> {
     d.try_opens()?;
     d.try_each(s)?;
-    d.try_each(made(65, 1, 0, false))
+    d.try_each(made(65, 1, 0, Earliest))
 }
 
 fn unsound(d: &mut Stage<impl Print, WORDS>) -> io::Result<()> {
     d.title("the sound store, a slot free, then none")?;
     d.step("F 2 2 4 8 8")?;
-    let s = d.open(4, 4, false)?;
+    let s = d.open(4, 4, Earliest)?;
     let mut free = d.copy();
     try_all(&free, s)?;
     d.step("B")?;
@@ -396,10 +397,7 @@ fn unsound(d: &mut Stage<impl Print, WORDS>) -> io::Result<()> {
     d.words[0] = 5000;
     d.try_opens()?;
     d.title("the empty slice: 1")?;
-    let empty = Stage {
-        rt: d.rt,
-        words: [0u64; 0],
-    };
+    let empty = Stage::new(d.rt, [0u64; 0]);
     try_all(&empty, s)
 }
 
@@ -423,10 +421,7 @@ fn refusing(d: &mut Stage<impl Print, WORDS>) -> io::Result<()> {
 }
 
 fn main(rt: HostRuntime) -> io::Result<()> {
-    let mut d = Stage {
-        rt: &rt,
-        words: [0u64; WORDS],
-    };
+    let mut d = Stage::new(&rt, [0u64; WORDS]);
     granting(&mut d)?;
     refusing(&mut d)?;
     hand_made(&mut d)?;

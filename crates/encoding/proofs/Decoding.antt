@@ -1,11 +1,14 @@
--- A kind that no other call has is View. Rests on Encoding.
-use Prim.Native.Nat.{ℕ, zero, suc, ◌≤◌}
+-- A kind that no other call has is View; the call of a row is that of its words. Rests on Encoding and Rows.
+use Prim.Native.Nat.{ℕ, zero, suc, ◌≤◌, ◌<◌}
 use native.Mathlib.Omega.{arith}
-use mathlib.Core.Path.{◌≡◌, sym, ap, ◌∙◌}
-use lib.ListN.{get_or-eq_default}
+use mathlib.Core.Path.{◌≡◌, refl, sym, ap, ◌∙◌}
+use mathlib.Core.List.{List, []}
+use lib.ListN.{get_or, get_or-eq_default}
+use Rattle.std.specs.Simd.{first_chunks}
 use Rattle.types.specs.declared.Point.{Point}
 use Rattle.types.specs.declared.Call.TheVariants.{View}
-use Rattle.encoding.specs.Encoding.{point_of, kinds, call_of}
+use Rattle.encoding.specs.Encoding.{CALL_WORDS, point_of, kinds, call_of, call_at}
+use Rattle.encoding.proofs.Rows.{chunk_at, chunk_first}
 
 -- none of the kinds below n
 abbrev NoneBelow : ℕ → ℕ → Type 0
@@ -23,3 +26,19 @@ other_kind kind first second third fourth fifth r e =
     ap (λ k. View first (point_of k)) e
     ∙ sym
     (get_or-eq_default (kinds first second third fourth fifth) (View first (point_of second)) (above 10 kind r))
+
+pub call_of_row : (xs : List ℕ) (n i : ℕ) → i < n
+    → (let row = get_or (first_chunks CALL_WORDS n xs) i [] in
+    call_of (get_or row 0 0) (get_or row 1 0) (get_or row 2 0) (get_or row 3 0) (get_or row 4 0) (get_or row 5 0))
+    ≡ call_at xs i
+unfolding call_at
+call_of_row xs n i h =
+    let at = λ (k : ℕ) (l : k < CALL_WORDS). chunk_at CALL_WORDS n i k xs h l in
+    rw (
+      chunk_first CALL_WORDS n i xs h (omega arith),
+      at 1 (omega arith),
+      at 2 (omega arith),
+      at 3 (omega arith),
+      at 4 (omega arith),
+      at 5 (omega arith),
+    ) refl

@@ -1,3 +1,3 @@
--- Laws of the rows of replies and of the kinds of calls. Rests on specs/Encoding.
+-- Laws of the rows of replies and of calls, and of the kinds of calls. Rests on specs/Encoding.
 pub mod Rows
 pub mod Decoding

@@ -1,16 +1,34 @@
--- Rows of replies: a row copied into its place, and a row put after the rows before it. Rests on Encoding.
-use Prim.Native.Nat.{ℕ, zero, suc, ◌+◌, ◌-◌, ◌*◌, ◌≤◌}
+-- Rows: a row read as a chunk, a row copied into its place, and a row put after the rows before it. Rests on Encoding.
+use Prim.Native.Nat.{ℕ, zero, suc, ◌+◌, ◌-◌, ◌*◌, ◌≤◌, ◌<◌}
 use mathlib.Core.Path.{◌≡◌, refl, sym, ap, ◌∙◌}
 use mathlib.Core.List.{List, [], ◌∷◌, ◌++◌, append-nil, append_assoc}
 use native.Mathlib.Omega.{arith}
 use native.Mathlib.Numerals.{add-one}
 use native.Mathlib.Nat.{zero-mul, suc-mul}
-use lib.ListN.{length, take, drop, length-append, length-drop}
+use lib.ListN.{length, take, drop, get_or, length-append, length-drop}
 use lib.Seq.{sets, sets-eq, length-take-le, length-sets, take_at, drop-append-add, drop-drop}
 use borrow.Rule.Slice.PartMut.{put_mid}
+use Rattle.std.specs.Simd.{first_chunks}
+use Rattle.std.proofs.lemmas.List.{get_or-take, get_or-drop}
 use Rattle.types.specs.Replies.{Reply}
 use Rattle.codes.specs.Codes.{numbers_of}
 use Rattle.encoding.specs.Encoding.{padded, row_of, rows_of}
+
+-- word k of row i, and its first word
+pub chunk_at : (w n i k : ℕ) (xs : List ℕ) → i < n → k < w
+    → get_or (get_or (first_chunks w n xs) i []) k 0 ≡ get_or xs (i * w + k) 0
+chunk_at w zero i k xs h l = absurd (omega arith)
+chunk_at w (suc n) zero k xs h l = get_or-take w xs k 0 l ∙ ap (λ (j : ℕ). get_or xs j 0) (omega (arith, zero-mul w))
+chunk_at w (suc n) (suc i) k xs h l =
+    chunk_at w n i k (drop w xs) (omega arith) l ∙ get_or-drop w xs (i * w + k) 0
+    ∙ ap (λ (j : ℕ). get_or xs j 0) (omega (arith, suc-mul i w))
+
+pub chunk_first : (w n i : ℕ) (xs : List ℕ) → i < n → 0 < w
+    → get_or (get_or (first_chunks w n xs) i []) 0 0 ≡ get_or xs (i * w) 0
+chunk_first w n i xs h l = chunk_at w n i 0 xs h l ∙ ap (λ (j : ℕ). get_or xs j 0) (add-zero (i * w))
+  where
+    add-zero : (n : ℕ) → n + 0 ≡ n
+    add-zero n = omega arith
 
 -- a row copied into the place of as many words
 pub put_stored : (at k : ℕ) (area row : List ℕ) {ys : List ℕ} → ys ≡ row → length ys ≡ length (take k (drop at area))

@@ -27,6 +27,7 @@ fn call_of(kind: u64, first: u64, second: u64, third: u64, fourth: u64, fifth: u
     ensures { result ≡ call_of kind first second third fourth fifth }
 {
     match kind {
+        // Kept: as above, the C header numbers the kinds.
         0 => Call::Begin,
         1 => Call::Write(Handle::from(first), second, third),
         2 => Call::Lock(
@@ -57,22 +58,17 @@ fn call_of(kind: u64, first: u64, second: u64, third: u64, fourth: u64, fifth: u
 }
 
 // Call i of a list.
+// Kept: a row is taken by `as_chunks` and taken apart by a pattern; `[i]` only names the row.
 pub fn call_at(list: &[u64], i: usize) -> Call
     requires { (i + 1) * CALL_WORDS ≤ length list.now }
     ensures { result ≡ call_at list.now i }
 {
-    let at = i * CALL_WORDS;
-    call_of(
-        list[at],
-        list[at + 1],
-        list[at + 2],
-        list[at + 3],
-        list[at + 4],
-        list[at + 5],
-    )
+    let [kind, first, second, third, fourth, fifth] = list.as_chunks::<CALL_WORDS>().0[i];
+    call_of(kind, first, second, third, fourth, fifth)
 }
 
 // The row of an answer.
+// Kept: a match on the answer's cases, as `rendering::line_of_answer`; no arm here makes what an arm there makes.
 pub fn row_of(a: Result<Granted, Refusal>) -> [u64; REPLY_WORDS]
     ensures { result ≡ row_of NUMBERS (of_answer a) }
 {
@@ -93,6 +89,7 @@ pub fn row_of(a: Result<Granted, Refusal>) -> [u64; REPLY_WORDS]
 }
 
 // Puts a row of any width at a place.
+// Kept: it is the library's copy; the name says once what the range and the row are.
 pub fn put_row<const N: usize>(area: &mut [u64], at: usize, row: [u64; N])
     requires { at + N ≤ length area.old }
     ensures { area.new ≡ sets area.old at row.entry }

@@ -17,6 +17,7 @@ use Rattle.meaning.proofs.Tests.{read_out}
 use Rattle.meaning.proofs.LocksLeft.{mine, mine_read, some_write, some_read, parts}
 use Rattle.meaning.proofs.Settled.{write_own, read_own}
 use Rattle.endings.specs.Steps.{mark, rows_left}
+use Rattle.meaning.specs.Store.{has_written}
 
 mark_few : (b : Bool) (n : ℕ) → (b ≡ true → 1 ≤ n) → mark b ≤ n
 mark_few true n h = h refl
@@ -37,7 +38,7 @@ module _ (s : Store) (k : ℕ) (good : SoundStore s) (st : (edit_at s k).state �
       omega (
         arith,
         parts k e r ls,
-        mark_few a.written (length (keep is_write (mine k e r ls)))
+        mark_few (has_written a) (length (keep is_write (mine k e r ls)))
             (λ q. some_write k e r ls (write_own s k good r st q)),
         mark_few (has_read a) (length (mine_read k e r ls))
             (λ q. let t = read_out a q in some_read k e r ls (read_own s k good r t.0 t.1)),

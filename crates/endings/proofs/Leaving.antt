@@ -28,6 +28,7 @@ use Rattle.meaning.proofs.StoresMore.{locks_set}
 use Rattle.endings.specs.Steps.{Existing, changed, along, left_rec, freed_rec, freed_all, mark, rows_left, LeaveNeed}
 use Rattle.endings.proofs.Folds.{along_all, existing_rest}
 use Rattle.endings.proofs.Giving.{rows_given}
+use Rattle.meaning.specs.Store.{has_written}
 
 idle : (t r : ℕ) (x : Rec) → left_rec t (no_access r) x ≡ x
 unfolding left_rec leave_settled
@@ -110,7 +111,7 @@ left_used a s t here =
     omega (
       arith,
       locks_set s a.rec (left_rec t a x) here,
-      leave_length a.written WRITE t t ls,
+      leave_length (has_written a) WRITE t t ls,
       leave_length (has_read a) READ a.from t x.locks,
     )
 
@@ -119,7 +120,7 @@ abbrev one_more : Bool → List Lock → List Lock
 one_more b ls = cond b (record { low = 0; high = 0; mode = 0; owner = 0 } ∷ ls) ls
 
 abbrev counted_rec : Access → Rec → Rec
-counted_rec a x = with_locks x (one_more a.written (one_more (has_read a) x.locks))
+counted_rec a x = with_locks x (one_more (has_written a) (one_more (has_read a) x.locks))
 
 counted_idle : (r : ℕ) (x : Rec) → counted_rec (no_access r) x ≡ x
 counted_idle r x = refl
@@ -132,7 +133,7 @@ counted_length : (a : Access) (x : Rec) → length (counted_rec a x).locks ≡ r
 counted_length a x =
     omega (
       arith,
-      more_length a.written (one_more (has_read a) x.locks),
+      more_length (has_written a) (one_more (has_read a) x.locks),
       more_length (has_read a) x.locks,
     )
 

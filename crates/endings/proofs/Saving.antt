@@ -28,6 +28,7 @@ use Rattle.calls.proofs.Acting.{records_counted}
 use Rattle.endings.specs.Steps.{changed, along, saved_rec, wrote_of, SaveNeed}
 use Rattle.endings.proofs.Folds.{rec_again, along_all, existing_rest}
 use Rattle.endings.proofs.Besides.{version_rows_lem}
+use Rattle.meaning.specs.Store.{has_written, written_value}
 
 idle : (t r : ℕ) (x : Rec) → saved_rec t (no_access r) x ≡ x
 unfolding saved_rec
@@ -52,12 +53,12 @@ module _ (a : Access) (acc : List Access) (s : Store) (n : SaveNeed (a ∷ acc) 
   pub save_record : a.rec < length s.records
   save_record = n.existing a (Memᴰ.head refl)
 
-  pub save_free : a.written ≡ true → versions_used s < s.version_rows
+  pub save_free : has_written a ≡ true → versions_used s < s.version_rows
   save_free e = let h = rw e at n.room in omega arith
 
   -- the access at hand alone
   pub save_one : SaveNeed (a ∷ []) s
-  save_one = record { existing = λ b m. rw (Memᴰ.eq_of_singleton m) save_record; room = go a.written n.room }
+  save_one = record { existing = λ b m. rw (Memᴰ.eq_of_singleton m) save_record; room = go (has_written a) n.room }
     where
       go : (b : Bool) → versions_used s + length (cond b (a ∷ keep wrote_of acc) (keep wrote_of acc)) ≤ s.version_rows
           → versions_used s + length (cond b (a ∷ []) []) ≤ s.version_rows
@@ -66,7 +67,7 @@ module _ (a : Access) (acc : List Access) (s : Store) (n : SaveNeed (a ∷ acc) 
 
   added : (t : ℕ) → versions_used (changed (saved_rec t) a s) + length (rec_at s a.rec).versions
       ≡ versions_used s
-      + length (cond a.written (insert (new_version a t) (rec_at s a.rec).versions) (rec_at s a.rec).versions)
+      + length (cond (has_written a) (insert (new_version a t) (rec_at s a.rec).versions) (rec_at s a.rec).versions)
   unfolding changed saved_rec
   added t = versions_set s a.rec (saved_rec t a (rec_at s a.rec)) save_record
 
@@ -76,7 +77,7 @@ module _ (a : Access) (acc : List Access) (s : Store) (n : SaveNeed (a ∷ acc) 
       record {
         existing = existing_rest (saved_rec t) (idle t) a acc s n.existing;
         room =
-            go a.written (insert (new_version a t) (rec_at s a.rec).versions)
+            go (has_written a) (insert (new_version a t) (rec_at s a.rec).versions)
             (length_insert (new_version a t) (rec_at s a.rec).versions) (added t) n.room;
       }
     where
@@ -88,28 +89,28 @@ module _ (a : Access) (acc : List Access) (s : Store) (n : SaveNeed (a ∷ acc) 
       go true vs l e h = omega arith
       go false vs l e h = omega arith
 
--- what access row i makes of its record: a is its access, r its record
+-- what access row i makes of its record: a is its access
 module _ (c : Counts) (w : List ℕ) (i : ℕ) (a : Access) (t : ℕ) (W : Well c w)
     (n : SaveNeed (access_at c w i ∷ []) (decode_at c w))
     (ea : a ≡ access_at c w i) where
   need : SaveNeed (a ∷ []) (decode_at c w)
   need = rw ea n
 
-  pub version_needs : (r : ℕ) → r ≡ a.rec → 1 ≤ t → a.written ≡ true
-      → Well c w × (r < c.records) × (1 ≤ t) × (versions_used (decode_at c w) < c.versions)
-  version_needs r er p e = (
+  pub version_needs : 1 ≤ t → has_written a ≡ true
+      → Well c w × (a.rec < c.records) × (1 ≤ t) × (versions_used (decode_at c w) < c.versions)
+  version_needs p e = (
     W,
-    omega (arith, save_record a [] (decode_at c w) need, records_counted c w, er),
+    omega (arith, save_record a [] (decode_at c w) need, records_counted c w),
     p,
     omega (arith, save_free a [] (decode_at c w) need e, version_rows_lem c w),
   )
 
-  pub row_saved : (r : ℕ) → r ≡ a.rec → a.written ≡ true → (w' : List ℕ)
-      → Beside c w w' (on_versions (decode_at c w) r (insert (version_of t a.value)))
+  pub row_saved : has_written a ≡ true → (w' : List ℕ)
+      → Beside c w w' (on_versions (decode_at c w) a.rec (insert (version_of t (written_value a))))
       → Beside c w w' (changed (saved_rec t) (access_at c w i) (decode_at c w))
   unfolding changed saved_rec
-  row_saved r er e w' B = rw (← ea, e, ← er) B
+  row_saved e w' B = rw (← ea, e) B
 
-  pub row_unsaved : a.written ≡ false → Beside c w w (changed (saved_rec t) (access_at c w i) (decode_at c w))
+  pub row_unsaved : has_written a ≡ false → Beside c w w (changed (saved_rec t) (access_at c w i) (decode_at c w))
   unfolding changed saved_rec
   row_unsaved e = rw (← ea, e, rec_again (decode_at c w) a.rec) (beside_none W)

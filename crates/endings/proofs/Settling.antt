@@ -7,7 +7,7 @@ use mathlib.Core.Bool.{Bool, true, false, cond}
 use mathlib.Core.List.{List, [], ◌∷◌}
 use lib.Dec.{eqb}
 use lib.ListN.{length}
-use borrow.Author.Tests.{eqb-true, eqb-false}
+use borrow.Author.Tests.{eqb-true, eqb-false, ne_eqb}
 use Rattle.chains.specs.Walk.{IsRow}
 use Rattle.types.specs.Limits.{COMMITTED}
 use Rattle.types.specs.declared.Access.{Access}
@@ -18,6 +18,7 @@ use Rattle.meaning.proofs.Stores.{used_out, used_range}
 use Rattle.meaning.proofs.SoundParts.{sound_out}
 use Rattle.tables.specs.Decode.{slot_at, decode_at}
 use Rattle.tables.proofs.Decoded.{edit_at_lem, decoded_edits, edits_length}
+use Rattle.tables.specs.Words.{Well}
 use Rattle.changes.specs.Becomes.{Becomes, on_edit}
 use Rattle.calls.specs.Contract.{Ready}
 use Rattle.endings.specs.Steps.{changed, along, left_rec, left_by, freed_all, LeaveNeed}
@@ -38,6 +39,18 @@ slot_in_use c w k u =
     let q = used_range (decode_at c w).edits k (used_out (decode_at c w).edits k u) in
     let n : length (decode_at c w).edits ≡ c.edits = rw decoded_edits (edits_length c w) in
     record { low = q.from; high = omega (arith, q.upto) }
+
+-- a committed edit leaves settled locks, an aborted one nothing
+module _ (c : Counts) (w : List ℕ) (k state t : ℕ) where
+  pub left_ended : {w₁ : List ℕ} → state ≡ COMMITTED
+      → Becomes c w₁ (along (left_rec t) (edit_at (decode_at c w) k).accesses (decode_at c w))
+      → Becomes c w₁ (left_by state t k (decode_at c w))
+  unfolding left_by
+  left_ended e B = rw e B
+
+  pub left_aborted : (state ≡ COMMITTED → ⊥) → Well c w → Becomes c w (left_by state t k (decode_at c w))
+  unfolding left_by
+  left_aborted n W = rw (ne_eqb state COMMITTED n) (record { well = W; means = refl })
 
 module _ (c : Counts) (w : List ℕ) (k : ℕ) (R : Ready c w) (u : in_use (decode_at c w).edits k ≡ true) where
   abbrev s : Store

@@ -9,6 +9,7 @@ use Rattle.meaning.specs.Store.{versions_used}
 use Rattle.meaning.specs.Store.{locks_used}
 use Rattle.meaning.specs.Points.{leave_settled, drop_owner}
 use Rattle.meaning.specs.Ending.{insert, new_version}
+use Rattle.meaning.specs.Store.{has_written}
 
 -- the record of an access changed as g says, for one access and for a list of them
 unfoldable pub changed : (Access → Rec → Rec) → Access → Store → Store
@@ -22,7 +23,7 @@ along g (a ∷ acc) s = along g acc (changed g a s)
 unfoldable pub saved_rec : ℕ → Access → Rec → Rec
 saved_rec t a x =
     record {
-      versions = cond a.written (insert (new_version a t) x.versions) x.versions;
+      versions = cond (has_written a) (insert (new_version a t) x.versions) x.versions;
       locks = x.locks;
       floor = x.floor;
     }
@@ -30,7 +31,7 @@ saved_rec t a x =
 -- Settle of an edit committed at t: the settled locks that an access leaves
 unfoldable pub left_rec : ℕ → Access → Rec → Rec
 left_rec t a x =
-    with_locks x (leave_settled a.written WRITE t t (leave_settled (has_read a) READ a.from t x.locks))
+    with_locks x (leave_settled (has_written a) WRITE t t (leave_settled (has_read a) READ a.from t x.locks))
 
 -- Settle: a record loses slot k's locks; all records
 unfoldable pub freed_rec : ℕ → Rec → Rec
@@ -48,18 +49,23 @@ abbrev pub Existing : List Rec → List Access → Type 0
 Existing rs acc = (a : Access) → a ∈ acc → a.rec < length rs
 
 abbrev pub wrote_of : Access → Bool
-wrote_of a = a.written
+wrote_of a = has_written a
 
 pub record SaveNeed (acc : List Access) (s : Store) : Type 0 where
   pub existing : Existing s.records acc
   pub room : versions_used s + length (keep wrote_of acc) ≤ s.version_rows
+
+-- what a loop needs is there for the access at hand alone, and for those after it once that one is done
+pub record OneByOne (g : Access → Rec → Rec) (P : List Access → Store → Type 0) : Type 0 where
+  pub one : (a : Access) (acc : List Access) (s : Store) → P (a ∷ acc) s → P (a ∷ []) s
+  pub next : (a : Access) (acc : List Access) (s : Store) → P (a ∷ acc) s → P acc (changed g a s)
 
 -- the lock rows that an access leaves
 abbrev pub mark : Bool → ℕ
 mark b = cond b 1 0
 
 abbrev pub rows_left : Access → ℕ
-rows_left a = mark (has_read a) + mark a.written
+rows_left a = mark (has_read a) + mark (has_written a)
 
 pub record LeaveNeed (acc : List Access) (s : Store) : Type 0 where
   pub existing : Existing s.records acc

@@ -10,21 +10,21 @@ ghost use Rattle.types.specs.declared.Pick.TheVariants.{Earliest, Latest};
 ghost use Rattle.tables.specs.Words.{lent, sound_words};
 ghost use Rattle.store.specs.Promises.{Shows};
 ghost use Rattle.codes.specs.Codes.{Answers, extent_of, finish_of, named};
-ghost use Rattle.opened.specs.Opened.{Opened, OpensWith, Within};
+ghost use Rattle.opened.specs.Opened.{Opened, Opens, Within};
 
-use types::{Handle, Pick, Point, Refusal};
+use types::{Handle, Pick, Point};
 
 // Opens a session: the words are checked, and the index is one that knows nothing yet.
+// Kept: the C header asks for it: the reply is a number; words and index two arrays.
 #[unsafe(no_mangle)]
 pub extern "C" fn zohetiwa_open(words: &[u64], index: &mut [u16]) -> u64
-    ensures { Answers (OpensWith words.now index.old index.new) result [] [] }
+    ensures { Answers (Opens words.now index.old index.new) result [] [] }
 {
-    if opened::open(words, index) {
-        return 0;
-    }
-    codes::refusal(Refusal::Unsound)
+    let reply = opened::open(words, index);
+    verdicts::done(reply)
 }
 
+// Kept: the C header asks for it: the reply is a number, each value at a pointer; words and index two arrays.
 #[unsafe(no_mangle)]
 pub extern "C" fn zohetiwa_in_begin(words: &mut [u64], index: &mut [u16], handle: &mut u64) -> u64
     requires { Opened words.old index.old }
@@ -36,6 +36,7 @@ pub extern "C" fn zohetiwa_in_begin(words: &mut [u64], index: &mut [u16], handle
     telling::begin(reply, handle)
 }
 
+// Kept: the C header asks for it: the reply is a number; words and index two arrays.
 #[unsafe(no_mangle)]
 pub extern "C" fn zohetiwa_in_write(
     words: &mut [u64],
@@ -52,6 +53,7 @@ pub extern "C" fn zohetiwa_in_write(
     verdicts::done(reply)
 }
 
+// Kept: the C header asks for it: reply and flag are numbers, each value at a pointer; words and index two arrays.
 #[unsafe(no_mangle)]
 pub extern "C" fn zohetiwa_in_lock(
     words: &mut [u64],
@@ -77,6 +79,7 @@ pub extern "C" fn zohetiwa_in_lock(
     telling::lock(reply, first, last)
 }
 
+// Kept: the C header asks for it: reply and flag are numbers, each value at a pointer; words and index two arrays.
 #[unsafe(no_mangle)]
 pub extern "C" fn zohetiwa_in_read(
     words: &mut [u64],
@@ -103,6 +106,33 @@ pub extern "C" fn zohetiwa_in_read(
     telling::read(reply, kind, tr, end, written, value)
 }
 
+// Commit at a choice of the point.
+// Kept: it is passed what the C functions below are lent, as they are lent it.
+fn commit(
+    words: &mut [u64],
+    index: &mut [u16],
+    handle: u64,
+    pick: Pick,
+    keep: u64,
+    point: &mut u64,
+) -> u64
+    requires { Opened words.old index.old }
+    ensures { Answers (Within (committing handle pick (finish_of keep))
+        words.old words.new index.new) result
+        (point.old ∷ [])
+        (point.new ∷ []) }
+{
+    let reply = opened::commit(
+        words,
+        index,
+        Handle::from(handle),
+        pick,
+        codes::finish(keep),
+    );
+    telling::commit(reply, point)
+}
+
+// Kept: the C header asks for it: reply and flag are numbers, each value at a pointer; words and index two arrays.
 #[unsafe(no_mangle)]
 pub extern "C" fn zohetiwa_in_commit_earliest(
     words: &mut [u64],
@@ -117,16 +147,10 @@ pub extern "C" fn zohetiwa_in_commit_earliest(
         (point.old ∷ [])
         (point.new ∷ []) }
 {
-    let reply = opened::commit(
-        words,
-        index,
-        Handle::from(handle),
-        Pick::Earliest,
-        codes::finish(keep),
-    );
-    telling::commit(reply, point)
+    commit(words, index, handle, Pick::Earliest, keep, point)
 }
 
+// Kept: the C header asks for it: reply and flag are numbers, each value at a pointer; words and index two arrays.
 #[unsafe(no_mangle)]
 pub extern "C" fn zohetiwa_in_commit_latest(
     words: &mut [u64],
@@ -141,16 +165,10 @@ pub extern "C" fn zohetiwa_in_commit_latest(
         (point.old ∷ [])
         (point.new ∷ []) }
 {
-    let reply = opened::commit(
-        words,
-        index,
-        Handle::from(handle),
-        Pick::Latest,
-        codes::finish(keep),
-    );
-    telling::commit(reply, point)
+    commit(words, index, handle, Pick::Latest, keep, point)
 }
 
+// Kept: the C header asks for it: reply and flag are numbers, each value at a pointer; words and index two arrays.
 #[unsafe(no_mangle)]
 pub extern "C" fn zohetiwa_in_commit_at(
     words: &mut [u64],
@@ -166,12 +184,17 @@ pub extern "C" fn zohetiwa_in_commit_at(
         (point.old ∷ [])
         (point.new ∷ []) }
 {
-    let h = Handle::from(handle);
-    let pick = Pick::Named(Point::from(at));
-    let reply = opened::commit(words, index, h, pick, codes::finish(keep));
-    telling::commit(reply, point)
+    commit(
+        words,
+        index,
+        handle,
+        Pick::Named(Point::from(at)),
+        keep,
+        point,
+    )
 }
 
+// Kept: the C header asks for it: reply and flag are numbers; words and index two arrays.
 #[unsafe(no_mangle)]
 pub extern "C" fn zohetiwa_in_abort(
     words: &mut [u64],
@@ -187,6 +210,7 @@ pub extern "C" fn zohetiwa_in_abort(
     verdicts::done(reply)
 }
 
+// Kept: the C header asks for it: the reply is a number; words and index two arrays.
 #[unsafe(no_mangle)]
 pub extern "C" fn zohetiwa_in_settle(words: &mut [u64], index: &mut [u16], handle: u64) -> u64
     requires { Opened words.old index.old }
@@ -197,6 +221,7 @@ pub extern "C" fn zohetiwa_in_settle(words: &mut [u64], index: &mut [u16], handl
     verdicts::done(reply)
 }
 
+// Kept: the C header asks for it: the reply is a number, each value at a pointer; words and index two arrays.
 #[unsafe(no_mangle)]
 pub extern "C" fn zohetiwa_in_purge(
     words: &mut [u64],
@@ -215,6 +240,7 @@ pub extern "C" fn zohetiwa_in_purge(
     telling::purge(reply, versions, locks)
 }
 
+// Kept: the C header asks for it: the reply is a number, each value at a pointer.
 #[unsafe(no_mangle)]
 pub extern "C" fn zohetiwa_in_view(
     words: &[u64],

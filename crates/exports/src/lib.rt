@@ -25,6 +25,7 @@ mod in_session;
 use types::{Counts, Handle, Pick, Point, Reading, Seat};
 
 // Point: the only call that needs no store.
+// Kept: the C header asks for it: the reply is a number, each value at a pointer.
 #[unsafe(no_mangle)]
 pub extern "C" fn zohetiwa_point(clock: u64, seat: u64, point: &mut u64) -> u64
     ensures { Answers (λ r. r ≡ pointing clock seat) result
@@ -36,6 +37,7 @@ pub extern "C" fn zohetiwa_point(clock: u64, seat: u64, point: &mut u64) -> u64
 }
 
 // Format. The counts are lengths of tables, so they are sizes.
+// Kept: the C header asks for it: the reply is a number.
 #[unsafe(no_mangle)]
 pub extern "C" fn zohetiwa_format(
     words: &mut [u64],
@@ -63,6 +65,7 @@ pub extern "C" fn zohetiwa_format(
 }
 
 // Begin: the handle of the edit.
+// Kept: the C header asks for it: the reply is a number, each value at a pointer.
 #[unsafe(no_mangle)]
 pub extern "C" fn zohetiwa_begin(words: &mut [u64], handle: &mut u64) -> u64
     ensures { Answers (Does beginning words.old words.new) result
@@ -74,6 +77,7 @@ pub extern "C" fn zohetiwa_begin(words: &mut [u64], handle: &mut u64) -> u64
 }
 
 // Write: no further values.
+// Kept: the C header asks for it: the reply is a number.
 #[unsafe(no_mangle)]
 pub extern "C" fn zohetiwa_write(words: &mut [u64], handle: u64, rec: u64, value: u64) -> u64
     ensures { Answers (Does (writing handle rec value) words.old words.new) result [] [] }
@@ -83,6 +87,7 @@ pub extern "C" fn zohetiwa_write(words: &mut [u64], handle: u64, rec: u64, value
 }
 
 // Lock: the first and the last point locked.
+// Kept: the C header asks for it: reply and flag are numbers, each value at a pointer.
 #[unsafe(no_mangle)]
 pub extern "C" fn zohetiwa_lock(
     words: &mut [u64],
@@ -107,6 +112,7 @@ pub extern "C" fn zohetiwa_lock(
 
 // Read: which of its three replies, the point of the version, the last point locked, whether the value was ever
 // written, its bits.
+// Kept: the C header asks for it: reply and flag are numbers, each value at a pointer.
 #[unsafe(no_mangle)]
 pub extern "C" fn zohetiwa_read(
     words: &mut [u64],
@@ -130,7 +136,19 @@ pub extern "C" fn zohetiwa_read(
     telling::read(reply, kind, tr, end, written, value)
 }
 
+// Commit at a choice of the point.
+// Kept: it is passed what the C functions below are lent, as they are lent it.
+fn commit(words: &mut [u64], handle: u64, pick: Pick, keep: u64, point: &mut u64) -> u64
+    ensures { Answers (Does (committing handle pick (finish_of keep)) words.old words.new) result
+        (point.old ∷ [])
+        (point.new ∷ []) }
+{
+    let reply = store::commit(words, Handle::from(handle), pick, codes::finish(keep));
+    telling::commit(reply, point)
+}
+
 // Commit, a function for each choice of the point: the commit point.
+// Kept: the C header asks for it: reply and flag are numbers, each value at a pointer.
 #[unsafe(no_mangle)]
 pub extern "C" fn zohetiwa_commit_earliest(
     words: &mut [u64],
@@ -142,15 +160,10 @@ pub extern "C" fn zohetiwa_commit_earliest(
         (point.old ∷ [])
         (point.new ∷ []) }
 {
-    let reply = store::commit(
-        words,
-        Handle::from(handle),
-        Pick::Earliest,
-        codes::finish(keep),
-    );
-    telling::commit(reply, point)
+    commit(words, handle, Pick::Earliest, keep, point)
 }
 
+// Kept: the C header asks for it: reply and flag are numbers, each value at a pointer.
 #[unsafe(no_mangle)]
 pub extern "C" fn zohetiwa_commit_latest(
     words: &mut [u64],
@@ -162,15 +175,10 @@ pub extern "C" fn zohetiwa_commit_latest(
         (point.old ∷ [])
         (point.new ∷ []) }
 {
-    let reply = store::commit(
-        words,
-        Handle::from(handle),
-        Pick::Latest,
-        codes::finish(keep),
-    );
-    telling::commit(reply, point)
+    commit(words, handle, Pick::Latest, keep, point)
 }
 
+// Kept: the C header asks for it: reply and flag are numbers, each value at a pointer.
 #[unsafe(no_mangle)]
 pub extern "C" fn zohetiwa_commit_at(
     words: &mut [u64],
@@ -183,13 +191,11 @@ pub extern "C" fn zohetiwa_commit_at(
         (point.old ∷ [])
         (point.new ∷ []) }
 {
-    let h = Handle::from(handle);
-    let pick = Pick::Named(Point::from(at));
-    let reply = store::commit(words, h, pick, codes::finish(keep));
-    telling::commit(reply, point)
+    commit(words, handle, Pick::Named(Point::from(at)), keep, point)
 }
 
 // Abort: no further values.
+// Kept: the C header asks for it: reply and flag are numbers.
 #[unsafe(no_mangle)]
 pub extern "C" fn zohetiwa_abort(words: &mut [u64], handle: u64, keep: u64) -> u64
     ensures { Answers (Does (aborting handle (finish_of keep)) words.old words.new) result [] [] }
@@ -199,6 +205,7 @@ pub extern "C" fn zohetiwa_abort(words: &mut [u64], handle: u64, keep: u64) -> u
 }
 
 // Settle: no further values.
+// Kept: the C header asks for it: the reply is a number.
 #[unsafe(no_mangle)]
 pub extern "C" fn zohetiwa_settle(words: &mut [u64], handle: u64) -> u64
     ensures { Answers (Does (settling handle) words.old words.new) result [] [] }
@@ -208,6 +215,7 @@ pub extern "C" fn zohetiwa_settle(words: &mut [u64], handle: u64) -> u64
 }
 
 // Purge: the version rows and the lock rows freed.
+// Kept: the C header asks for it: the reply is a number, each value at a pointer.
 #[unsafe(no_mangle)]
 pub extern "C" fn zohetiwa_purge(
     words: &mut [u64],
@@ -225,6 +233,7 @@ pub extern "C" fn zohetiwa_purge(
 }
 
 // View: the point of the version, whether it was ever written, its bits.
+// Kept: the C header asks for it: the reply is a number, each value at a pointer.
 #[unsafe(no_mangle)]
 pub extern "C" fn zohetiwa_view(
     words: &[u64],
@@ -244,6 +253,7 @@ pub extern "C" fn zohetiwa_view(
 
 // Many calls after one check of the words: how many were done. The crate `encoding` says what the words of a call and
 // of a reply mean.
+// Kept: the C header asks for it: list and replies are two arrays, and the answer is how many.
 #[unsafe(no_mangle)]
 pub extern "C" fn zohetiwa_batch(words: &mut [u64], calls: &[u64], replies: &mut [u64]) -> u64
     ensures { Runs calls.now
@@ -254,6 +264,7 @@ pub extern "C" fn zohetiwa_batch(words: &mut [u64], calls: &[u64], replies: &mut
 }
 
 // Many views after one check of the words: how many were answered.
+// Kept: the C header asks for it: list and replies are two arrays, and the answer is how many.
 #[unsafe(no_mangle)]
 pub extern "C" fn zohetiwa_views(words: &[u64], asks: &[u64], replies: &mut [u64]) -> u64
     ensures { Views words.now asks.now replies.old replies.new result }
@@ -263,6 +274,7 @@ pub extern "C" fn zohetiwa_views(words: &[u64], asks: &[u64], replies: &mut [u64
 
 // The planning desk. The session is an array of the caller's, which the crate `sessions` reads and updates. Open: a new
 // edit with the working interval t to t + width.
+// Kept: the C header asks for it: the reply is a number, the setting too, the session an array.
 #[unsafe(no_mangle)]
 pub extern "C" fn zohetiwa_desk_open(
     words: &mut [u64],
@@ -279,6 +291,7 @@ pub extern "C" fn zohetiwa_desk_open(
 }
 
 // Read: as `zohetiwa_read`, up to the interval's end, or that nothing of the interval is left.
+// Kept: the C header asks for it: the reply is a number, the session an array, each value at a pointer.
 #[unsafe(no_mangle)]
 pub extern "C" fn zohetiwa_desk_read(
     words: &mut [u64],
@@ -301,6 +314,7 @@ pub extern "C" fn zohetiwa_desk_read(
 }
 
 // Write: locks the interval, then stores the value.
+// Kept: the C header asks for it: the reply is a number, the session an array.
 #[unsafe(no_mangle)]
 pub extern "C" fn zohetiwa_desk_write(
     words: &mut [u64],
@@ -318,6 +332,7 @@ pub extern "C" fn zohetiwa_desk_write(
 }
 
 // Commit: at an end of the interval left, by the session's setting; settles.
+// Kept: the C header asks for it: the reply is a number, the session an array, each value at a pointer.
 #[unsafe(no_mangle)]
 pub extern "C" fn zohetiwa_desk_commit(
     words: &mut [u64],

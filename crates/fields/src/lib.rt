@@ -100,6 +100,7 @@ impl<'a> Fields<'a> {
     }
 
     // The number that is the next field.
+    // Kept: the library's `parse` takes a `+` before the digits, which no field has.
     #[tactic(auto, unfolding(crate::specs::Fields::number))]
     pub fn number(&mut self) -> Option<u64>
         ensures { (next : ℕ → List (List ℕ) → Parsed) → number·of self.old next ≡ after result self.new next }
@@ -117,6 +118,7 @@ impl<'a> Fields<'a> {
     }
 
     // The flag A or P.
+    // Kept: a TryFrom of a letter would stand in `types`, which knows no lines.
     #[tactic(auto, unfolding(crate::specs::Kinds::extent))]
     pub fn extent(&mut self) -> Option<Extent>
         ensures { (next : ExtentNext) → extent·of self.old next ≡ after result self.new next }
@@ -129,6 +131,7 @@ impl<'a> Fields<'a> {
     }
 
     // The flag S or K.
+    // Kept: the same; one function for both flags would take as arguments the four words that its `match` says.
     #[tactic(auto, unfolding(crate::specs::Kinds::finish))]
     pub fn finish(&mut self) -> Option<Finish>
         ensures { (next : FinishNext) → finish·of self.old next ≡ after result self.new next }
@@ -141,6 +144,7 @@ impl<'a> Fields<'a> {
     }
 
     // E, L or a named point.
+    // Kept: the same.
     #[tactic(auto, unfolding(crate::specs::Kinds::pick, crate::specs::Fields::letter_or, crate::specs::Fields::number))]
     pub fn pick(&mut self) -> Option<Pick>
         ensures { (next : PickNext) → pick·of self.old next ≡ after result self.new next }

@@ -1,5 +1,7 @@
 // The call Format: it lays out a store in a lent slice, whatever the slice held, or refuses and leaves every word as it
 // was. Rests on the crates `types`, `meaning`, `chains` and `tables`.
+// Kept, words and counts: a struct that holds lent `&mut` words would have each contract say that it keeps them
+// Kept, Ranged c: found by format_fits, right before the one call
 #![tactic(auto)]
 
 ghost use Rattle.std.specs.Prelude.{◌≡◌, ◌≤◌, ◌<◌, length};
@@ -10,7 +12,8 @@ ghost use Rattle.tables.specs.Layout.{HEADER, Ranged, size_of};
 ghost use Rattle.format.specs.Format.{header_words, next_free, linked, formatted_words, format_fits, Formats};
 
 use chains::Table;
-use types::{Counts, Refusal};
+use tables::Part;
+use types::{Access, Counts, Lock, Refusal, Version};
 
 // Whether the counts are in range and n is the number of words that they ask for.
 fn format_fits(n: usize, c: Counts) -> bool
@@ -24,17 +27,18 @@ fn write_header(w: &mut [u64], c: Counts)
     requires { HEADER ≤ length w.old }
     ensures { w.new ≡ sets w.old 0 (header_words c) }
 {
-    w[tables::H_RECORDS] = chains::word(c.records);
-    w[tables::H_EDITS] = chains::word(c.edits);
-    w[tables::H_VERSIONS] = chains::word(c.versions);
-    w[tables::H_LOCKS] = chains::word(c.locks);
-    w[tables::H_ACCESSES] = chains::word(c.accesses);
+    w[tables::H_RECORDS] = c.records as u64;
+    w[tables::H_EDITS] = c.edits as u64;
+    w[tables::H_VERSIONS] = c.versions as u64;
+    w[tables::H_LOCKS] = c.locks as u64;
+    w[tables::H_ACCESSES] = c.accesses as u64;
     w[tables::FREE_VERSION] = 1;
     w[tables::FREE_LOCK] = 1;
     w[tables::FREE_ACCESS] = 1;
 }
 
 // The row after row i on a free chain of n rows.
+// Kept: it is stored as a link word of document 01, where 0 ends a chain
 fn next_free(n: usize, i: usize) -> usize
     requires { i ≤ n }
     ensures { result ≡ next_free n i }
@@ -43,6 +47,7 @@ fn next_free(n: usize, i: usize) -> usize
 }
 
 // The rows of a table, linked in rising order.
+// Kept: rows linked in the lent words are the store's own form, without a heap, and `&mut` words lie in no struct here
 fn link_rows(w: &mut [u64], t: Table)
     requires { Lies t w.old }
     ensures { w.new ≡ linked t w.old }
@@ -58,9 +63,9 @@ fn lay_out(w: &mut [u64], c: Counts)
 {
     w.fill(0);
     write_header(w, c);
-    link_rows(w, tables::version_table(c));
-    link_rows(w, tables::lock_table(c));
-    link_rows(w, tables::access_table(c));
+    link_rows(w, Version::table(c));
+    link_rows(w, Lock::table(c));
+    link_rows(w, Access::table(c));
 }
 
 // Format: refused with 16 if a count is out of range or the slice has not the length that the counts ask for.

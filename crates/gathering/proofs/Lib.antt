@@ -1,2 +1,2 @@
 -- One more byte of a line. Rests on specs/.
-pub mod Bytes
+pub mod Taken

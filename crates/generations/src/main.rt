@@ -4,7 +4,6 @@
 #![tactic(auto)]
 
 use answers::answer;
-use console::print_line;
 use std::io;
 use types::Finish;
 
@@ -44,64 +43,67 @@ const NEW: [&str; 11] = [
     "S 1",
 ];
 
-// Runs each line, and prints it with its answer.
-fn run(rt: &impl Print, words: &mut [u64; WORDS], lines: &[&str]) -> io::Result<()> {
-    for line in lines {
-        print!(rt; "{line}: ")?;
-        print_line(rt, answer(words, WORDS, line.as_bytes()).line)?;
-        println!(rt)?;
+// A store, and where what its calls do is printed.
+#[derive(Drop)]
+struct Stage<'a, R> {
+    rt: &'a R,
+    words: [u64; WORDS],
+}
+
+impl<R: Print> Stage<'_, R> {
+    fn title(&self, text: &str) -> io::Result<()> {
+        println!(self.rt; "-- {text}")
     }
-    Ok(())
-}
 
-fn print_verdict(rt: &impl Print, words: &[u64; WORDS]) -> io::Result<()> {
-    let sound = soundness::check(words);
-    println!(rt; "{}", if sound { "sound" } else { "not sound" })
-}
+    // Runs each line, and prints it with its answer.
+    fn run(&mut self, lines: &[&str]) -> io::Result<()> {
+        for line in lines {
+            let reply = answer(&mut self.words, WORDS, line.as_bytes()).line;
+            println!(self.rt; "{line}: {reply}")?;
+        }
+        Ok(())
+    }
 
-// The last edit of generation 65,535: it works, ends, and its handle is stale, in the free slot and after the next
-// begin.
-fn wrap(rt: &impl Print, words: &mut [u64; WORDS]) -> io::Result<()> {
-    println!(rt; "-- the edit of generation 65535")?;
-    run(
-        rt,
-        words,
-        &[
+    fn verdict(&self) -> &'static str {
+        if soundness::check(&self.words) {
+            "sound"
+        } else {
+            "not sound"
+        }
+    }
+
+    // The last edit of generation 65,535: it works, ends, and its handle is stale, in the free slot and after the next
+    // begin.
+    fn wrap(&mut self) -> io::Result<()> {
+        self.title("the edit of generation 65535")?;
+        self.run(&[
             "R 4194241 0 6 A",
             "W 4194241 0 501",
             "L 4194241 0 6 6 A",
             "C 4194241 6 S",
-        ],
-    )?;
-    println!(rt; "-- its slot is free")?;
-    run(rt, words, &OLD)?;
-    println!(rt; "-- the next edit has generation 0")?;
-    run(rt, words, &["B", "B"])?;
-    run(rt, words, &OLD)?;
-    println!(rt; "-- other generations and slots")?;
-    run(
-        rt,
-        words,
-        &[
+        ])?;
+        self.title("its slot is free")?;
+        self.run(&OLD)?;
+        self.title("the next edit has generation 0")?;
+        self.run(&["B", "B"])?;
+        self.run(&OLD)?;
+        self.title("other generations and slots")?;
+        self.run(&[
             "W 65 1 5",
             "W 129 1 5",
             "W 2 1 5",
             "W 0 1 5",
             "W 3 1 5",
             "W 64 1 5",
-        ],
-    )?;
-    println!(rt; "-- a generation of 65536 is not 0")?;
-    run(rt, words, &["W 4194305 1 5"])
-}
+        ])?;
+        self.title("a generation of 65536 is not 0")?;
+        self.run(&["W 4194305 1 5"])
+    }
 
-// The edit of generation 0 works, ends, and is stale in its turn.
-fn follow(rt: &impl Print, words: &mut [u64; WORDS]) -> io::Result<()> {
-    println!(rt; "-- the edit of generation 0")?;
-    run(
-        rt,
-        words,
-        &[
+    // The edit of generation 0 works, ends, and is stale in its turn.
+    fn follow(&mut self) -> io::Result<()> {
+        self.title("the edit of generation 0")?;
+        self.run(&[
             "R 1 0 9 A",
             "W 1 1 502",
             "L 1 1 7 7 A",
@@ -109,34 +111,36 @@ fn follow(rt: &impl Print, words: &mut [u64; WORDS]) -> io::Result<()> {
             "C 1 L K",
             "W 1 1 503",
             "S 1",
-        ],
-    )?;
-    println!(rt; "-- the next has generation 1")?;
-    run(rt, words, &["B"])?;
-    run(rt, words, &NEW)?;
-    run(rt, words, &["A 65 S"])
-}
+        ])?;
+        self.title("the next has generation 1")?;
+        self.run(&["B"])?;
+        self.run(&NEW)?;
+        self.run(&["A 65 S"])
+    }
 
-// Begins an edit in the lowest free slot, slot 1, and aborts it, n times.
-fn turns(words: &mut [u64; WORDS], n: u64) {
-    for _ in 0..n {
-        if let Ok(h) = store::begin(words) {
-            let _ = store::abort(words, h, Finish::Settle);
+    // Begins an edit in the lowest free slot, slot 1, and aborts it, n times.
+    fn turns(&mut self, n: u64) {
+        for _ in 0..n {
+            if let Ok(h) = store::begin(&mut self.words) {
+                let _ = store::abort(&mut self.words, h, Finish::Settle);
+            }
         }
     }
 }
 
 fn main(rt: HostRuntime) -> io::Result<()> {
-    let mut words = [0u64; WORDS];
-    run(&rt, &mut words, &["F 2 2 4 8 8"])?;
-    words[SLOT_1 + tables::S_STATE] = types::OPEN;
-    words[SLOT_1 + tables::S_GENERATION] = types::GENERATIONS - 1;
-    print!(&rt; "slot 1 open with generation 65535: ")?;
-    print_verdict(&rt, &words)?;
-    wrap(&rt, &mut words)?;
-    follow(&rt, &mut words)?;
-    println!(&rt; "-- 65534 begins later the next edit has generation 0 again")?;
-    turns(&mut words, 65534);
-    run(&rt, &mut words, &["W 1 1 5", "B", "W 1 1 5", "A 1 S"])?;
-    print_verdict(&rt, &words)
+    let mut s = Stage {
+        rt: &rt,
+        words: [0u64; WORDS],
+    };
+    s.run(&["F 2 2 4 8 8"])?;
+    s.words[SLOT_1 + tables::S_STATE] = types::OPEN;
+    s.words[SLOT_1 + tables::S_GENERATION] = types::GENERATIONS - 1;
+    println!(&rt; "slot 1 open with generation 65535: {}", s.verdict())?;
+    s.wrap()?;
+    s.follow()?;
+    s.title("65534 begins later the next edit has generation 0 again")?;
+    s.turns(65534);
+    s.run(&["W 1 1 5", "B", "W 1 1 5", "A 1 S"])?;
+    println!(&rt; "{}", s.verdict())
 }

@@ -55,6 +55,7 @@ use Rattle.history.proofs.CallRuns.{Runs, Good, good_facts, Continues, unless_co
 use Rattle.history.proofs.CallRuns.{open_slot}
 use Rattle.history.proofs.EveryCall.{aborted_keeps}
 use Rattle.history.proofs.Valued.{committed_valued, valued_kept}
+use Rattle.meaning.specs.Store.{has_written, written_value}
 
 -- the versions of a record after a commit
 module _ (b : Bool) (a : Access) (t : ℕ) (vs : List Version) where
@@ -68,7 +69,7 @@ module _ (b : Bool) (a : Access) (t : ℕ) (vs : List Version) where
       go true = insert_old (new_version a t) vs w.member
       go false = w.member
 
-  saved_new : {v : Val} → b ≡ true → a.value ≡ v → StandsAt saved t v
+  saved_new : {v : Val} → b ≡ true → written_value a ≡ v → StandsAt saved t v
   saved_new q z = record {
     version = new_version a t;
     member = rw q (insert_new (new_version a t) vs);
@@ -76,7 +77,8 @@ module _ (b : Bool) (a : Access) (t : ℕ) (vs : List Version) where
     value = ap Some z;
   }
 
-  saved_out : {p : ℕ} {v : Val} → StandsAt saved p v → StandsAt vs p v ⊎ ((p ≡ t) × ((b ≡ true) × (a.value ≡ v)))
+  saved_out : {p : ℕ} {v : Val} → StandsAt saved p v → StandsAt vs p v
+      ⊎ ((p ≡ t) × ((b ≡ true) × (written_value a ≡ v)))
   saved_out {p} {v} w = go b refl w.member
     where
       value_is : (x y : Val) → Some x ≡ Some y → x ≡ y
@@ -86,16 +88,16 @@ module _ (b : Bool) (a : Access) (t : ℕ) (vs : List Version) where
       old m = record { version = w.version; member = m; stands = w.stands; value = w.value }
 
       from : b ≡ true → (w.version ≡ new_version a t) ⊎ (w.version ∈ vs)
-          → StandsAt vs p v ⊎ ((p ≡ t) × ((b ≡ true) × (a.value ≡ v)))
+          → StandsAt vs p v ⊎ ((p ≡ t) × ((b ≡ true) × (written_value a ≡ v)))
       from q (inl z) =
           inr (
             sym w.stands ∙ ap (λ (u : Version). u.point) z,
-            (q, value_is a.value v (sym (ap (λ (u : Version). u.value) z) ∙ w.value)),
+            (q, value_is (written_value a) v (sym (ap (λ (u : Version). u.value) z) ∙ w.value)),
           )
       from q (inr m) = inl (old m)
 
       go : (c : Bool) → b ≡ c → w.version ∈ cond c (insert (new_version a t) vs) vs
-          → StandsAt vs p v ⊎ ((p ≡ t) × ((b ≡ true) × (a.value ≡ v)))
+          → StandsAt vs p v ⊎ ((p ≡ t) × ((b ≡ true) × (written_value a ≡ v)))
       go true q m = from q (insert_out (new_version a t) vs m)
       go false q m = inl (old m)
 
@@ -116,7 +118,7 @@ module _ (s : Store) (h t : ℕ) (good : SoundStore s) {rest : Verdict} (p : Pas
 
   rec_is : (r : ℕ) → rec_at after r
       ≡ record {
-        versions = saved (access_of e r).written (access_of e r) t (rec_at s r).versions;
+        versions = saved (has_written (access_of e r)) (access_of e r) t (rec_at s r).versions;
         locks = (rec_at s r).locks;
         floor = (rec_at s r).floor;
       }
@@ -131,12 +133,14 @@ module _ (s : Store) (h t : ℕ) (good : SoundStore s) {rest : Verdict} (p : Pas
           floor = λ r. ap (λ (x : Rec). x.floor) (rec_is r);
           lock = λ r q j w. rw (rec_is r) w;
           write_lock = λ r q j w. rw (rec_is r) w;
-          stay = λ r q v w. rw (rec_is r) (saved_old (access_of e r).written (access_of e r) t (rec_at s r).versions w);
+          stay = λ r q v w. rw (rec_is r)
+              (saved_old (has_written (access_of e r)) (access_of e r) t (rec_at s r).versions w);
           saves =
               λ r q v w. rw (rec_is r, w.0)
-              (saved_new (access_of e r).written (access_of e r) t (rec_at s r).versions w.1.0 w.1.1);
+              (saved_new (has_written (access_of e r)) (access_of e r) t (rec_at s r).versions w.1.0 w.1.1);
           only =
-              λ r q v w. saved_out (access_of e r).written (access_of e r) t (rec_at s r).versions (rw (rec_is r) at w);
+              λ r q v w. saved_out (has_written (access_of e r)) (access_of e r) t (rec_at s r).versions
+              (rw (rec_is r) at w);
         };
         slot = open_slot s h p;
         positive = common.least;

@@ -24,6 +24,7 @@ use Rattle.types.specs.declared.Finish.TheVariants as F
 use Rattle.types.specs.declared.Call.{Call}
 use Rattle.types.specs.declared.Call.TheVariants as C
 use Rattle.meaning.proofs.Verdicts.{unless_keeps}
+use Rattle.meaning.specs.Store.{has_written, written_value}
 
 -- the changes: of a slot, of a record's locks, a commit, a settling, a purge of r to a version at v, where that may be
 pub record Kept (P : Store → Type 0) (May : ℕ → ℕ → Type 0) : Type 0 where
@@ -68,7 +69,8 @@ module _ {P : Store → Type 0} {May : ℕ → ℕ → Type 0} (kept : Kept P Ma
   call_keeps (C.Read g r m w) s may h =
       unless_keeps P s (read_checks s g.0 r m.0) (read_open s (slot_of g.0) r m.0 w) h (λ e.
       let k = slot_of g.0 in
-      cond_keeps P (access_of (edit_at s k) r).written (replies s (own (access_of (edit_at s k) r).value)) _ h
+      cond_keeps P (has_written (access_of (edit_at s k) r))
+      (replies s (own (written_value (access_of (edit_at s k) r)))) _ h
       (cond_keeps P (has_read (access_of (edit_at s k) r)) (replies s (again ((access_of (edit_at s k) r).from - 1) _))
       (read_new s k r m.0 w) h
       (unless_keeps P s (read_verdict s k r m.0 w) (replies (read_store s k r _ _) _) h

@@ -45,6 +45,7 @@ use Rattle.history.proofs.Changes.{iff, grows_more, access_here, access_there}
 use Rattle.history.proofs.CallRuns.{Runs, Good, good_facts, Continues, unless_continues, cond_continues}
 use Rattle.history.proofs.CallRuns.{open_slot}
 use Rattle.history.proofs.Simple.{others_stay, all_keep, lock_grows}
+use Rattle.meaning.specs.Store.{has_written, written_value}
 
 -- what a reply's point and value stand for
 module _ (s : Store) (valued : Valued s) (r : ℕ) where
@@ -114,7 +115,7 @@ module _ (s : Store) (h r : ℕ) {rest : Verdict} (p : PassedOpen s h rest) (the
   other : (j : ℕ) → ¬ (j ≡ r) → access_of (edit_at after k) j ≡ access_of e j
   other j n = ap (λ (d : Edit). access_of d j) is_done ∙ access_there a e j n
 
-  module _ (unread : (access_of e r).from ≡ 0) (unwritten : (access_of e r).written ≡ false) where
+  module _ (unread : (access_of e r).from ≡ 0) (unwritten : has_written (access_of e r) ≡ false) where
     read_at_lem : (j u : ℕ)
         → ((access_of (edit_at after k) j).from ≡ suc u) ↔ (((access_of e j).from ≡ suc u) ⊎ ((j ≡ r) × (u ≡ t)))
     read_at_lem j u = go (ℕ_discrete j r)
@@ -133,16 +134,16 @@ module _ (s : Store) (h r : ℕ) {rest : Verdict} (p : PassedOpen s h rest) (the
             )
 
     wrote : (j : ℕ) (v : Val)
-        → (((access_of (edit_at after k) j).written ≡ true) × ((access_of (edit_at after k) j).value ≡ v))
-        ↔ (((access_of e j).written ≡ true) × ((access_of e j).value ≡ v))
+        → ((has_written (access_of (edit_at after k) j) ≡ true) × (written_value (access_of (edit_at after k) j) ≡ v))
+        ↔ ((has_written (access_of e j) ≡ true) × (written_value (access_of e j) ≡ v))
     wrote j v = go (ℕ_discrete j r)
       where
-        go : Dec (j ≡ r) → (((access_of (edit_at after k) j).written ≡ true)
-            × ((access_of (edit_at after k) j).value ≡ v))
-            ↔ (((access_of e j).written ≡ true) × ((access_of e j).value ≡ v))
-        go (no n) = iff (λ (b : Access). (b.written ≡ true) × (b.value ≡ v)) (other j n)
+        go : Dec (j ≡ r) → ((has_written (access_of (edit_at after k) j) ≡ true)
+            × (written_value (access_of (edit_at after k) j) ≡ v))
+            ↔ ((has_written (access_of e j) ≡ true) × (written_value (access_of e j) ≡ v))
+        go (no n) = iff (λ (b : Access). (has_written b ≡ true) × (written_value b ≡ v)) (other j n)
         go (yes y) = (
-          λ q. absurd (not_both q.0 (rw y (ap (λ (b : Access). b.written) here))),
+          λ q. absurd (not_both q.0 (rw y (ap (λ (b : Access). has_written b) here))),
           λ q. absurd (not_both q.0 (rw y unwritten)),
         )
 
@@ -173,7 +174,7 @@ read_continues h r m w s good run S =
     unless_continues c s run (read_checks s h.0 r m.0) (read_open s k r m.0 w) S (λ e T.
     let p = for_open_pass s h.0 _ e in
     let a = needs_pass (has_record s r) 5 _ p.rest in
-    cond_continues c s run x.written (replies s (own x.value)) _ T
+    cond_continues c s run (has_written x) (replies s (own (written_value x))) _ T
     (λ q U. then run (reads_own (record { slot = open_slot s h.0 p; own = (q, refl) })) U)
     (λ q U.
     cond_continues c s run (has_read x) (replies s (again (x.from - 1) _)) (read_new s k r m.0 w) U

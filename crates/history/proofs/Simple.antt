@@ -39,6 +39,7 @@ use Rattle.history.proofs.StoreSlots.{slots_of, slots}
 use Rattle.history.proofs.Changes.{iff, Locked, locked_refl, slot_stays, grows_more, moves_more, access_here}
 use Rattle.history.proofs.Changes.{access_there}
 use Rattle.history.proofs.CallRuns.{Runs, Continues, unless_continues, open_slot}
+use Rattle.meaning.specs.Store.{has_written, written_value}
 
 -- one slot changed: the others stay, and if the handle stays, all keep theirs
 module _ (s : Store) (k : ℕ) (e : Edit) where
@@ -85,7 +86,7 @@ module _ (s : Store) (k : ℕ) (f : FreeAt s.edits k) where
         open' = ap (λ (d : Edit). d.state) is_new;
         handle = ap (λ (d : Edit). handle d.generation k) is_new;
         no_read = λ r t q. let z : (access_of new r).from ≡ _ = rw is_new at q in omega (arith, z);
-        no_write = λ r v w. let z : (access_of new r).written ≡ true = rw is_new at w.0 in false≢true z;
+        no_write = λ r v w. let z : has_written (access_of new r) ≡ true = rw is_new at w.0 in false≢true z;
         others = others_stay s k new (λ r. rec_at s r);
       }
 
@@ -144,10 +145,10 @@ module _ (s : Store) (h r : ℕ) (v : Val) {rest : _} (p : PassedOpen s h rest) 
         others = others_stay s k done (λ x. rec_at s x);
         read_at = λ j t. iff (λ n. n ≡ suc t) (from_same j);
         here = λ w. (
-          λ z. sym z.1 ∙ ap (λ (b : Access). b.value) here,
-          λ q. (ap (λ (b : Access). b.written) here, ap (λ (b : Access). b.value) here ∙ sym q),
+          λ z. sym z.1 ∙ ap (λ (b : Access). written_value b) here,
+          λ q. (ap (λ (b : Access). has_written b) here, ap (λ (b : Access). written_value b) here ∙ sym q),
         );
-        there = λ j w n. iff (λ (b : Access). (b.written ≡ true) × (b.value ≡ w)) (there j n);
+        there = λ j w n. iff (λ (b : Access). (has_written b ≡ true) × (written_value b ≡ w)) (there j n);
       }
 
 pub write_continues : {l : History Val} (h : Handle) (r : ℕ) (v : Val) (s : Store) → Runs l s

@@ -23,6 +23,7 @@ use Rattle.types.specs.declared.Version.{Version}
 use Rattle.meaning.proofs.Lists.{and_right, every_at}
 use Rattle.meaning.proofs.Stores.{InRange, used_range}
 use Rattle.serial.proofs.Slots.{Slots, Used, SoundSlots}
+use Rattle.meaning.specs.Store.{has_written, written_value}
 
 -- a version with the value v stands on p
 pub record StandsAt (vs : List Version) (p : ℕ) (v : Val) : Type 0 where
@@ -36,7 +37,7 @@ abbrev pub ReadAt : Edit → ℕ → ℕ → Type 0
 ReadAt e r t = (access_of e r).from ≡ suc t
 
 abbrev pub Wrote : Edit → ℕ → Val → Type 0
-Wrote e r v = ((access_of e r).written ≡ true) × ((access_of e r).value ≡ v)
+Wrote e r v = (has_written (access_of e r) ≡ true) × (written_value (access_of e r) ≡ v)
 
 -- by slot and record, since a call is known by what it makes of each
 abbrev pub slots_of : (ℕ → Edit) → (ℕ → Rec) → Slots Val

@@ -25,6 +25,7 @@ use Rattle.meaning.proofs.SoundParts.{get_d_replicate}
 use Rattle.history.proofs.StoreSlots.{Valued}
 use Rattle.history.proofs.EachRecord.{rec_keeps, settled_keeps, committed_keeps}
 use Rattle.history.proofs.EveryCall.{Kept, Always}
+use Rattle.meaning.specs.Store.{has_written, written_value}
 
 -- every version of the record has a value
 abbrev Of : Rec → Type 0
@@ -59,11 +60,11 @@ module _ (s : Store) (h : Valued s) where
   settled_valued k r = settled_keeps Of of_fresh r s k (h r)
 
   pub committed_valued : (k t : ℕ) → Valued (committed s k t)
-  committed_valued k t r = committed_keeps Of of_fresh r s k t (both (access_of (edit_at s k) r).written)
+  committed_valued k t r = committed_keeps Of of_fresh r s k t (both (has_written (access_of (edit_at s k) r)))
     where
       new : (w : Version) → (w ≡ new_version (access_of (edit_at s k) r) t) ⊎ (w ∈ (rec_at s r).versions)
           → (v : Val) × (w.value ≡ Some v)
-      new w (inl q) = ((access_of (edit_at s k) r).value, ap (λ (u : Version). u.value) q)
+      new w (inl q) = (written_value (access_of (edit_at s k) r), ap (λ (u : Version). u.value) q)
       new w (inr m) = h r w m
 
       both : (b : Bool) (w : Version)

@@ -36,6 +36,7 @@ use Rattle.meaning.proofs.Verdicts.{unless_keeps}
 use Rattle.index.specs.Index.{touched}
 use Rattle.index.proofs.Touching.{Holds, holds_drop, holds_settled, holds_trim, holds_added, named_put, by_names}
 use Rattle.index.proofs.Touching.{by_locks, edit_change, rec_change, map_change}
+use Rattle.meaning.specs.Store.{has_written, written_value}
 
 module _ (k r : ℕ) (h : 1 ≤ k) where
   -- changes of the store that end or settle an edit
@@ -229,7 +230,7 @@ module _ (k r : ℕ) (h : 1 ≤ k) where
     unfolding reading_by read_open_by
     read_after g i m w =
         unless_keeps (Beyond (slot_of g) i) s (read_checks s g i m) (read_open s (slot_of g) i m w) (λ q. inl q)
-        (λ e. go a.written (has_read a))
+        (λ e. go (has_written a) (has_read a))
       where
         a : Access
         a = access_of (edit_at s (slot_of g)) i
@@ -237,7 +238,7 @@ module _ (k r : ℕ) (h : 1 ≤ k) where
         v : Version
         v = version_on (rec_at s i).versions ((access_of (edit_at s (slot_of g)) i).from - 1)
 
-        go : (b c : Bool) → Beyond (slot_of g) i (cond b (replies s (own a.value))
+        go : (b c : Bool) → Beyond (slot_of g) i (cond b (replies s (own (written_value a)))
             (cond c (replies s (again (a.from - 1) v.value)) (read_new s (slot_of g) i m w))).store
         go true c q = inl q
         go false true q = inl q

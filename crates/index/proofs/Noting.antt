@@ -9,7 +9,7 @@ use mathlib.Core.List.{List}
 use lib.Dec.{leb}
 use lib.ListN.{length}
 use borrow.Author.Tests.{eqb-true, leb-true}
-use Rattle.std.specs.Prelude.{Result, Ok, Err}
+use Rattle.std.specs.Prelude.{Result, Ok}
 use Rattle.types.specs.Limits.{SLOTS, FREE, SETTLED}
 use Rattle.types.specs.Replies.{Reply, edit, of_begin}
 use Rattle.types.specs.declared.Refusal.{Refusal}

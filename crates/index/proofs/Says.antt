@@ -11,7 +11,7 @@ use lib.Seq.{get_or-set_same, get_or-set_other}
 use lib.Dec.{eqb, leb}
 use borrow.Author.Tests.{eq-eqb, ne_eqb, eqb-true, leb-true, le-leb, lt-leb}
 use Rattle.types.specs.Limits.{SLOTS}
-use Rattle.meaning.proofs.Lists.{not_both, and_right}
+use Rattle.meaning.proofs.Lists.{not_both, and_left, and_right}
 use Rattle.index.specs.Index.{MARKS, LISTS, LIST, LISTED, UNKNOWN, INDEX, mark_of, count_of, listed_of}
 use Rattle.index.specs.Index.{silent}
 use Rattle.index.specs.Index.{known, turns, turn, Met, Whole, Marked, Cleared}
@@ -32,6 +32,10 @@ module _ (ix : List ℕ) (h : length ix ≡ INDEX) where
 
   set_marked : (k r : ℕ) → silent ix k r ≡ false → mark_of ix k r ≡ 0 → ⊥
   set_marked k r e z = not_both (mark_says k r ∙ eq-eqb (mark_of ix k r) 0 z) e
+
+pub silent_size : (ix : List ℕ) (k r : ℕ) → silent ix k r ≡ true → length ix ≡ INDEX
+unfolding silent
+silent_size ix k r e = eqb-true (length ix) INDEX (and_left _ (eqb (mark_of ix k r) 0) e)
 
 -- another length
 module _ (ix : List ℕ) (h : length ix ≡ INDEX → ⊥) where
@@ -60,7 +64,7 @@ module _ (ix : List ℕ) (k : ℕ) where
 
     pub known_size : length ix ≡ INDEX
     unfolding known
-    known_size = eqb-true (length ix) INDEX (Rattle.meaning.proofs.Lists.and_left _ (leb (count_of ix k) LISTED) e)
+    known_size = eqb-true (length ix) INDEX (and_left _ (leb (count_of ix k) LISTED) e)
 
   module _ (e : known ix k ≡ false) where
     pub turns_unknown : (n : ℕ) → turns ix k n ≡ n

@@ -2,36 +2,87 @@
 // too much and never too little; a slice of another length than `INDEX` says nothing, and one of which every number is
 // `UNKNOWN` is right of every store. The calls only read it; `begun` and `touch` keep it after them. Rests on the
 // crates `types`, `meaning`, `chains`, `tables` and `lookups`. A caller proves that slots and records are in range.
+// Kept, index and slot: numbers lent to be changed; a struct of both would have to promise that they stay lent.
+// Kept, k < SLOTS: of what changes the numbers; for what reads them `IndexOf` holds it.
+// Kept, length ix ≡ INDEX: what `mark` and `clear` have tested, of numbers that change.
+// Kept, handle and record: the parameters of the calls that touch a record, in document 01.
 #![tactic(auto)]
 
 ghost use Rattle.std.specs.Prelude.{◌≡◌, true, false, ◌<◌, length};
-ghost use Rattle.chains.specs.Walk.{IsRow};
 ghost use Rattle.types.specs.Replies.{of_begin};
-ghost use Rattle.tables.specs.Layout.{Fits};
-ghost use Rattle.tables.specs.Decode.{decode_at, AccessRow};
+ghost use Rattle.tables.specs.Decode.{AccessRow};
+ghost use Rattle.tables.specs.Views.{store_in};
 ghost use Rattle.types.specs.Limits.{SLOTS};
 ghost use Rattle.index.specs.Index.{MARKS, INDEX, count_of, silent, known, turns, turn, Indexed};
 ghost use Rattle.index.specs.Index.{RightOfAll, Marked, Cleared, Touched, Begun};
 ghost use Rattle.index.specs.Entries.{Added, Unmarked, Wiped};
 
-use types::{Counts, Handle, Refusal};
+use tables::Slot;
+use types::{Handle, MAX_RECORDS, Refusal, SLOTS};
 
-// 1,024 marks for each of 64 slots, then for each slot a list: how many records it has, and 63 places for them.
-const SLOTS: usize = 64;
+// A mark for each record that there can be, for each of 64 slots; then for each slot a list: how many records it has,
+// and 63 places for them.
+const MARKS: usize = MAX_RECORDS;
 
-const MARKS: usize = 1024;
-
-const LISTS: usize = SLOTS * MARKS;
+const LISTS: usize = SLOTS as usize * MARKS;
 
 const LISTED: u16 = 63;
 
 const LIST: usize = 64;
 
 // How many numbers an index has.
-pub const INDEX: usize = LISTS + SLOTS * LIST;
+pub const INDEX: usize = LISTS + SLOTS as usize * LIST;
 
 // What every number of an index is that knows nothing.
+// Kept: a number in memory that C callers lend, where any may stand; it stands for a list that is given up, too.
 pub const UNKNOWN: u16 = 65535;
+
+// What an index says of one slot.
+#[derive(Clone, Copy)]
+pub struct IndexOf<'a> {
+    pub numbers: &'a [u16],
+    pub slot: usize,
+    ghost of_slot: { slot < SLOTS },
+}
+
+impl<'a> IndexOf<'a> {
+    // Whether it says that the slot has not touched record r.
+    pub fn silent(self, r: usize) -> bool
+        requires { r < MARKS }
+        ensures { result ≡ silent self.entry.numbers.now self.entry.slot r }
+    {
+        self.numbers.len() == INDEX && self.numbers[self.slot * MARKS + r] == 0
+    }
+
+    // Whether the slot's list has every record that is marked.
+    fn known(self) -> bool
+        ensures { result ≡ known self.entry.numbers.now self.entry.slot }
+    {
+        self.numbers.len() == INDEX && self.numbers[LISTS + self.slot * LIST] <= LISTED
+    }
+
+    // A loop of so many turns meets every one of n records that the slot may have touched.
+    pub fn turns(self, n: usize) -> usize
+        ensures { result ≡ turns self.entry.numbers.now self.entry.slot n }
+    {
+        if self.known() {
+            return self.numbers[LISTS + self.slot * LIST] as usize;
+        }
+        n
+    }
+
+    // The record of its turn i.
+    // Kept: no iterator over the list, which would borrow the numbers while `wipe_listed` takes its marks away.
+    pub fn turn(self, i: usize) -> usize
+        requires { known self.numbers.now self.slot ≡ true → i < count_of self.numbers.now self.slot }
+        ensures { result ≡ turn self.entry.numbers.now self.entry.slot i }
+    {
+        if self.known() {
+            return self.numbers[LISTS + self.slot * LIST + 1 + i] as usize;
+        }
+        i
+    }
+}
 
 // An index of which nothing is known yet: it says nothing of any slot until the slot's next Begin.
 pub fn forget(ix: &mut [u16])
@@ -40,56 +91,23 @@ pub fn forget(ix: &mut [u16])
     ix.fill(UNKNOWN);
 }
 
-// Whether the index says that slot k has not touched record r.
-pub fn silent(ix: &[u16], k: usize, r: usize) -> bool
-    requires { (k < SLOTS) × (r < MARKS) }
-    ensures { result ≡ silent ix.now k r }
+// The row of the slot's access of record r; the words are walked where the index does not say that there is none.
+pub fn access_row(s: Slot<'_>, r: u64, ix: &[u16]) -> Option<usize>
+    requires { (r < s.tables.counts.records) × Indexed (store_in s.tables) ix.now }
+    ensures { AccessRow s.entry.tables.counts s.entry.tables.words.now s.entry.number r result }
 {
-    ix.len() == INDEX && ix[k * MARKS + r] == 0
-}
-
-// Whether slot k's list has every record that is marked.
-fn known(ix: &[u16], k: usize) -> bool
-    requires { k < SLOTS }
-    ensures { result ≡ known ix.now k }
-{
-    ix.len() == INDEX && ix[LISTS + k * LIST] <= LISTED
-}
-
-// A loop of so many turns meets every one of n records that slot k may have touched.
-pub fn turns(ix: &[u16], k: usize, n: usize) -> usize
-    requires { k < SLOTS }
-    ensures { result ≡ turns ix.now k n }
-{
-    if known(ix, k) {
-        return ix[LISTS + k * LIST] as usize;
+    let of_slot = IndexOf {
+        numbers: ix,
+        slot: s.number,
+    };
+    if of_slot.silent(r as usize) {
+        return None;
     }
-    n
-}
-
-// The record of its turn i.
-pub fn turn(ix: &[u16], k: usize, i: usize) -> usize
-    requires { (k < SLOTS) × (known ix.now k ≡ true → i < count_of ix.now k) }
-    ensures { result ≡ turn ix.now k i }
-{
-    if known(ix, k) {
-        return ix[LISTS + k * LIST + 1 + i] as usize;
-    }
-    i
-}
-
-// The row of slot k's access of record r, or 0; the words are walked where the index does not say that there is none.
-pub fn access_row(w: &[u64], c: Counts, k: usize, r: u64, ix: &[u16]) -> usize
-    requires { Fits c w.now × IsRow c.edits k × (r < c.records) × Indexed (decode_at c w.now) ix.now }
-    ensures { AccessRow c w.now k r result }
-{
-    if silent(ix, k, chains::wide(r)) {
-        return 0;
-    }
-    lookups::access_row(w, c, k, r)
+    lookups::access_row(s, r)
 }
 
 // Record r comes to slot k's list, which is given up where it is full.
+// Kept: the list and its length are numbers in the memory that C callers lend.
 fn add(ix: &mut [u16], k: usize, r: usize)
     requires { (length ix.old ≡ INDEX) × (k < SLOTS) × (r < MARKS) }
     ensures { Added ix.old ix.new k r }
@@ -108,7 +126,11 @@ fn mark(ix: &mut [u16], k: usize, r: usize)
     requires { (k < SLOTS) × (r < MARKS) }
     ensures { Marked ix.old ix.new k r }
 {
-    if ix.len() == INDEX && ix[k * MARKS + r] == 0 {
+    let of_slot = IndexOf {
+        numbers: ix,
+        slot: k,
+    };
+    if of_slot.silent(r) {
         ix[k * MARKS + r] = 1;
         add(ix, k, r);
     }
@@ -129,13 +151,23 @@ fn wipe_listed(ix: &mut [u16], k: usize)
     requires { (length ix.old ≡ INDEX) × (k < SLOTS) }
     ensures { Wiped ix.old ix.new k (turns ix.old k MARKS) }
 {
-    for i in 0..turns(ix, k, MARKS) {
-        let r = turn(ix, k, i);
+    let before = IndexOf {
+        numbers: ix,
+        slot: k,
+    };
+    let turns = before.turns(MARKS);
+    for i in 0..turns {
+        let now = IndexOf {
+            numbers: ix,
+            slot: k,
+        };
+        let r = now.turn(i);
         unmark(ix, k, r);
     }
 }
 
 // All marks of slot k go: the same where no list is kept, and quicker than turn by turn.
+// Kept: `fill` is the method for it.
 fn wipe_all(ix: &mut [u16], k: usize)
     requires { (length ix.old ≡ INDEX) × (k < SLOTS) × (known ix.old k ≡ false) }
     ensures { Wiped ix.old ix.new k (turns ix.old k MARKS) }
@@ -144,11 +176,16 @@ fn wipe_all(ix: &mut [u16], k: usize)
 }
 
 // All marks of slot k that are set go.
+// Kept: one `if`, with two ways that change the numbers.
 fn wipe(ix: &mut [u16], k: usize)
     requires { (length ix.old ≡ INDEX) × (k < SLOTS) }
     ensures { Wiped ix.old ix.new k (turns ix.old k MARKS) }
 {
-    if known(ix, k) {
+    let of_slot = IndexOf {
+        numbers: ix,
+        slot: k,
+    };
+    if of_slot.known() {
         wipe_listed(ix, k);
     } else {
         wipe_all(ix, k);
@@ -170,9 +207,9 @@ fn clear(ix: &mut [u16], k: usize)
 pub fn touch(ix: &mut [u16], h: Handle, rec: u64)
     ensures { Touched ix.old ix.new h.0 rec }
 {
-    let r = chains::wide(rec);
+    let r = rec as usize;
     if r < MARKS {
-        mark(ix, chains::wide(h.slot()), r);
+        mark(ix, h.slot() as usize, r);
     }
 }
 
@@ -181,6 +218,6 @@ pub fn begun(ix: &mut [u16], r: Result<Handle, Refusal>)
     ensures { Begun ix.old ix.new (of_begin r) }
 {
     if let Ok(h) = r {
-        clear(ix, chains::wide(h.slot()));
+        clear(ix, h.slot() as usize);
     }
 }

@@ -1,5 +1,5 @@
 -- Computed examples: the session of document 01 from its texts and back to them, and lines at the edges of the form.
--- proofs/Examples computes each claim. Rests on Calls, on Shown of the crate `printing` and meaning's session.
+-- proofs/Examples computes each claim. Rests on Calls, on Shown of the crate `replies` and meaning's session.
 use Rattle.std.specs.Prelude.{ℕ, ◌≡◌, List, [], ◌∷◌, map, replicate, Some}
 use Rattle.meaning.specs.Session.{session, session_replies}
 use Rattle.meaning.specs.Calls as M
@@ -7,7 +7,7 @@ use Rattle.types.specs.declared.Call.TheVariants as C
 use Rattle.texts.specs.Text.{text}
 use Rattle.fields.specs.Kinds.{handle}
 use Rattle.lines.specs.Calls.{parsed}
-use Rattle.printing.specs.Shown.{shown}
+use Rattle.replies.specs.Shown.{shown}
 use Rattle.replies.specs.Lines.{line_of}
 use Rattle.fields.specs.Fields.{Parsed, Malformed}
 use Rattle.fields.specs.declared.Command.TheVariants as P

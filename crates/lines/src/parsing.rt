@@ -67,6 +67,7 @@ fn read(fields: &mut Fields<'_>) -> Option<Command>
 }
 
 // C handle, E, L or point, S or K
+// Kept: what it shares with `write` is a `?` at each of its fields, which are of other kinds.
 #[tactic(auto, unfolding(crate::specs::Calls::committing))]
 fn commit(fields: &mut Fields<'_>) -> Option<Command>
     ensures { result ≡ committing fields.old }
@@ -88,6 +89,7 @@ fn abort(fields: &mut Fields<'_>) -> Option<Command>
 }
 
 // P record b
+// Kept: what it shares with `abort` and `view` is a `?` at each of its fields.
 #[tactic(auto, unfolding(crate::specs::Calls::purging))]
 fn purge(fields: &mut Fields<'_>) -> Option<Command>
     ensures { result ≡ purging fields.old }
@@ -98,6 +100,7 @@ fn purge(fields: &mut Fields<'_>) -> Option<Command>
 }
 
 // V record p
+// Kept: the same.
 #[tactic(auto, unfolding(crate::specs::Calls::viewing))]
 fn view(fields: &mut Fields<'_>) -> Option<Command>
     ensures { result ≡ viewing fields.old }
@@ -117,6 +120,7 @@ fn settle(fields: &mut Fields<'_>) -> Option<Command>
 }
 
 // The call of this letter, which these fields follow.
+// Kept: it is document 01's list of letters; a table of functions says the same and finds the letter by hand.
 #[tactic(auto, unfolding(crate::specs::Calls::called))]
 fn called(letter: u8, fields: &mut Fields<'_>) -> Option<Command>
     ensures { result ≡ called·of letter fields.old }

@@ -1,10 +1,10 @@
 -- The ways that Lock ends, one law for each return of the code. Rests on Verdicts and Granting.
-use Prim.Native.Nat.{ℕ, ◌≤◌}
+use Prim.Native.Nat.{ℕ}
 use mathlib.Core.Path.{◌≡◌, sym, ap, ◌∙◌}
 use mathlib.Core.Bool.{Bool, true, false, ◌&&◌}
 use mathlib.Core.List.{List, []}
 use lib.Dec.{leb, ltb}
-use Rattle.types.specs.Limits.{LAST, WRITE, SLOTS}
+use Rattle.types.specs.Limits.{LAST, WRITE}
 use Rattle.meaning.specs.Store.{Store, rec_at}
 use Rattle.types.specs.Numbers.{slot_of}
 use Rattle.meaning.specs.Points.{first_blocked}
@@ -17,13 +17,13 @@ use Rattle.meaning.specs.Locking.{lock_wanted_by}
 use Rattle.meaning.specs.Locking.{locking, locking_by}
 use Rattle.types.specs.declared.Extent.{Extent}
 use Rattle.blocking.specs.declared.Blocked.{Blocked}
-use Rattle.blocking.specs.Search.{first_judged}
+use Rattle.blocking.specs.Search.{judged}
 use Rattle.std.specs.Prelude.{Result, Ok, Err}
-use Rattle.calls.specs.Grants.{lock_grant, refusal_by}
+use Rattle.calls.specs.Grants.{lock_grant, refusal_by, Small}
 use Rattle.calls.proofs.Verdicts.{needs_fails, needs_holds, else_fails, else_holds, edit_open}
 use Rattle.calls.specs.Checks.{open_slot}
 use Rattle.calls.proofs.Checks.{open_refused}
-use Rattle.calls.proofs.Granting.{grant_judged, grant_taken, lock_refused}
+use Rattle.calls.proofs.Granting.{grant_judged, grant_taken}
 use Rattle.calls.proofs.Judged.{by_small, refusal_is}
 
 module _ (s : Store) (h r low high : ℕ) (w : Extent) where
@@ -90,23 +90,22 @@ module _ (s : Store) (k r low high : ℕ) (w : Extent) where
   lock_made = replies (with_lock s r WRITE k lock_from_lem lock_end_lem) (locked lock_from_lem lock_end_lem)
 
   abbrev lock_judged : Blocked
-  lock_judged = first_judged s r WRITE k low high
+  lock_judged = judged s r WRITE k low high
 
   module _ (b : Blocked) (e : Err b ≡ lock_grant w s k r low high) where
-    judged : (lock_granted_lem ≡ false) × (lock_judged ≡ b)
+    granted : (lock_granted_lem ≡ false) × (lock_judged ≡ b)
     unfolding lock_grant
-    judged = grant_judged lock_granted_lem lock_from_lem lock_end_lem lock_judged b (sym e)
+    granted = grant_judged lock_granted_lem lock_from_lem lock_end_lem lock_judged b (sym e)
 
-    pub lock_by_small : b.by ≤ SLOTS
-    lock_by_small = by_small s r WRITE k low high b (sym judged.1)
+    pub lock_by_small : Small b.judgement
+    lock_by_small = by_small s r WRITE k low high b (sym granted.1)
 
-    pub lock_blocked : (n : ℕ) (more : List ℕ) → low ≤ high → refuse n more ≡ refusal_by s b.by
+    pub lock_blocked : (n : ℕ) (more : List ℕ) → refuse n more ≡ refusal_by s b.judgement
         → lock_wanted s k r low high w ≡ replies s (refusing n more)
     unfolding lock_wanted_by lock_verdict
-    lock_blocked n more order f =
-        let i = lock_refused w k (rec_at s r) low high order judged.0 in
+    lock_blocked n more f =
         else_fails s lock_made lock_granted_lem n more (judge s r WRITE k lock_first) (needs (lock_room s) 11 pass)
-        judged.0 (f ∙ refusal_is s r WRITE k low high b (sym judged.1) i)
+        granted.0 (f ∙ refusal_is s r WRITE k low high b (sym granted.1))
 
   module _ (from end : ℕ) (e : Ok (from, end) ≡ lock_grant w s k r low high) where
     lock_taken : lock_wanted s k r low high w

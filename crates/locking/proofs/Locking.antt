@@ -6,7 +6,7 @@ use mathlib.Core.List.{List, []}
 use native.Mathlib.Omega.{arith}
 use lib.Dec.{leb, ltb}
 use borrow.Author.Tests.{ltb-true, lt-ltb, le-ltb, le-leb, lt-leb}
-use Rattle.types.specs.Limits.{LAST, WRITE, SLOTS}
+use Rattle.types.specs.Limits.{LAST, WRITE}
 use Rattle.meaning.specs.Store.{Rec, rec_at}
 use Rattle.types.specs.Numbers.{slot_of}
 use Rattle.meaning.specs.Points.{add_lock}
@@ -27,8 +27,8 @@ use Rattle.tables.proofs.Decoded.{rec_at_lem}
 use Rattle.changes.specs.Becomes.{Becomes, on_locks}
 use Rattle.blocking.specs.declared.Blocked.{Blocked}
 use Rattle.calls.specs.Contract.{Acts, Ready, Makes}
-use Rattle.calls.specs.Grants.{lock_grant, refusal_by}
-use Rattle.calls.specs.Grants.{Grant}
+use Rattle.calls.specs.Grants.{lock_grant, refusal_by, Small}
+use Rattle.blocking.specs.Search.{Grant}
 use Rattle.std.specs.Prelude.{Result, Ok, Err}
 use Rattle.calls.proofs.Acting.{ready, makes_refused, makes_done, makes_as, acts}
 use Rattle.calls.proofs.Handles.{has_record_is}
@@ -43,14 +43,14 @@ module _ (c : Counts) (w : List ℕ) (R : Ready c w) (k r low high : ℕ) (x : E
   granted f = sym f ∙ e
 
   module _ (b : Blocked) (f : g ≡ Err b) where
-    pub wanted_by_small : b.by ≤ SLOTS
+    pub wanted_by_small : Small b.judgement
     wanted_by_small = lock_by_small (decode_at c w) k r low high x b (granted f)
 
-    pub wanted_blocked : (n : ℕ) (more : List ℕ) → low ≤ high → refuse n more ≡ refusal_by (decode_at c w) b.by
+    pub wanted_blocked : (n : ℕ) (more : List ℕ) → refuse n more ≡ refusal_by (decode_at c w) b.judgement
         → Makes c (lock_wanted (decode_at c w) k r low high x) w w (refusing n more)
-    wanted_blocked n more order j =
+    wanted_blocked n more j =
         makes_refused c w (lock_wanted (decode_at c w) k r low high x) n more R.well
-        (lock_blocked (decode_at c w) k r low high x b (granted f) n more order j)
+        (lock_blocked (decode_at c w) k r low high x b (granted f) n more j)
 
   module _ (from end : ℕ) (f : g ≡ Ok (from, end)) where
     pub wanted_no_room : lock_room (decode_at c w) ≡ false

@@ -1,73 +1,70 @@
 // Lock on sound words: equal to its definition in the crate `meaning`, and leaving sound words. For callers who prove
 // the words sound (`requires sound_words`), as the calls of `calls`. It goes along one record's locks. Rests on the
-// crates `types`, `meaning`, `chains`, `tables`, `changes`, `lookups`, `blocking` and `calls`.
+// crates `types`, `meaning`, `locks`, `chains`, `tables`, `changes`, `lookups`, `blocking` and `calls`.
+// Kept, words and counts: lent to be changed; over a struct of both each would promise, too, that they stay (BORROWS).
+// Kept, Ready c w: `Well` and more, of words before a change.
+// Kept, IsRow c.edits k: of words that change; a `Slot` borrows them, so it ends at the first change.
+// Kept, r < c.records: of words that change; a `Record` borrows them, so it ends at the first change.
+// Kept, sound_words: what a caller proves once for many calls, of words that each call changes.
+// Kept, handle and record: the parameters of the call in document 01.
 #![tactic(auto)]
 
-ghost use Rattle.std.specs.Prelude.{◌≡◌, true, ◌≤◌, ◌<◌};
+ghost use Rattle.std.specs.Prelude.{◌≡◌, true, ◌≤◌, ◌<◌, Err};
 ghost use Rattle.chains.specs.Walk.{IsRow};
-ghost use Rattle.types.specs.Limits.{LAST, WRITE};
+ghost use Rattle.types.specs.Limits.{WRITE};
 ghost use Rattle.meaning.specs.Locking.{lock_wanted, locking};
 ghost use Rattle.types.specs.Replies.{of_lock};
 ghost use Rattle.types.specs.declared.Extent.TheVariants.{Part};
 ghost use Rattle.tables.specs.Decode.{decode_at};
+ghost use Rattle.tables.specs.Views.{store_in};
 ghost use Rattle.tables.specs.Words.{lent, sound_words};
-ghost use Rattle.blocking.specs.Search.{first_judged};
+ghost use Rattle.blocking.specs.Search.{run_grant};
 ghost use Rattle.calls.specs.Contract.{Acts, Ready, Makes};
 ghost use Rattle.calls.specs.Grants.{lock_grant};
 
-use blocking::Blocked;
-use types::{Counts, Extent, Handle, LAST, Lock, Point, Refusal, Span, WRITE};
+use blocking::{Blocked, Points, Which};
+use locks::Asker;
+use tables::{Record, Tables};
+use types::{Counts, Extent, Handle, LAST, Lock, Mode, Point, Refusal, Span, WRITE};
 
-// P of Lock where low is blocked, with judgement b: the run from the first free point, if there is one.
-fn later_grant(
-    w: &[u64],
-    c: Counts,
-    k: u64,
-    r: usize,
-    low: u64,
-    high: u64,
-    b: Blocked,
-) -> Result<(u64, u64), Blocked>
-    requires { Ready c w.now × (r < c.records) × (1 ≤ low) × (low ≤ high) × (high ≤ LAST) × (1 ≤ k)
-        × (b ≡ first_judged (decode_at c w.now) r WRITE k low high) }
-    ensures { result ≡ lock_grant Part (decode_at c w.now) k r low high }
+// P of Lock where the first point is blocked, with judgement b: the run from the first free point, if there is one.
+// Kept: the end goes over from the points asked for to the rest of them, a field, with a new start.
+fn later_grant(r: Record<'_>, k: u64, p: Points, b: Blocked) -> Result<(u64, u64), Blocked>
+    requires { Ready r.tables.counts r.tables.words.now × (1 ≤ k)
+        × (Err b ≡ run_grant Part (store_in r.tables) r.number WRITE k p.low p.high) }
+    ensures { result ≡ lock_grant Part (store_in r.entry.tables) k r.entry.number p.low p.high }
 {
-    let from = blocking::first_free(w, c, false, WRITE, k, r, low, high);
-    if high < from {
-        return Err(b);
+    let a = Asker {
+        mode: Mode::Write,
+        slot: k,
+    };
+    match blocking::first_free(r, Which::Against(a), p) {
+        None => Err(b),
+        Some(from) => {
+            let rest = Points {
+                low: from,
+                high: p.high,
+            };
+            blocking::run(r, a, rest, Extent::Part)
+        }
     }
-    let next = blocking::first_blocked(w, c, WRITE, k, r, from, high);
-    Ok((from, next.point - 1))
 }
 
-fn lock_grant(
-    w: &[u64],
-    c: Counts,
-    extent: Extent,
-    k: u64,
-    r: usize,
-    low: u64,
-    high: u64,
-) -> Result<(u64, u64), Blocked>
-    requires { Ready c w.now × (r < c.records) × (1 ≤ low) × (low ≤ high) × (high ≤ LAST) × (1 ≤ k) }
-    ensures { result ≡ lock_grant extent (decode_at c w.now) k r low high }
+// Kept: all or a part is the caller's word; only a part goes on from the first free point.
+fn lock_grant(r: Record<'_>, k: u64, p: Points, extent: Extent) -> Result<(u64, u64), Blocked>
+    requires { Ready r.tables.counts r.tables.words.now × (1 ≤ k) }
+    ensures { result ≡ lock_grant extent (store_in r.entry.tables) k r.entry.number p.low p.high }
 {
-    let b = blocking::first_blocked(w, c, WRITE, k, r, low, high);
-    match extent {
-        Extent::All => {
-            if high < b.point {
-                Ok((low, high))
-            } else {
-                Err(b)
-            }
-        }
-        Extent::Part => {
-            if low < b.point {
-                Ok((low, b.point - 1))
-            } else {
-                later_grant(w, c, k, r, low, high, b)
-            }
-        }
+    let a = Asker {
+        mode: Mode::Write,
+        slot: k,
+    };
+    match blocking::run(r, a, p, extent) {
+        Ok((from, end)) => Ok((from, end)),
+        Err(b) => match extent {
+            Extent::All => Err(b),
+            Extent::Part => later_grant(r, k, p, b),
+        },
     }
 }
 
@@ -77,18 +74,22 @@ fn lock_wanted(
     c: Counts,
     k: usize,
     r: usize,
-    low: u64,
-    high: u64,
+    p: Points,
     extent: Extent,
 ) -> Result<Span, Refusal>
-    requires { Ready c w.old × IsRow c.edits k × (r < c.records) × (1 ≤ low) × (low ≤ high) × (high ≤ LAST) }
-    ensures { Makes c (lock_wanted (decode_at c w.old) k r low high extent) w.old w.new
+    requires { Ready c w.old × IsRow c.edits k × (r < c.records) }
+    ensures { Makes c (lock_wanted (decode_at c w.old) k r p.low p.high extent) w.old w.new
         (of_lock result) }
 {
-    match lock_grant(w, c, extent, k as u64, r, low, high) {
-        Err(b) => Err(calls::judge(w, c, b)),
+    let tables = Tables {
+        words: w,
+        counts: c,
+    };
+    let x = Record { tables, number: r };
+    match lock_grant(x, k as u64, p, extent) {
+        Err(b) => Err(calls::judge(tables, b)),
         Ok((from, end)) => {
-            if !lookups::lock_room(w, c) {
+            if !lookups::lock_room(tables) {
                 return Err(Refusal::NoLockRow);
             }
             changes::add_lock(
@@ -123,7 +124,11 @@ pub fn lock(
     ensures { Acts (locking h.0 rec low.0 high.0 extent) (lent w.old) (lent w.new) (of_lock result) }
 {
     let c = tables::counts_of(w);
-    let k = calls::open_slot(w, c, h)?;
+    let tables = Tables {
+        words: w,
+        counts: c,
+    };
+    let k = calls::open_slot(tables, h)?;
     let r = calls::record(c, rec)?;
     let from = u64::from(low);
     let to = u64::from(high);
@@ -133,8 +138,13 @@ pub fn lock(
     if LAST < to {
         return Err(Refusal::BadPoint);
     }
-    if from <= tables::floor_of(w, c, r) {
+    let x = Record { tables, number: r };
+    if from <= x.floor() {
         return Err(Refusal::BelowFloor);
     }
-    lock_wanted(w, c, k, r, from, to, extent)
+    let p = Points {
+        low: from,
+        high: to,
+    };
+    lock_wanted(w, c, k, r, p, extent)
 }

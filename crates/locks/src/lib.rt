@@ -1,24 +1,40 @@
-// What one lock is to a point, to a slot and to a span of points, by the definitions of `meaning`, and the smaller and
-// the larger of two ends. Rests on the crates `types` and `meaning`; it is a crate of its own so that its wrong
-// programs are tried quickly.
+// What one lock is to a point, to who asks for points and to a span of points, by the definitions of `meaning`. Rests
+// on the crates `types` and `meaning`; it is a crate of its own so that its wrong programs are tried quickly.
 #![tactic(auto)]
 
-ghost use Rattle.std.specs.Prelude.{◌≡◌, suc, min, max, leb};
-ghost use Rattle.meaning.specs.Points.{covers, conflicts, blocks, is_settled_read, touches};
+ghost use Rattle.std.specs.Prelude.{◌≡◌, suc, leb};
+ghost use Rattle.meaning.specs.Points.{covers, is_settled_read, touches};
 ghost use Rattle.meaning.specs.Sound.{starts_read};
 
-use types::{Lock, READ, SETTLED, WRITE};
+use types::{Lock, Mode, READ, SETTLED, WRITE};
 
-pub fn smaller(a: u64, b: u64) -> u64
-    ensures { result ≡ min a b }
-{
-    a.min(b)
+// Who asks for points: a slot, and the mode that it wants them in.
+#[derive(Clone, Copy)]
+pub struct Asker {
+    pub mode: Mode,
+    pub slot: u64,
 }
 
-pub fn larger(a: u64, b: u64) -> u64
-    ensures { result ≡ max a b }
-{
-    a.max(b)
+impl Asker {
+    ghost use Rattle.std.specs.Prelude.{◌≡◌};
+    ghost use Rattle.meaning.specs.Points.{conflicts, blocks};
+    ghost use Rattle.types.specs.Kinds.{mode_number};
+
+    // A lock of another owner would stand in the way of this mode.
+    #[tactic(auto, unfolding(meaning::specs::Points::conflicts))]
+    pub fn conflicts(self, l: Lock) -> bool
+        ensures { result ≡ conflicts (mode_number self.mode) l }
+    {
+        self.mode == Mode::Write || l.mode == WRITE
+    }
+
+    // The lock stands in the way: another owner has it, and it conflicts.
+    #[tactic(auto, unfolding(meaning::specs::Points::blocks))]
+    pub fn blocked_by(self, l: Lock) -> bool
+        ensures { result ≡ blocks (mode_number self.mode) self.slot l }
+    {
+        l.owner != self.slot && self.conflicts(l)
+    }
 }
 
 // The point lies in the lock.
@@ -26,22 +42,6 @@ pub fn covers(p: u64, l: Lock) -> bool
     ensures { result ≡ covers p l }
 {
     l.low <= p && p <= l.high
-}
-
-// A lock of another owner would stand in the way of this mode.
-#[tactic(auto, unfolding(meaning::specs::Points::conflicts))]
-pub fn conflicts(mode: u64, l: Lock) -> bool
-    ensures { result ≡ conflicts mode l }
-{
-    mode == WRITE || l.mode == WRITE
-}
-
-// The lock stands in the way of slot k: another owner has it, and it conflicts.
-#[tactic(auto, unfolding(meaning::specs::Points::blocks))]
-pub fn blocks(mode: u64, k: u64, l: Lock) -> bool
-    ensures { result ≡ blocks mode k l }
-{
-    l.owner != k && conflicts(mode, l)
 }
 
 // A read lock of slot k that starts at from.
@@ -67,6 +67,7 @@ fn adjoins(end: u64, start: u64) -> bool
 }
 
 // A settled read lock that overlaps or adjoins low..high.
+// Kept: the two ends are any words, of a lock that is joined or of points asked for: no type of both has a fact.
 pub fn touches(low: u64, high: u64, l: Lock) -> bool
     ensures { result ≡ touches low high l }
 {

@@ -11,20 +11,19 @@ use lib.ListN.{length, take, length-take}
 use borrow.Author.Tests.{le-leb, lt-leb, ltb-true, ltb-false, eqb-true, eqb-false}
 use Rattle.chains.specs.declared.Table.{Table}
 use Rattle.chains.specs.declared.Heads.{Heads}
-use Rattle.chains.specs.Lists.{first_of}
-use Rattle.chains.specs.Table.{link, chain, head_of, rows_of}
+use Rattle.std.specs.Prelude.{Option, is_some}
+use Rattle.chains.specs.Table.{rows_of}
 use Rattle.chains.specs.Partition.{partition, used}
 use Rattle.chains.proofs.Rooms.{free_used}
-use Rattle.meaning.specs.Store.{versions_used, locks_used, accesses_used, names, is_of, written_of}
+use Rattle.meaning.specs.Store.{versions_used, locks_used, accesses_used, written_of}
 use Rattle.meaning.specs.Outcomes.{lock_room, access_room, version_room}
 use Rattle.types.specs.declared.Counts.{Counts}
 use Rattle.meaning.proofs.Lists.{test}
 use Rattle.tables.specs.Layout.{lock_table, lock_heads, version_table, version_heads, access_table, access_heads}
-use Rattle.tables.specs.Decode.{access_at, access_rows}
-use Rattle.tables.specs.Decode.{accesses_of, slot_at, decode_at}
+use Rattle.tables.specs.Decode.{slot_at, decode_at, AccessRow}
 use Rattle.tables.proofs.Decoded.{edit_at_lem}
 use Rattle.tables.proofs.Rooms.{versions_used_lem, locks_used_lem, accesses_used_lem}
-use Rattle.lookups.proofs.Found.{first_zero, first_some}
+use Rattle.lookups.proofs.Found.{access_named}
 use Rattle.chains.specs.Walk.{IsRow}
 
 -- rows in use and free rows: most rows can be taken off the free chain exactly if so many are not in use
@@ -80,24 +79,13 @@ module _ (c : Counts) (w : List ℕ) where
       less_one (used (access_table c) (access_heads c) w) c.accesses
       ∙ ap (λ n. ltb n c.accesses) (sym (accesses_used_lem c w))
 
-  module _ (k r : ℕ) (l : IsRow c.edits k) {i : ℕ}
-      (d : i ≡ first_of (λ j. is_of r (access_at c w j)) (access_rows c w k)) where
-    named_yes : (i ≡ 0 → ⊥) → names (slot_at c w k) r ≡ true
-    unfolding names slot_at accesses_of
-    named_yes n = first_some (is_of r) (access_at c w) (access_rows c w k) (λ z. n (d ∙ z))
-
-    named_no : i ≡ 0 → names (slot_at c w k) r ≡ false
-    unfolding names slot_at accesses_of access_rows rows_of chain access_table
-    named_no z =
-        first_zero (is_of r) (access_at c w) (link (access_table c) w) c.accesses c.accesses
-        (head_of (access_heads c) w k) (sym d ∙ z)
-
-    pub access_room_named : (i ≡ 0 → ⊥) → true ≡ access_room (decode_at c w) k r
+  module _ (k r : ℕ) (l : IsRow c.edits k) {i : Option ℕ} (d : AccessRow c w k r i) where
+    pub access_room_named : is_some i ≡ true → true ≡ access_room (decode_at c w) k r
     unfolding access_room
-    access_room_named n = rw (edit_at_lem c w k l, named_yes n) refl
+    access_room_named n = rw (edit_at_lem c w k l, access_named c w k r d, n) refl
 
-    pub access_room_is : {q : Bool} → i ≡ 0
+    pub access_room_is : {q : Bool} → is_some i ≡ false
         → q ≡ leb (used (access_table c) (access_heads c) w + 1) (access_table c).count
         → q ≡ access_room (decode_at c w) k r
     unfolding access_room
-    access_room_is z e = rw (edit_at_lem c w k l, named_no z) (e ∙ access_sized)
+    access_room_is z e = rw (edit_at_lem c w k l, access_named c w k r d, z) (e ∙ access_sized)

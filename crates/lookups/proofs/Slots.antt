@@ -7,16 +7,21 @@ use mathlib.Core.Bool.{Bool, true, false, not, false≢true}
 use mathlib.Core.List.{List}
 use native.Mathlib.Omega.{arith}
 use lib.Dec.{leb, eqb}
-use borrow.Author.Tests.{leb-true, leb-false, eqb-true, eqb-false, eq-eqb, ne_eqb, not-false}
+use borrow.Author.Tests.{leb-true, leb-false, le-leb, lt-leb, eqb-true, eqb-false, eq-eqb, ne_eqb, not-false}
+use Rattle.std.specs.Prelude.{Some, None}
 use Rattle.chains.specs.Walk.{IsRow}
 use Rattle.types.specs.Limits.{FREE, OPEN}
 use Rattle.meaning.specs.Store.{Edit, fresh_edit, edit_of, in_use}
 use Rattle.types.specs.Numbers.{slot_of, generation_of}
-use Rattle.meaning.specs.Edits.{free_from, free_slot}
+use Rattle.meaning.specs.Edits.{free_from}
 use Rattle.meaning.specs.Outcomes.{knows, is_open}
 use Rattle.types.specs.declared.Counts.{Counts}
 use Rattle.meaning.proofs.Lists.{test, get_d_past}
 use Rattle.tables.specs.Decode.{build, slot_at, edits_of, decode_at}
+use Rattle.tables.specs.declared.views.Tables.{Tables}
+use Rattle.tables.specs.declared.views.Slot.{Slot}
+use Rattle.tables.specs.Views.{store_in, edit_in}
+use Rattle.lookups.specs.Slots.{SlotOf, first_free}
 use Rattle.tables.proofs.Decoded.{edit_of_lem, edits_length}
 
 module _ (c : Counts) (w : List ℕ) where
@@ -43,28 +48,52 @@ module _ (c : Counts) (w : List ℕ) where
       go (inl h) = record { low = omega arith; high = leb-true (suc i) c.edits h }
       go (inr h) = absurd (false≢true (used_past (suc i) (leb-false (suc i) c.edits h) ∙ sym d ∙ e))
 
-  -- handles: k is the slot of h, q whether it is in use
-  module _ (h k : ℕ) (s : k ≡ slot_of h) {q : Bool} (d : q ≡ in_use (edits_of c w) k) where
-    pub known_no : q ≡ false → false ≡ knows (decode_at c w) h
+-- the slot of a handle: o is what the search for it answers
+module _ (t : Tables) (h : ℕ) where
+  pub slot_none : (k : ℕ) → k ≡ slot_of h → ((k ≡ 0) ⊎ (t.counts.edits < k)) → SlotOf t h None
+  unfolding decode_at
+  slot_none k e (inl z) = rw e at (sym (used_zero t.counts t.words.now k z))
+  slot_none k e (inr l) = rw e at (sym (used_past t.counts t.words.now k l))
+
+  pub slot_free : (k : ℕ) {q : ℕ} → k ≡ slot_of h → IsRow t.counts.edits k → q ≡ (slot_at t.counts t.words.now k).state
+      → q ≡ FREE → SlotOf t h None
+  unfolding decode_at
+  slot_free k {q} e l d z =
+      rw e at (sym (used_is t.counts t.words.now k l d) ∙ ap not (eq-eqb q FREE z))
+
+  pub slot_used : (k : ℕ) {q : ℕ} → k ≡ slot_of h → IsRow t.counts.edits k → q ≡ (slot_at t.counts t.words.now k).state
+      → (q ≡ FREE → ⊥) → in_use (store_in t).edits (slot_of h) ≡ true
+  unfolding decode_at
+  slot_used k {q} e l d n =
+      rw e at (sym (used_is t.counts t.words.now k l d) ∙ ap not (ne_eqb q FREE n))
+
+  pub known_none : SlotOf t h None → false ≡ knows (store_in t) h
+  unfolding knows decode_at
+  known_none d = rw d refl
+
+  pub open_none : SlotOf t h None → false ≡ is_open (store_in t) h
+  unfolding is_open decode_at in_use
+  open_none d =
+      let k : ℕ = slot_of h in
+      let f : (edit_of (edits_of t.counts t.words.now) k).state ≡ FREE =
+      eqb-true (edit_of (edits_of t.counts t.words.now) k).state FREE
+      (not-false (eqb (edit_of (edits_of t.counts t.words.now) k).state FREE) d) in
+      rw f refl
+
+  -- and what its words say
+  module _ (s : Slot) (d : SlotOf t h (Some s)) where
+    row : IsRow t.counts.edits (slot_of h)
+    unfolding decode_at
+    row = used_row t.counts t.words.now (slot_of h) (sym d.2) refl
+
+    pub known_some : {g j : ℕ} → g ≡ (edit_in s).generation → j ≡ generation_of h → eqb g j ≡ knows (store_in t) h
     unfolding knows decode_at
-    known_no e = rw (← s, sym d ∙ e) refl
+    known_some e f =
+        rw (d.2, edit_of_lem t.counts t.words.now (slot_of h) row, ← d.0, ← d.1, e, f) refl
 
-    pub known_is : {i g j : ℕ} → q ≡ true → i ≡ k → g ≡ (slot_at c w i).generation → j ≡ generation_of h
-        → eqb g j ≡ knows (decode_at c w) h
-    unfolding knows decode_at
-    known_is e x y z = rw (← s, sym d ∙ e, edit_of_lem c w k (used_row k d e), y, x, z) refl
-
-    pub open_no : q ≡ false → false ≡ is_open (decode_at c w) h
-    unfolding is_open decode_at in_use
-    open_no e =
-        let f : (edit_of (edits_of c w) k).state ≡ FREE =
-        eqb-true (edit_of (edits_of c w) k).state FREE
-        (not-false (eqb (edit_of (edits_of c w) k).state FREE) (sym d ∙ e)) in
-        rw (← s, f) refl
-
-    pub open_is : {i g : ℕ} → q ≡ true → i ≡ k → g ≡ (slot_at c w i).state → eqb g OPEN ≡ is_open (decode_at c w) h
+    pub open_some : {q : ℕ} → q ≡ (edit_in s).state → eqb q OPEN ≡ is_open (store_in t) h
     unfolding is_open decode_at
-    open_is e x y = rw (← s, edit_of_lem c w k (used_row k d e), y, x) refl
+    open_some e = rw (edit_of_lem t.counts t.words.now (slot_of h) row, ← d.0, ← d.1, e) refl
 
 -- the lowest free one of slots built from a function
 free_at : (n k : ℕ) (f : ℕ → Edit) (j : ℕ) → j < n → ((i : ℕ) → i < j → (f i).state ≡ FREE → ⊥) → (f j).state ≡ FREE
@@ -104,16 +133,19 @@ module _ {c : Counts} {w : List ℕ} where
       go j h z (inr q) = i.used j (omega (arith, eqb-false (suc j) k q)) z
 
   pub passed_found : (k : ℕ) {s : ℕ} → Passed c w k → k ≤ c.edits → s ≡ (slot_at c w k).state → s ≡ FREE
-      → k ≡ free_slot (decode_at c w)
-  unfolding decode_at edits_of
+      → Some k ≡ first_free (decode_at c w)
+  unfolding first_free decode_at edits_of
   passed_found zero i l e f = absurd (omega (arith, i.low))
   passed_found (suc j) i l e f =
       let s : 1 + j ≡ suc j = omega arith in
-      sym
-      (free_at c.edits 1 (λ x. slot_at c w (suc x)) j (omega arith) (λ x q. i.used x (omega arith)) (sym e ∙ f) ∙ s)
+      let found : free_from 1 (build c.edits (λ x. slot_at c w (suc x))) ≡ suc j =
+      free_at c.edits 1 (λ x. slot_at c w (suc x)) j (omega arith) (λ x q. i.used x (omega arith)) (sym e ∙ f) ∙ s in
+      rw (found, edits_length c w, le-leb (suc j) c.edits l) refl
 
-  pub passed_done : (k : ℕ) → Passed c w k → c.edits < k → c.edits + 1 ≡ free_slot (decode_at c w)
-  unfolding decode_at edits_of
+  pub passed_done : (k : ℕ) → Passed c w k → c.edits < k → None ≡ first_free (decode_at c w)
+  unfolding first_free decode_at edits_of
   passed_done k i l =
-      let s : 1 + c.edits ≡ c.edits + 1 = omega arith in
-      sym (free_none c.edits 1 (λ x. slot_at c w (suc x)) (λ x q. i.used x (omega arith)) ∙ s)
+      let s : 1 + c.edits ≡ suc c.edits = omega arith in
+      let none : free_from 1 (build c.edits (λ x. slot_at c w (suc x))) ≡ suc c.edits =
+      free_none c.edits 1 (λ x. slot_at c w (suc x)) (λ x q. i.used x (omega arith)) ∙ s in
+      rw (none, edits_length c w, lt-leb (suc c.edits) c.edits (omega arith)) refl

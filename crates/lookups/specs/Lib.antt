@@ -1,2 +1,4 @@
--- What the row of an access tells. Rests on the crates `types`, `meaning` and `tables`.
+-- What the lookups find: the slot of a handle, the row of an access. Rests on the crates `types`, `meaning` and
+-- `tables`.
 pub mod Accesses
+pub mod Slots

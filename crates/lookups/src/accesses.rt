@@ -1,41 +1,38 @@
 // An edit's access of a record: its row, found by one walk, and the access in that row. On any words with these counts.
 // Rests on the crates `types`, `chains` and `tables`.
-ghost use Rattle.std.specs.Prelude.{◌≤◌};
-ghost use Rattle.chains.specs.Walk.{IsRow};
-ghost use Rattle.tables.specs.Layout.{Fits};
+ghost use Rattle.std.specs.Prelude.{◌≡◌};
+ghost use Rattle.meaning.specs.Store.{access_of};
 ghost use Rattle.tables.specs.Decode.{AccessRow};
-ghost use Rattle.lookups.specs.Accesses.{InRow};
+ghost use Rattle.tables.specs.Views.{edit_in};
 
-use types::{Access, Counts};
+use chains::Placed;
+use tables::{A_RECORD, Part, Row, Slot};
+use types::Access;
 
-// The row of slot k's access of record r, or 0.
-pub fn access_row(w: &[u64], c: Counts, k: usize, r: u64) -> usize
-    requires { Fits c w.now × IsRow c.edits k }
-    ensures { AccessRow c w.now k r result }
+// The row of the slot's access of record r.
+// Kept: `first_with` is the generic one, at the chain of the slot and the word of the record.
+pub fn access_row(s: Slot<'_>, r: u64) -> Option<usize>
+    ensures { AccessRow s.entry.tables.counts s.entry.tables.words.now s.entry.number r result }
 {
-    let first = tables::first_access(w, c, k);
-    chains::first_with(
-        w,
-        tables::access_table(c),
-        tables::A_RECORD,
-        chains::wide(r),
-        first,
-    )
-    .unwrap_or(0)
+    let t = s.tables;
+    let placed = Placed {
+        words: t.words,
+        table: Access::table(t.counts),
+    };
+    placed.first_with(A_RECORD, r as usize, t.first::<Access>(s.number))
 }
 
-// The access of record r by the edit whose row of it is i.
-pub fn access_in(w: &[u64], c: Counts, r: u64, i: usize) -> Access
-    requires { Fits c w.now × (i ≤ c.accesses) }
-    ensures { InRow c w.now r i result }
+// The slot's access of record r, whose row is i.
+pub fn access_in(s: Slot<'_>, r: u64, i: Option<usize>) -> Access
+    requires { AccessRow s.tables.counts s.tables.words.now s.number r i }
+    ensures { result ≡ access_of (edit_in s.entry) r }
 {
-    if i == 0 {
-        return Access {
+    match i {
+        Some(row) => Access::read(s.tables, row),
+        None => Access {
             rec: r,
             from: 0,
-            written: false,
-            value: 0,
-        };
+            value: None,
+        },
     }
-    tables::access_at(w, c, i)
 }

@@ -1,59 +1,56 @@
-// Edits: the slot of a handle, whether it is known and open, and the lowest free slot. Each equals a function of the
-// decoded store, on any words with these counts. Rests on the crates `types`, `meaning`, `chains` and `tables`.
+// Edits: whether a handle is known and open, and the lowest free slot. Each equals a function of the decoded store, on
+// any words with these counts. Rests on the crates `types`, `meaning`, `chains` and `tables`.
 ghost use Rattle.std.specs.Prelude.{◌≡◌};
 ghost use Rattle.meaning.specs.Store.{in_use};
-ghost use Rattle.meaning.specs.Edits.{free_slot};
 ghost use Rattle.meaning.specs.Outcomes.{knows, is_open};
-ghost use Rattle.tables.specs.Layout.{Fits};
-ghost use Rattle.tables.specs.Decode.{decode_at, edits_of};
+ghost use Rattle.tables.specs.Views.{store_in};
+ghost use Rattle.lookups.specs.Slots.{SlotOf, first_free};
 
-use types::{Counts, FREE, Handle, OPEN};
+use tables::{Slot, Tables};
+use types::{FREE, Handle, OPEN};
 
-// Slot 0 and slots past the end read as free.
-pub fn slot_used(w: &[u64], c: Counts, k: u64) -> bool
-    requires { Fits c w.now }
-    ensures { result ≡ in_use (edits_of c w.now) k }
+// The slot of a handle, if there is one and it is in use.
+fn slot_of<'a>(t: Tables<'a>, h: Handle) -> Option<Slot<'a>>
+    ensures { SlotOf t.entry h.0 result }
 {
-    if k == 0 {
-        return false;
+    let number = h.slot() as usize;
+    if number == 0 || t.counts.edits < number {
+        return None;
     }
-    if chains::word(c.edits) < k {
-        return false;
+    let s = Slot { tables: t, number };
+    if s.state() == FREE {
+        return None;
     }
-    tables::state_of(w, c, chains::wide(k)) != FREE
+    Some(s)
 }
 
-pub fn known(w: &[u64], c: Counts, h: Handle) -> bool
-    requires { Fits c w.now }
-    ensures { result ≡ knows (decode_at c w.now) h.0 }
+pub fn known(t: Tables<'_>, h: Handle) -> bool
+    ensures { result ≡ knows (store_in t.entry) h.0 }
 {
-    let k = h.slot();
-    if !slot_used(w, c, k) {
-        return false;
+    match slot_of(t, h) {
+        Some(s) => s.generation() == h.generation(),
+        None => false,
     }
-    tables::generation_of(w, c, chains::wide(k)) == h.generation()
 }
 
-pub fn is_open(w: &[u64], c: Counts, h: Handle) -> bool
-    requires { Fits c w.now }
-    ensures { result ≡ is_open (decode_at c w.now) h.0 }
+// Kept: `slot_of` is what it shares with `known`; what is asked of the slot is a line in each.
+pub fn is_open(t: Tables<'_>, h: Handle) -> bool
+    ensures { result ≡ is_open (store_in t.entry) h.0 }
 {
-    let k = h.slot();
-    if !slot_used(w, c, k) {
-        return false;
+    match slot_of(t, h) {
+        Some(s) => s.state() == OPEN,
+        None => false,
     }
-    tables::state_of(w, c, chains::wide(k)) == OPEN
 }
 
-// The lowest free slot, or one more than there are.
-pub fn free_slot(w: &[u64], c: Counts) -> usize
-    requires { Fits c w.now }
-    ensures { result ≡ free_slot (decode_at c w.now) }
+// The lowest free slot.
+pub fn free_slot(t: Tables<'_>) -> Option<usize>
+    ensures { result ≡ first_free (store_in t.entry) }
 {
-    for k in 1..=c.edits {
-        if tables::state_of(w, c, k) == FREE {
-            return k;
+    for number in 1..=t.counts.edits {
+        if (Slot { tables: t, number }).state() == FREE {
+            return Some(number);
         }
     }
-    c.edits + 1
+    None
 }

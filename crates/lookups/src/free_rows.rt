@@ -1,64 +1,58 @@
 // Rooms: whether a table has the free rows that a change takes. On well-formed words, whose free chain holds every row
 // that no other chain has. Rests on the crates `types`, `meaning`, `chains` and `tables`.
-ghost use Rattle.std.specs.Prelude.{◌≡◌, true, cond, suc, ◌+◌, ◌<◌, length, leb};
-ghost use Rattle.chains.specs.Walk.{IsRow};
-ghost use Rattle.chains.specs.Table.{Laid};
+ghost use Rattle.std.specs.Prelude.{◌≡◌, true, ◌+◌, length, leb};
 ghost use Rattle.chains.specs.Partition.{partition, used};
-ghost use Rattle.types.specs.Limits.{MAX_ROWS};
 ghost use Rattle.meaning.specs.Store.{written_of};
 ghost use Rattle.meaning.specs.Outcomes.{lock_room, version_room};
-ghost use Rattle.tables.specs.Layout.{Fits};
-ghost use Rattle.tables.specs.Decode.{decode_at, slot_at};
 ghost use Rattle.tables.specs.Words.{Well};
+ghost use Rattle.tables.specs.Views.{store_in, edit_in};
 ghost use Rattle.lookups.specs.Accesses.{RoomBeside};
 
-use chains::{Heads, Table};
-use types::Counts;
+use chains::Placed;
+use tables::{Row, Slot, Tables};
+use types::{Access, Lock, Version};
 
-// Whether a table has so many free rows; no more rows than that are walked.
-fn has_free(w: &[u64], t: Table, h: Heads, most: usize) -> bool
-    requires { Laid t h w.now × (partition t h w.now ≡ true) }
-    ensures { result ≡ leb (used t h w.now + most) t.count }
+// Whether the chains of a kind of row leave so many rows free; no more rows than that are walked.
+fn has_free<R: Row>(t: Tables<'_>, most: usize) -> bool
+    requires { partition (R.table t.counts) (R.heads t.counts) t.words.now ≡ true }
+    ensures { result
+        ≡ leb (used (R.table t.entry.counts) (R.heads t.entry.counts) t.entry.words.now + most)
+        (R.table t.entry.counts).count }
 {
-    chains::Walk::new(w, t, chains::head_of(w, h, 0))
-        .take(most)
-        .count()
-        == most
+    let placed = Placed {
+        words: t.words,
+        table: R::table(t.counts),
+    };
+    placed.rows(t.first::<R>(0)).take(most).count() == most
 }
 
-pub fn lock_room(w: &[u64], c: Counts) -> bool
-    requires { Well c w.now }
-    ensures { result ≡ lock_room (decode_at c w.now) }
+pub fn lock_room(t: Tables<'_>) -> bool
+    requires { Well t.counts t.words.now }
+    ensures { result ≡ lock_room (store_in t.entry) }
 {
-    has_free(w, tables::lock_table(c), tables::lock_heads(c), 1)
+    has_free::<Lock>(t, 1)
 }
 
-// Room for an access of record r by the edit whose row of it is i.
-pub fn access_room(w: &[u64], c: Counts, i: usize) -> bool
-    requires { Well c w.now }
-    ensures { RoomBeside c w.now i result }
+// Room for an access of a record by the edit whose row of it is i.
+// Kept: `has_free` is the generic one; what a call needs is a line in each.
+pub fn access_room(t: Tables<'_>, i: Option<usize>) -> bool
+    requires { Well t.counts t.words.now }
+    ensures { RoomBeside t.entry.counts t.entry.words.now i result }
 {
-    if i != 0 {
-        return true;
-    }
-    has_free(w, tables::access_table(c), tables::access_heads(c), 1)
+    i.is_some() || has_free::<Access>(t, 1)
 }
 
-fn written_count(w: &[u64], c: Counts, k: usize) -> usize
-    requires { Fits c w.now × IsRow c.edits k }
-    ensures { result ≡ length (written_of (slot_at c w.now k)) }
+// Kept: the method of the iterator is the generic one; the line shows the test.
+fn written_count(s: Slot<'_>) -> usize
+    ensures { result ≡ length (written_of (edit_in s.entry)) }
 {
-    tables::accesses(w, c, k).filter(|a| a.written).count()
+    s.accesses().filter(|a| a.value.is_some()).count()
 }
 
-pub fn version_room(w: &[u64], c: Counts, k: usize) -> bool
-    requires { Well c w.now × IsRow c.edits k }
-    ensures { result ≡ version_room (decode_at c w.now) k }
+// Kept: `has_free` is the generic one.
+pub fn version_room(s: Slot<'_>) -> bool
+    requires { Well s.tables.counts s.tables.words.now }
+    ensures { result ≡ version_room (store_in s.entry.tables) s.entry.number }
 {
-    has_free(
-        w,
-        tables::version_table(c),
-        tables::version_heads(c),
-        written_count(w, c, k),
-    )
+    has_free::<Version>(s.tables, written_count(s))
 }

@@ -11,6 +11,6 @@ mod free_rows;
 mod versions;
 
 pub use accesses::{access_in, access_row};
-pub use edits::{free_slot, is_open, known, slot_used};
+pub use edits::{free_slot, is_open, known};
 pub use free_rows::{access_room, lock_room, version_room};
 pub use versions::{newest_at, newest_below, version_on, version_stands};

@@ -1,13 +1,13 @@
-// Versions of a record r: the newest below or at a point, and the one that stands on it. Each is one walk of the
+// Versions of a record: the newest below or at a point, and the one that stands on it. Each is one walk of the
 // record's version chain. Rests on the crates `types`, `meaning`, `chains` and `tables`.
-ghost use Rattle.std.specs.Prelude.{◌≡◌, ◌≤◌, ◌<◌, eqb};
+ghost use Rattle.std.specs.Prelude.{◌≡◌, ◌≤◌, eqb};
 ghost use Rattle.types.specs.Limits.{LAST};
 ghost use Rattle.meaning.specs.Store.{newest_at, newest_below, version_on};
 ghost use Rattle.meaning.specs.Lists.{any};
-ghost use Rattle.tables.specs.Layout.{Fits};
-ghost use Rattle.tables.specs.Decode.{record_at};
+ghost use Rattle.tables.specs.Views.{rec_in};
 
-use types::{Counts, Version};
+use tables::Record;
+use types::Version;
 
 // A record's first state, below all its versions: never written.
 const FIRST: Version = Version {
@@ -16,36 +16,31 @@ const FIRST: Version = Version {
     spare: 0,
 };
 
-pub fn newest_below(w: &[u64], c: Counts, r: usize, m: u64) -> Version
-    requires { Fits c w.now × (r < c.records) }
-    ensures { result ≡ newest_below (record_at c w.now r).versions m }
+// Kept: the iterator's method is the generic one, the line shows the test. A chain can only be walked, falling or not.
+pub fn newest_below(r: Record<'_>, m: u64) -> Version
+    ensures { result ≡ newest_below (rec_in r.entry).versions m }
 {
-    tables::versions(w, c, r)
-        .find(|v| v.point < m)
-        .unwrap_or(FIRST)
+    r.versions().find(|v| v.point < m).unwrap_or(FIRST)
 }
 
-pub fn newest_at(w: &[u64], c: Counts, r: usize, p: u64) -> Version
-    requires { Fits c w.now × (r < c.records) × (p ≤ LAST) }
-    ensures { result ≡ newest_at (record_at c w.now r).versions p }
+// Kept: the iterator's method is the generic one, the line shows the test. A chain can only be walked, falling or not.
+pub fn newest_at(r: Record<'_>, p: u64) -> Version
+    requires { p ≤ LAST }
+    ensures { result ≡ newest_at (rec_in r.entry).versions p }
 {
-    tables::versions(w, c, r)
-        .find(|v| v.point <= p)
-        .unwrap_or(FIRST)
+    r.versions().find(|v| v.point <= p).unwrap_or(FIRST)
 }
 
-pub fn version_on(w: &[u64], c: Counts, r: usize, p: u64) -> Version
-    requires { Fits c w.now × (r < c.records) }
-    ensures { result ≡ version_on (record_at c w.now r).versions p }
+// Kept: the iterator's method is the generic one, the line shows the test. A chain can only be walked, falling or not.
+pub fn version_on(r: Record<'_>, p: u64) -> Version
+    ensures { result ≡ version_on (rec_in r.entry).versions p }
 {
-    tables::versions(w, c, r)
-        .find(|v| v.point == p)
-        .unwrap_or(FIRST)
+    r.versions().find(|v| v.point == p).unwrap_or(FIRST)
 }
 
-pub fn version_stands(w: &[u64], c: Counts, r: usize, p: u64) -> bool
-    requires { Fits c w.now × (r < c.records) }
-    ensures { result ≡ any (λ v. eqb v.point p) (record_at c w.now r).versions }
+// Kept: the iterator's method is the generic one, the line shows the test. A chain can only be walked, falling or not.
+pub fn version_stands(r: Record<'_>, p: u64) -> bool
+    ensures { result ≡ any (λ v. eqb v.point p) (rec_in r.entry).versions }
 {
-    tables::versions(w, c, r).any(|v| v.point == p)
+    r.versions().any(|v| v.point == p)
 }

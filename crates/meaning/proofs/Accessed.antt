@@ -12,9 +12,10 @@ use Rattle.meaning.specs.Store.{Access, Edit, Store, edit_at, is_of, no_access, 
 use Rattle.meaning.specs.Sound.{names_once}
 use Rattle.meaning.specs.Causes.{Accessed}
 use Rattle.meaning.proofs.Lists.{find_out, any_none, pairwise_out}
+use Rattle.meaning.specs.Store.{has_written}
 
 abbrev Used : Access → Type 0
-Used a = (a.written ≡ true) ⊎ (0 < a.from)
+Used a = (has_written a ≡ true) ⊎ (0 < a.from)
 
 none_used : (r : ℕ) → Used (no_access r) → ⊥
 none_used r (inl e) = false≢true e

@@ -38,6 +38,7 @@ use Rattle.meaning.proofs.Granted.{lock_taken}
 use Rattle.meaning.proofs.SoundParts.{sound_out}
 use Rattle.meaning.proofs.Stores.{edit_same, edit_past, used_in}
 use Rattle.meaning.proofs.Verdicts.{needs_pass, or_else_pass, judge_refuses, knows_out, is_open_out}
+use Rattle.meaning.specs.Store.{has_written}
 
 -- a granted reply passed its checks
 granted_pass : (s : Store) (v : Verdict) (o : Outcome) → refused (unless s v o).reply ≡ false → v ≡ pass
@@ -186,7 +187,7 @@ module _ (s : Store) (h r m : ℕ) (w : Extent) (tr end : ℕ) (v : Value) (e : 
     read_new_lem : read_open s (slot_of h) r m w ≡ read_new s (slot_of h) r m w
     unfolding read_open_by
     read_new_lem =
-        go (access_of (edit_at s (slot_of h)) r).written (has_read (access_of (edit_at s (slot_of h)) r)) _ _ _
+        go (has_written (access_of (edit_at s (slot_of h)) r)) (has_read (access_of (edit_at s (slot_of h)) r)) _ _ _
         (ap (λ (o : Outcome). o.reply) (sym read_open_lem) ∙ e)
       where
         go : (p q : Bool) (u : Val) (c : ℕ) (d : Value)

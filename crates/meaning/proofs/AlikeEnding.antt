@@ -36,6 +36,7 @@ use Rattle.meaning.proofs.Same.{in_common_same, earliest_same, latest_same}
 use Rattle.meaning.proofs.Alike.{Locks, add_alike, drop_alike, left_alike}
 use Rattle.meaning.proofs.AlikeRecs.{Recs, map_alike, total_most, recs_to, recs_from}
 use Rattle.meaning.proofs.AlikeStores.{mk, Step, unless_step}
+use Rattle.meaning.specs.Store.{has_written}
 
 -- what settling leaves of a record's locks
 settled_locks_lem : (k : ℕ) (e : Edit) (r : ℕ) {xs ys : List Lock} → (SETTLED ≡ k → ⊥)
@@ -62,7 +63,7 @@ settled_locks_lem k e r {xs} {ys} n f a = go (eqb e.state COMMITTED) refl
         → Locks (cond b (locks_left_by plain e (access_of e r) (drop_owner k xs)) (drop_owner k xs))
         (cond b (locks_left_by joined e (access_of e r) (drop_owner k ys)) (drop_owner k ys))
     go true q =
-        writes (access_of e r).written _ _ (reads (has_read (access_of e r)) (f (eqb-true e.state COMMITTED q)))
+        writes (has_written (access_of e r)) _ _ (reads (has_read (access_of e r)) (f (eqb-true e.state COMMITTED q)))
     go false q = dropped
 
 -- the accesses of an edit begin at or below a point of its common set
@@ -183,7 +184,8 @@ module _ (vn ln an : ℕ) (es : List Edit) (rs us : List Rec) (R : Recs rs us) (
         each = map_alike (committed_rec e p) (committed_rec e p)
             (λ i x y a. record {
               versions =
-                  ap (λ vs. cond (access_of e i).written (insert (new_version (access_of e i) p) vs) vs) a.versions;
+                  ap (λ vs. cond (has_written (access_of e i)) (insert (new_version (access_of e i) p) vs) vs)
+                  a.versions;
               floor = a.floor;
               locks = a.locks;
             })

@@ -38,6 +38,7 @@ use Rattle.meaning.proofs.Same.{first_blocked_same, first_open_same, holder_same
 use Rattle.meaning.proofs.Alike.{perm_member, perm_sym, is_plain, plains, add_alike}
 use Rattle.meaning.proofs.Alike.{trim_alike, shorter}
 use Rattle.meaning.proofs.AlikeRecs.{AlikeRec, Recs, Good, total_most, set_recs, recs_to, recs_from}
+use Rattle.meaning.specs.Store.{has_written, written_value}
 
 counts_eq : (n m a b : ℕ) → n ≡ m → SameReply (purged n a) (purged m b)
 counts_eq n m a b e = rw (← e) (counts n a b)
@@ -336,17 +337,17 @@ module _ (vn ln an : ℕ) where
       read_open_lem : (k r m : ℕ) (w : Extent) → 1 ≤ m
           → Or11 (read_open_by plain s k r m w) (read_open_by joined t k r m w)
       unfolding read_open_by
-      read_open_lem k r m w one = go (access_of (edit_of es k) r).written (has_read (access_of (edit_of es k) r))
+      read_open_lem k r m w one = go (has_written (access_of (edit_of es k) r)) (has_read (access_of (edit_of es k) r))
         where
           v : Version
           v = version_on (rec_of rs r).versions ((access_of (edit_of es k) r).from - 1)
 
           go : (b c : Bool) → Or11
-              (cond b (replies s (own (access_of (edit_of es k) r).value))
+              (cond b (replies s (own (written_value (access_of (edit_of es k) r))))
               (cond c (replies s (again ((access_of (edit_of es k) r).from - 1) (version_on (rec_of rs r).versions
               ((access_of (edit_of es k) r).from - 1)).value))
               (read_new_by plain s k r m w)))
-              (cond b (replies t (own (access_of (edit_of es k) r).value))
+              (cond b (replies t (own (written_value (access_of (edit_of es k) r))))
               (cond c (replies t (again ((access_of (edit_of es k) r).from - 1) (version_on (rec_of us r).versions
               ((access_of (edit_of es k) r).from - 1)).value))
               (read_new_by joined t k r m w)))

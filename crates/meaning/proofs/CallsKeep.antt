@@ -31,6 +31,7 @@ use Rattle.meaning.proofs.EditChanged.{begun_sound}
 use Rattle.meaning.proofs.AccessPut.{access_room_out, written_sound}
 use Rattle.meaning.proofs.LockAdded.{locked_sound, read_sound_lem}
 use Rattle.meaning.proofs.Granted.{lock_fits, read_fits, read_at_lem, free_found}
+use Rattle.meaning.specs.Store.{has_written, written_value}
 
 abbrev pub IsSound : Store → Type 0
 IsSound s = sound_store s ≡ true
@@ -138,8 +139,9 @@ read_keeps h r m w s f =
     let a = needs_pass (has_record s r) 5 (needs (is_point m) 6 pass) p.rest in
     let b = needs_pass (is_point m) 6 pass a.1 in
     let x = access_of (edit_at s k) r in
-    either_keeps IsSound s (own x.value) (again (x.from - 1) (version_on (rec_at s r).versions (x.from - 1)).value)
-    (read_new s k r m w) x.written (has_read x) f
+    either_keeps IsSound s (own (written_value x))
+    (again (x.from - 1) (version_on (rec_at s r).versions (x.from - 1)).value)
+    (read_new s k r m w) (has_written x) (has_read x) f
     (new_read_keeps s f k r m w (has_record_out s r a.0) p.known.used p.state
     (leb-true m LAST (and_right (leb 1 m) (leb m LAST) b.0))))
 

@@ -24,6 +24,7 @@ use Rattle.meaning.proofs.Changed.{counts_map, rec_committed_any}
 use Rattle.meaning.proofs.Kept.{Keeps, edit_kept, access_written}
 use Rattle.meaning.proofs.EditChanged.{edit_changed, none_wrote}
 use Rattle.meaning.proofs.Inserted.{insert_old, insert_out, insert_falls, versions_added}
+use Rattle.meaning.specs.Store.{has_written}
 
 module _ (s : Store) (k t : ℕ) (good : SoundStore s) (st : (edit_at s k).state ≡ OPEN)
     (common : InCommonSet s.records k (edit_at s k) t) where
@@ -43,14 +44,14 @@ module _ (s : Store) (k t : ℕ) (good : SoundStore s) (st : (edit_at s k).state
   range = used_range s.edits k (λ z. omega (arith, st, z))
 
   -- a written record has an own write lock on t, so no version stands there yet
-  pub own_lock : (r : ℕ) → (access_of e r).written ≡ true → LockOn (rec_at s r).locks k WRITE t
+  pub own_lock : (r : ℕ) → has_written (access_of e r) ≡ true → LockOn (rec_at s r).locks k WRITE t
   own_lock r q = let w = access_written e r q in rw w.1 at (common.written (access_of e r) w.0 q)
 
   not_mine : (r p : ℕ) (o : ℕ) → (o ≡ SETTLED) ⊎ WroteAt s.edits o r p → o ≡ k → ⊥
   not_mine r p o (inl z) y = omega (arith, range.from)
   not_mine r p o (inr w) y = omega (arith, rw y at w.state, st)
 
-  pub none_there : (r : ℕ) → (access_of e r).written ≡ true → (v : Version) → v ∈ (rec_at s r).versions
+  pub none_there : (r : ℕ) → has_written (access_of e r) ≡ true → (v : Version) → v ∈ (rec_at s r).versions
       → v.point ≡ t → ⊥
   none_there r q v m z = clash (own_lock r q)
     where
@@ -102,14 +103,14 @@ module _ (s : Store) (k t : ℕ) (good : SoundStore s) (st : (edit_at s k).state
   unfolding with_edit
   rec_turned r = turned.recs r
 
-  wrote_now : (r : ℕ) → (access_of e r).written ≡ true → WroteAt es' k r t
+  wrote_now : (r : ℕ) → has_written (access_of e r) ≡ true → WroteAt es' k r t
   unfolding access_of
   wrote_now r q =
       let z = edit_same s.edits k done range in
       record { state = rw z refl; point = rw z refl; wrote = rw z q }
 
   -- then a written record gets its version
-  module _ (r : ℕ) (q : (access_of e r).written ≡ true) where
+  module _ (r : ℕ) (q : has_written (access_of e r) ≡ true) where
     abbrev new : Version
     new = new_version (access_of e r) t
 
@@ -167,9 +168,9 @@ module _ (s : Store) (k t : ℕ) (good : SoundStore s) (st : (edit_at s k).state
         }
 
   rec_done : (r : ℕ) → SoundRec es' r (committed_rec e t r (rec_at s r))
-  rec_done r = go (access_of e r).written refl
+  rec_done r = go (has_written (access_of e r)) refl
     where
-      go : (b : Bool) → (access_of e r).written ≡ b
+      go : (b : Bool) → has_written (access_of e r) ≡ b
           → SoundRec es' r (record {
             versions = cond b (insert (new_version (access_of e r) t) (rec_at s r).versions) (rec_at s r).versions;
             locks = (rec_at s r).locks;
@@ -185,7 +186,7 @@ module _ (s : Store) (k t : ℕ) (good : SoundStore s) (st : (edit_at s k).state
   present_kept : (r tr : ℕ) → Present (rec_at s r) tr → Present (committed_rec e t r (rec_at s r)) tr
   present_kept r tr (inr z) = inr z
   present_kept r tr (inl w) =
-      inl (record { version = w.version; member = go (access_of e r).written; stands = w.stands })
+      inl (record { version = w.version; member = go (has_written (access_of e r)); stands = w.stands })
     where
       go : (b : Bool)
           → w.version ∈ cond b (insert (new_version (access_of e r) t) (rec_at s r).versions) (rec_at s r).versions

@@ -22,11 +22,12 @@ use Rattle.meaning.proofs.Lists.{and_in, and_left, and_right, test, not_both, ke
 use Rattle.meaning.proofs.Lists.{max_out, least_le, least_out, greatest_ge, greatest_out}
 use Rattle.meaning.proofs.Tests.{Covered}
 use Rattle.meaning.proofs.CommonSet.{Parts, parts_out, parts_in, common_out, common_in, common_set_is}
+use Rattle.meaning.specs.Store.{has_written}
 
 -- p is allowed, and q is allowed too where it is under the same write lock and between `from` and the end of what is
 -- covered
 module _ (ls : List Lock) (a : Access) (p q : ℕ) (w : Parts ls a p) where
-  unwritten : a.written ≡ false → a.from ≤ q → (has_read a ≡ true → q < first_free ls a.from LAST) → Parts ls a q
+  unwritten : has_written a ≡ false → a.from ≤ q → (has_read a ≡ true → q < first_free ls a.from LAST) → Parts ls a q
   unwritten n f g = record { written = λ h. absurd (not_both h n); from = f; upto = g }
 
   under : (c : Covered (writes ls) p) → c.lock.low ≤ q → q ≤ c.lock.high → a.from ≤ q
@@ -47,14 +48,14 @@ record Below (ls : List Lock) (a : Access) (p : ℕ) : Type 0 where
   pub each : (q : ℕ) → end ≤ q → q ≤ p → Parts ls a q
 
 below : (ls : List Lock) (a : Access) (p : ℕ) → Parts ls a p → Below ls a p
-below ls a p w = go (test a.written)
+below ls a p w = go (test (has_written a))
   where
     mem : (l : Lock) → l ∈ writes ls → (max a.from l.low ≡ a.from) ⊎ (max a.from l.low ≡ l.low)
         → max a.from l.low ∈ a.from ∷ map (λ l. l.low) (writes ls)
     mem l m (inl e) = Memᴰ.head e
     mem l m (inr e) = Memᴰ.tail (Memᴰ.cast e (Memᴰ.map (λ l. l.low) m))
 
-    go : (a.written ≡ true) ⊎ (a.written ≡ false) → Below ls a p
+    go : (has_written a ≡ true) ⊎ (has_written a ≡ false) → Below ls a p
     go (inr n) =
         record {
           end = a.from;
@@ -123,7 +124,7 @@ record Above (ls : List Lock) (a : Access) (p : ℕ) : Type 0 where
   pub each : (q : ℕ) → p ≤ q → q ≤ end → Parts ls a q
 
 above : (ls : List Lock) (a : Access) (p : ℕ) → Parts ls a p → Above ls a p ⊎ ((q : ℕ) → p ≤ q → Parts ls a q)
-above ls a p w = go (test a.written) (test (has_read a))
+above ls a p w = go (test (has_written a)) (test (has_read a))
   where
     mem : (l : Lock) → l ∈ writes ls
         → (min (reach ls a) l.high ≡ reach ls a) ⊎ (min (reach ls a) l.high ≡ l.high)
@@ -131,7 +132,7 @@ above ls a p w = go (test a.written) (test (has_read a))
     mem l m (inl e) = Memᴰ.head e
     mem l m (inr e) = Memᴰ.tail (Memᴰ.cast e (Memᴰ.map (λ l. l.high) m))
 
-    go : (a.written ≡ true) ⊎ (a.written ≡ false) → (has_read a ≡ true) ⊎ (has_read a ≡ false)
+    go : (has_written a ≡ true) ⊎ (has_written a ≡ false) → (has_read a ≡ true) ⊎ (has_read a ≡ false)
         → Above ls a p ⊎ ((q : ℕ) → p ≤ q → Parts ls a q)
     go (inr n) (inr u) = inr (λ q x. unwritten ls a p q w n (omega (arith, w.from)) (λ h. absurd (not_both h u)))
     go (inr n) (inl r) =

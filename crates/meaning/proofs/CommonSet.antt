@@ -19,6 +19,7 @@ use Rattle.meaning.proofs.Lists.{and_in, and_left, and_right, implies_out, impli
 use Rattle.meaning.proofs.Tests.{read_out, read_in, unread_out, own_out, own_in, writes_out, writes_in, Covered}
 use Rattle.meaning.proofs.Tests.{covered_out, covered_in}
 use Rattle.meaning.proofs.Spans.{first_free_run, reached}
+use Rattle.meaning.specs.Store.{has_written}
 
 module _ (ls : List Lock) (k p : ℕ) where
   -- own locks on a point, of either mode and to write
@@ -51,7 +52,7 @@ module _ (ls : List Lock) (k p : ℕ) where
 -- the test for one access, as orders: under a write lock if written; if read, between `from` and the first point under
 -- none of the locks
 pub record Parts (ls : List Lock) (a : Access) (p : ℕ) : Type 0 where
-  pub written : a.written ≡ true → Covered (writes ls) p
+  pub written : has_written a ≡ true → Covered (writes ls) p
   pub from : a.from ≤ p
   pub upto : has_read a ≡ true → p < first_free ls a.from LAST
 
@@ -70,7 +71,7 @@ module _ (ls : List Lock) (a : Access) (p : ℕ) where
       let w = and_left (allows_write ls a p) (allows_read ls a p) e in
       let r = and_right (allows_write ls a p) (allows_read ls a p) e in
       record {
-        written = λ h. covered_out (writes ls) p (implies_out a.written (covered (writes ls) p) w h);
+        written = λ h. covered_out (writes ls) p (implies_out (has_written a) (covered (writes ls) p) w h);
         from = low r (test (has_read a));
         upto = λ h. ltb-true p (first_free ls a.from LAST) (and_right starts ends (read_parts r h));
       }
@@ -82,13 +83,13 @@ module _ (ls : List Lock) (a : Access) (p : ℕ) where
   pub parts_in : Parts ls a p → (allows_write ls a p && allows_read ls a p) ≡ true
   parts_in w =
       and_in
-      (implies_in a.written (covered (writes ls) p) (λ h. covered_in (writes ls) p (w.written h)))
+      (implies_in (has_written a) (covered (writes ls) p) (λ h. covered_in (writes ls) p (w.written h)))
       (implies_in (has_read a) (starts && ends)
       (λ h. and_in (le-leb a.from p w.from) (lt-ltb p (first_free ls a.from LAST) (w.upto h))))
 
 -- the sentence for one access
 pub record Allowed (rs : List Rec) (k p : ℕ) (a : Access) : Type 0 where
-  pub written : a.written ≡ true → LockOn (rec_of rs a.rec).locks k WRITE p
+  pub written : has_written a ≡ true → LockOn (rec_of rs a.rec).locks k WRITE p
   pub above : (tr : ℕ) → a.from ≡ suc tr → tr < p
   pub under : (tr q : ℕ) → a.from ≡ suc tr → tr < q → q ≤ p → HeldOn (rec_of rs a.rec).locks k q
 

@@ -16,6 +16,7 @@ use Rattle.meaning.specs.Ending.{insert, new_version, committed_rec}
 use Rattle.meaning.proofs.Lists.{length_put_before, put_before_new, put_before_old, put_before_out}
 use Rattle.meaning.proofs.Lists.{put_before_pairwise}
 use Rattle.meaning.proofs.Lists.{test}
+use Rattle.meaning.specs.Store.{has_written}
 
 -- as in versions_fall
 abbrev pub newer : Version → Version → Bool
@@ -80,37 +81,37 @@ passing_none i (x ∷ xs) = omega (arith, passing_none (suc i) xs)
 
 -- the records written are no more than the written accesses
 written_few : (acc : List Access) (i : ℕ) (xs : List Rec)
-    → passing (λ r. (find (is_of r) (no_access r) acc).written) i xs ≤ length (keep (λ a. a.written) acc)
+    → passing (λ r. has_written (find (is_of r) (no_access r) acc)) i xs ≤ length (keep (λ a. has_written a) acc)
 written_few [] i xs = omega (arith, passing_none i xs)
 written_few (a ∷ acc) i xs =
     omega (
       arith,
-      passing_add (λ r. (find (is_of r) (no_access r) (a ∷ acc)).written) (λ r. eqb a.rec r && a.written)
-          (λ r. (find (is_of r) (no_access r) acc).written) each i xs,
-      passing_one a.rec a.written i xs,
+      passing_add (λ r. has_written (find (is_of r) (no_access r) (a ∷ acc))) (λ r. eqb a.rec r && has_written a)
+          (λ r. has_written (find (is_of r) (no_access r) acc)) each i xs,
+      passing_one a.rec (has_written a) i xs,
       written_few acc i xs,
-      kept a.written,
+      kept (has_written a),
     )
   where
-    each : (r : ℕ) → bit (find (is_of r) (no_access r) (a ∷ acc)).written
-        ≤ bit (eqb a.rec r && a.written) + bit (find (is_of r) (no_access r) acc).written
+    each : (r : ℕ) → bit (has_written (find (is_of r) (no_access r) (a ∷ acc)))
+        ≤ bit (eqb a.rec r && has_written a) + bit (has_written (find (is_of r) (no_access r) acc))
     each r = go (eqb a.rec r)
       where
-        go : (b : Bool) → bit (cond b a (find (is_of r) (no_access r) acc)).written
-            ≤ bit (b && a.written) + bit (find (is_of r) (no_access r) acc).written
+        go : (b : Bool) → bit (has_written (cond b a (find (is_of r) (no_access r) acc)))
+            ≤ bit (b && has_written a) + bit (has_written (find (is_of r) (no_access r) acc))
         go true = omega arith
         go false = omega arith
 
-    kept : (b : Bool) → bit b + length (keep (λ x. x.written) acc)
-        ≤ length (cond b (a ∷ keep (λ x. x.written) acc) (keep (λ x. x.written) acc))
+    kept : (b : Bool) → bit b + length (keep (λ x. has_written x) acc)
+        ≤ length (cond b (a ∷ keep (λ x. has_written x) acc) (keep (λ x. has_written x) acc))
     kept true = omega arith
     kept false = omega arith
 
 versions_more : (e : Edit) (t i : ℕ) (xs : List Rec)
     → total (λ x. length x.versions) (map_from i (committed_rec e t) xs)
-    ≡ total (λ x. length x.versions) xs + passing (λ r. (access_of e r).written) i xs
+    ≡ total (λ x. length x.versions) xs + passing (λ r. has_written (access_of e r)) i xs
 versions_more e t i [] = refl
-versions_more e t i (x ∷ xs) = omega (arith, versions_more e t (suc i) xs, one (access_of e i).written)
+versions_more e t i (x ∷ xs) = omega (arith, versions_more e t (suc i) xs, one (has_written (access_of e i)))
   where
     one : (b : Bool) → length (cond b (insert (new_version (access_of e i) t) x.versions) x.versions)
         ≡ length x.versions + bit b

@@ -36,13 +36,14 @@ use Rattle.meaning.proofs.CauseTests.{lock_row_test}
 use Rattle.meaning.proofs.JudgeLocking.{proper}
 use Rattle.meaning.proofs.Judging.{Judging, granted, refuses, answers, ◌next◌, never, listed, decided, shown}
 use Rattle.meaning.proofs.Judging.{by_test}
+use Rattle.meaning.specs.Store.{has_written, written_value}
 
 -- an access without a mark is neither an own value nor a read
-not_accessed : (s : Store) (k r : ℕ) → SoundStore s → (access_of (edit_at s k) r).written ≡ false
+not_accessed : (s : Store) (k r : ℕ) → SoundStore s → has_written (access_of (edit_at s k) r) ≡ false
     → has_read (access_of (edit_at s k) r) ≡ false → Accessed s k r → ⊥
 not_accessed s k r g w h d = go (accessed_out s k r (g.edits k).once d)
   where
-    go : ((access_of (edit_at s k) r).written ≡ true) ⊎ (0 < (access_of (edit_at s k) r).from) → ⊥
+    go : (has_written (access_of (edit_at s k) r) ≡ true) ⊎ (0 < (access_of (edit_at s k) r).from) → ⊥
     go (inl e) = not_both e w
     go (inr l) = omega (arith, ltb-false 0 (access_of (edit_at s k) r).from h)
 
@@ -73,8 +74,8 @@ judging_read h r m w s =
     never next
     decided (has_record s r) (λ g. record_test s r) refl (λ e₃. rw (e₁, e₂, e₃)) λ e₃.
     decided (is_point m.0) (λ g. point_test m.0) refl (λ e₄. rw (e₁, e₂, e₃, e₄)) λ e₄.
-    by_test a.written
-    (λ e₅. answers (own a.value) (λ g. accessed_in s k r (inl e₅)) (inl (a.value, refl)) refl
+    by_test (has_written a)
+    (λ e₅. answers (own (written_value a)) (λ g. accessed_in s k r (inl e₅)) (inl (written_value a, refl)) refl
     (rw (e₁, e₂, e₃, e₄, e₅)))
     λ e₅.
     by_test (has_read a)

@@ -14,6 +14,7 @@ use Rattle.meaning.specs.Store.{Lock, Access, Rec, Edit, rec_of, is_of, no_acces
 use Rattle.meaning.specs.Pointwise.{LockOn, HeldOn, InCommonSet}
 use Rattle.meaning.specs.SoundFacts.{SoundEdit, Present, ReadStarts}
 use Rattle.meaning.proofs.Lists.{find_out}
+use Rattle.meaning.specs.Store.{has_written}
 
 module _ (e : Edit) (r : ℕ) where
   -- the access of a record is one of the edit's, or reads and writes nothing
@@ -30,12 +31,12 @@ module _ (e : Edit) (r : ℕ) where
       go (inl w) = inl w.0
       go (inr w) = inr (w.0, eqb-true (find (is_of r) (no_access r) e.accesses).rec r w.1)
 
-  pub access_written : (access_of e r).written ≡ true → (access_of e r ∈ e.accesses) × ((access_of e r).rec ≡ r)
+  pub access_written : has_written (access_of e r) ≡ true → (access_of e r ∈ e.accesses) × ((access_of e r).rec ≡ r)
   access_written q = go access_out
     where
       go : (access_of e r ≡ no_access r) ⊎ ((access_of e r ∈ e.accesses) × ((access_of e r).rec ≡ r))
           → (access_of e r ∈ e.accesses) × ((access_of e r).rec ≡ r)
-      go (inl z) = absurd (false≢true (sym (ap (λ (a : Access). a.written) z) ∙ q))
+      go (inl z) = absurd (false≢true (sym (ap (λ (a : Access). has_written a) z) ∙ q))
       go (inr w) = w
 
   pub access_read : (tr : ℕ) → (access_of e r).from ≡ suc tr → (access_of e r ∈ e.accesses) × ((access_of e r).rec ≡ r)

@@ -25,6 +25,7 @@ use Rattle.meaning.proofs.Rows.{join_joined, put_joined}
 use Rattle.meaning.specs.Lists.{pairwise}
 use Rattle.meaning.proofs.Lists.{keep_out, pairwise_keep}
 use Rattle.meaning.proofs.Tests.{own_in, write_in, unwrite_in, read_out, read_in}
+use Rattle.meaning.specs.Store.{has_written}
 
 -- the row that is left: a read row with those that it takes in
 abbrev pub left_row : ℕ → ℕ → ℕ → List Lock → Lock
@@ -111,7 +112,7 @@ module _ (b : Bool) (mode low high : ℕ) (ls : List Lock) where
 -- where a lock of record r comes from after slot k, with the edit e, is settled
 pub data LeftBy (k : ℕ) (e : Edit) (r : ℕ) (ls : List Lock) (l : Lock) : Type 0 where
   other : l ∈ ls → (l.owner ≡ k → ⊥) → LeftBy k e r ls l
-  wrote : e.state ≡ COMMITTED → (access_of e r).written ≡ true → l ≡ settled_lock WRITE e.point e.point
+  wrote : e.state ≡ COMMITTED → has_written (access_of e r) ≡ true → l ≡ settled_lock WRITE e.point e.point
       → LeftBy k e r ls l
   read : e.state ≡ COMMITTED → (tr : ℕ) → (access_of e r).from ≡ suc tr
       → l ≡ joined_row (access_of e r).from e.point (drop_owner k ls) → LeftBy k e r ls l
@@ -134,7 +135,7 @@ module _ (k : ℕ) (e : Edit) (r : ℕ) (ls : List Lock) where
       second z (inr n) = dropped n
 
       first : {ms : List Lock} → e.state ≡ COMMITTED
-          → ((a.written ≡ true) × (l ≡ settled_lock WRITE e.point e.point)) ⊎ (l ∈ ms)
+          → ((has_written a ≡ true) × (l ≡ settled_lock WRITE e.point e.point)) ⊎ (l ∈ ms)
           → (l ∈ ms → ((has_read a ≡ true) × (l ≡ joined_row a.from e.point (drop_owner k ls))) ⊎ (l ∈ drop_owner k
           ls))
           → LeftBy k e r ls l
@@ -165,12 +166,12 @@ module _ (k : ℕ) (e : Edit) (r : ℕ) (ls : List Lock) where
 
       go : (b : Bool) → LockOn (cond b (locks_left e a (drop_owner k ls)) (drop_owner k ls)) o m p
       go true =
-          (leave_settled_is a.written WRITE e.point e.point
+          (leave_settled_is (has_written a) WRITE e.point e.point
           (leave_settled (has_read a) READ a.from e.point (drop_owner k ls)) o m p).1
           (inr ((leave_settled_is (has_read a) READ a.from e.point (drop_owner k ls) o m p).1 (inr dropped)))
       go false = dropped
 
-  pub settled_wrote : e.state ≡ COMMITTED → a.written ≡ true
+  pub settled_wrote : e.state ≡ COMMITTED → has_written a ≡ true
       → settled_lock WRITE e.point e.point ∈ settled_locks k e r ls
   unfolding settled_locks_by
   settled_wrote z q = rw (eq-eqb e.state COMMITTED z) (leave_new _ _ _ _ _ q)
@@ -181,7 +182,7 @@ module _ (k : ℕ) (e : Edit) (r : ℕ) (ls : List Lock) where
   unfolding settled_locks_by
   settled_reads z tr p q low high =
       rw (eq-eqb e.state COMMITTED z)
-      ((leave_settled_is a.written WRITE e.point e.point
+      ((leave_settled_is (has_written a) WRITE e.point e.point
       (leave_settled (has_read a) READ a.from e.point (drop_owner k ls)) SETTLED READ p).1
       (inr ((leave_settled_is (has_read a) READ a.from e.point (drop_owner k ls) SETTLED READ p).1
       (inl (record { left = read_in a tr q; owned = refl; moded = refl; from = omega (arith, q, low); upto = high })))))
@@ -233,13 +234,13 @@ module _ (k : ℕ) (e : Edit) (r : ℕ) (ls : List Lock) where
       go : (b : Bool) → eqb e.state COMMITTED ≡ b
           → pairwise apart_reads (cond b (locks_left e a (drop_owner k ls)) (drop_owner k ls)) ≡ true
       go true q =
-          writes a.written
+          writes (has_written a)
           (cond (has_read a) (join_read a.from e.point (keep (λ l. not (is_owned k l)) ls)) (keep (λ l. not
           (is_owned k l)) ls))
           (reads (has_read a) (span (eqb-true e.state COMMITTED q)))
       go false q = dropped
 
-  pub settled_writes : e.state ≡ COMMITTED → a.written ≡ true
+  pub settled_writes : e.state ≡ COMMITTED → has_written a ≡ true
       → LockOn (settled_locks k e r ls) SETTLED WRITE e.point
   settled_writes z q =
       record {
@@ -303,7 +304,7 @@ module _ (k : ℕ) (e : Edit) (r : ℕ) (ls : List Lock) where
       go false = omega (arith, h refl, length_put (settled_lock mode low high) ms)
   leave_length false mode low high ms n h = omega arith
 
-  pub settled_few : (e.state ≡ COMMITTED → (access_of e r).written ≡ true → OwnWrite k ls)
+  pub settled_few : (e.state ≡ COMMITTED → has_written (access_of e r) ≡ true → OwnWrite k ls)
       → (e.state ≡ COMMITTED → (tr : ℕ) → (access_of e r).from ≡ suc tr → OwnRead k ls)
       → length (settled_locks k e r ls) ≤ length ls
   unfolding settled_locks_by
@@ -319,7 +320,7 @@ module _ (k : ℕ) (e : Edit) (r : ℕ) (ls : List Lock) where
           omega (
             arith,
             parts,
-            leave_length x.written WRITE e.point e.point ms (length (keep is_write mine))
+            leave_length (has_written x) WRITE e.point e.point ms (length (keep is_write mine))
                 (λ w. some_write (f z w)),
             leave_length (has_read x) READ x.from e.point (drop_owner k ls) (length mine_read)
                 (λ w. let t = read_out x w in some_read (g z t.0 t.1)),

@@ -24,6 +24,7 @@ use Rattle.meaning.proofs.Lists.{and_in, and_left, and_right, or_out, or_left, o
 use Rattle.meaning.proofs.Lists.{every_at, any_in, any_out, all_in, all_out, pairwise_in, pairwise_out}
 use Rattle.meaning.proofs.Stores.{used_in, used_out}
 use Rattle.meaning.proofs.Tests.{covers_out, covers_in, meets_out, meets_in}
+use Rattle.meaning.specs.Store.{has_written}
 
 -- a lock's span
 pub span_out : (floor : ℕ) (l : Lock) → (ltb floor l.low && (leb l.low l.high && leb l.high LAST)) ≡ true
@@ -135,12 +136,12 @@ pub wrote_out : (es : List Edit) (k r t : ℕ) → wrote_at es k r t ≡ true �
 unfolding wrote_at
 wrote_out es k r t h =
     let e = edit_of es k in
-    let b = eqb e.point t && (access_of e r).written in
+    let b = eqb e.point t && has_written (access_of e r) in
     let f = and_right (eqb e.state COMMITTED) b h in
     record {
       state = eqb-true e.state COMMITTED (and_left (eqb e.state COMMITTED) b h);
-      point = eqb-true e.point t (and_left (eqb e.point t) (access_of e r).written f);
-      wrote = and_right (eqb e.point t) (access_of e r).written f;
+      point = eqb-true e.point t (and_left (eqb e.point t) (has_written (access_of e r)) f);
+      wrote = and_right (eqb e.point t) (has_written (access_of e r)) f;
     }
 
 pub wrote_in : (es : List Edit) (k r t : ℕ) → WroteAt es k r t → wrote_at es k r t ≡ true

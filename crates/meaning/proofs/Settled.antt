@@ -36,10 +36,11 @@ use Rattle.meaning.proofs.Tests.{unowned_in}
 use Prim.Native.Nat.{zero}
 use lib.Dec.{eqb}
 use mathlib.Core.Bool.{Bool, true, false, ◌&&◌}
+use Rattle.meaning.specs.Store.{has_written}
 
 -- the locks that an edit has on a record that it wrote, and on one that it read at tr
 module _ (s : Store) (k : ℕ) (good : SoundStore s) (r : ℕ) where
-  own_write : (edit_at s k).state ≡ COMMITTED → (access_of (edit_at s k) r).written ≡ true
+  own_write : (edit_at s k).state ≡ COMMITTED → has_written (access_of (edit_at s k) r) ≡ true
       → LockOn (rec_at s r).locks k WRITE (edit_at s k).point
   own_write z q =
       let w = access_written (edit_at s k) r q in
@@ -50,7 +51,7 @@ module _ (s : Store) (k : ℕ) (good : SoundStore s) (r : ℕ) where
       let w = access_read (edit_at s k) r tr q in
       rw w.1 at ((good.edits k).locked (access_of (edit_at s k) r) tr w.0 q)
 
-  pub write_own : (edit_at s k).state ≡ COMMITTED → (access_of (edit_at s k) r).written ≡ true
+  pub write_own : (edit_at s k).state ≡ COMMITTED → has_written (access_of (edit_at s k) r) ≡ true
       → OwnWrite k (rec_at s r).locks
   write_own z q =
       let w = own_write z q in record { lock = w.lock; member = w.member; owned = w.owned; mode = w.moded }
@@ -103,7 +104,8 @@ module _ (s : Store) (k : ℕ) (good : SoundStore s) (used : (edit_at s k).state
     span : Span (rec_at s r).floor l
     beneath : (p : ℕ) → l.low ≤ p → p ≤ l.high → Beneath r l p
 
-  new_write : (r : ℕ) → e.state ≡ COMMITTED → (access_of e r).written ≡ true → NewlySettled r (settled_lock WRITE t t)
+  new_write : (r : ℕ) → e.state ≡ COMMITTED → has_written (access_of e r) ≡ true
+      → NewlySettled r (settled_lock WRITE t t)
   new_write r z q =
       let w = own_write s k good r z q in
       let c = (good.edits k).common z in

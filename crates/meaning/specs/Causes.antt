@@ -12,6 +12,7 @@ use Rattle.types.specs.declared.Extent.{Extent}
 use Rattle.types.specs.declared.Pick.TheVariants.{Earliest, Latest, Named}
 use Rattle.types.specs.declared.Call.{Call}
 use Rattle.types.specs.declared.Call.TheVariants as C
+use Rattle.meaning.specs.Store.{has_written}
 
 -- P of the handle of a call; for 2
 abbrev pub OfHandle : Call → (ℕ → Type 0) → Type 0
@@ -91,7 +92,7 @@ pub record Accessed (s : Store) (k r : ℕ) : Type 0 where
   pub access : Access
   pub member : access ∈ (edit_at s k).accesses
   pub names : access.rec ≡ r
-  pub used : (access.written ≡ true) ⊎ (0 < access.from)
+  pub used : (has_written access ≡ true) ⊎ (0 < access.from)
 
 -- "then own or repeated reads": a Read that `own` or `again` answers
 abbrev pub OwnOrAgain : Call → Store → Type 0

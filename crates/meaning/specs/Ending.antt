@@ -13,6 +13,7 @@ use Rattle.types.specs.declared.Pick.{Pick}
 use Rattle.types.specs.declared.Pick.TheVariants.{Earliest, Latest, Named}
 use Rattle.types.specs.declared.Finish.{Finish}
 use Rattle.types.specs.declared.Finish.TheVariants as F
+use Rattle.meaning.specs.Store.{has_written, written_value}
 
 -- Layout, edit slot: state "2 committed, 3 aborted", "commit point": the same edit, ended
 abbrev pub ended : Edit → ℕ → ℕ → Edit
@@ -26,7 +27,7 @@ freed e = record { state = FREE; generation = e.generation; accesses = []; point
 -- the access a, among the locks ls
 abbrev pub locks_left_by : Keeping → Edit → Access → List Lock → List Lock
 locks_left_by K e a ls =
-    K.leave a.written WRITE e.point e.point (K.leave (has_read a) READ a.from e.point ls)
+    K.leave (has_written a) WRITE e.point e.point (K.leave (has_read a) READ a.from e.point ls)
 
 -- "Settling leaves, for a committed edit at t, ...; all its other locks ... become free. An aborted edit leaves
 -- nothing.": the locks of record r afterwards
@@ -54,13 +55,13 @@ insert v ws = put_before (λ w. ltb w.point v.point) v ws
 
 -- "written values become versions at the point": the version that an access makes
 abbrev pub new_version : Access → ℕ → Version
-new_version a t = record { point = t; value = Some a.value; spare = 0 }
+new_version a t = record { point = t; value = Some (written_value a); spare = 0 }
 
 -- "all written values become versions at the point": record r afterwards
 abbrev pub committed_rec : Edit → ℕ → ℕ → Rec → Rec
 committed_rec e t r x =
     record {
-      versions = cond (access_of e r).written (insert (new_version (access_of e r) t) x.versions) x.versions;
+      versions = cond (has_written (access_of e r)) (insert (new_version (access_of e r) t) x.versions) x.versions;
       locks = x.locks;
       floor = x.floor;
     }

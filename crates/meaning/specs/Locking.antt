@@ -11,6 +11,8 @@ use Rattle.meaning.specs.Outcomes.{is_point, judge, access_room, lock_room}
 use Rattle.meaning.specs.Edits.{with_access}
 use Rattle.types.specs.declared.Extent.{Extent}
 use Rattle.types.specs.declared.Extent.TheVariants.{All, Part}
+use Rattle.std.specs.Prelude.{Some, None}
+use Rattle.meaning.specs.Store.{has_written, written_value}
 
 -- "A wants all points or none, P takes a part." Where what is taken of low..high ends, if it starts at from
 abbrev pub grant_end : Extent → ℕ → ℕ → Rec → ℕ → ℕ → ℕ
@@ -87,7 +89,7 @@ read_verdict s k r m w =
 
 -- Layout, access: "point read + 1": what a new read remembers, from being tr + 1
 abbrev pub read_access : ℕ → ℕ → Access
-read_access r from = record { rec = r; from = from; written = false; value = blank }
+read_access r from = record { rec = r; from = from; value = None }
 
 -- Read: the store after a new read, with its lock and its access
 unfoldable pub read_store_by : Keeping → Store → ℕ → ℕ → ℕ → ℕ → Store
@@ -108,7 +110,7 @@ unfoldable pub read_open_by : Keeping → Store → ℕ → ℕ → ℕ → Exte
 read_open_by K s k r m w =
     let a : Access = access_of (edit_at s k) r in
     let v : Version = version_on (rec_at s r).versions (a.from - 1) in
-    cond a.written (replies s (own a.value))
+    cond (has_written a) (replies s (own (written_value a)))
     (cond (has_read a) (replies s (again (a.from - 1) v.value)) (read_new_by K s k r m w))
 
 -- Read: 2, 3, 5, 6

@@ -4,6 +4,7 @@ use Rattle.std.specs.Prelude.{ℕ, suc, ◌-◌, max, Bool, not, cond, ◌&&◌,
 use Rattle.meaning.specs.Lists.{all, any, keep, put_before, least, greatest}
 use Rattle.types.specs.Limits.{LAST, SLOTS, READ, WRITE, SETTLED}
 use Rattle.meaning.specs.Store.{Lock, Access, Rec, Edit, Store, rec_of, rec_at, has_read}
+use Rattle.meaning.specs.Store.{has_written}
 
 -- Layout, lock: "mode (1 read, 2 write)": a write lock
 abbrev pub is_write : Lock → Bool
@@ -159,7 +160,7 @@ own_on rs k a = own k (rec_of rs a.rec).locks
 
 -- "lies in an own write lock for each written record": this access allows p; ls are the own locks on its record
 abbrev pub allows_write : List Lock → Access → ℕ → Bool
-allows_write ls a p = not a.written || covered (writes ls) p
+allows_write ls a p = not (has_written a) || covered (writes ls) p
 
 -- "for each record read at tr, lies above tr with every point from tr + 1 up to it under an own lock": this access
 -- allows p

@@ -8,6 +8,7 @@ use Rattle.meaning.specs.Store.{Version, Lock, Access, Rec, Edit, Store, rec_of,
 use Rattle.meaning.specs.Points.{lowest}
 use Rattle.types.specs.declared.Extent.{Extent}
 use Rattle.types.specs.declared.Extent.TheVariants.{All, Part}
+use Rattle.meaning.specs.Store.{has_written}
 
 -- "lies in an own write lock": the owner o has a lock of the mode m on the point p
 pub record LockOn (ls : List Lock) (o m p : ℕ) : Type 0 where
@@ -118,7 +119,7 @@ pub record LowestHolder (mode k : ℕ) (x : Rec) (p o : ℕ) : Type 0 where
 pub record InCommonSet (rs : List Rec) (k : ℕ) (e : Edit) (p : ℕ) : Type 0 where
   pub least : lowest e ≤ p
   pub last : p ≤ LAST
-  pub written : (a : Access) → a ∈ e.accesses → a.written ≡ true → LockOn (rec_of rs a.rec).locks k WRITE p
+  pub written : (a : Access) → a ∈ e.accesses → has_written a ≡ true → LockOn (rec_of rs a.rec).locks k WRITE p
   pub above : (a : Access) (tr : ℕ) → a ∈ e.accesses → a.from ≡ suc tr → tr < p
   pub under : (a : Access) (tr q : ℕ) → a ∈ e.accesses → a.from ≡ suc tr → tr < q → q ≤ p
       → HeldOn (rec_of rs a.rec).locks k q

@@ -8,6 +8,7 @@ use Rattle.meaning.specs.Store.{Version, Lock, Rec, Edit, Store, counts_of, edit
 use Rattle.meaning.specs.Store.{has_read, versions_used, locks_used, accesses_used}
 use Rattle.meaning.specs.Points.{is_write, is_owned, covers, meets, in_common, no_later, apart_reads}
 use Rattle.meaning.specs.Records.{good_counts}
+use Rattle.meaning.specs.Store.{has_written}
 
 -- "every row is on exactly one chain": what the meaning shows of it, rows in use are rows of the table
 unfoldable pub rows_fit : Store → Bool
@@ -81,7 +82,7 @@ reads_joined x = pairwise apart_reads x.locks
 -- "of an edit that wrote the record and committed at that point": slot k, record r, point t
 unfoldable pub wrote_at : List Edit → ℕ → ℕ → ℕ → Bool
 wrote_at es k r t =
-    eqb (edit_of es k).state COMMITTED && (eqb (edit_of es k).point t && (access_of (edit_of es k) r).written)
+    eqb (edit_of es k).state COMMITTED && (eqb (edit_of es k).point t && has_written (access_of (edit_of es k) r))
 
 -- "a write lock on its point, settled or of an edit that wrote the record and committed at that point": this lock, for
 -- point p of record r

@@ -9,12 +9,13 @@ use Rattle.meaning.specs.Store.{access_of, versions_used, locks_used, accesses_u
 use Rattle.meaning.specs.Records.{good_counts}
 use Rattle.meaning.specs.Sound.{versions_fall, names_once}
 use Rattle.meaning.specs.Pointwise.{InCommonSet, VersionOn}
+use Rattle.meaning.specs.Store.{has_written}
 
 -- "of an edit that wrote the record and committed at that point": slot k, record r, point t
 pub record WroteAt (es : List Edit) (k r t : ℕ) : Type 0 where
   pub state : (edit_of es k).state ≡ COMMITTED
   pub point : (edit_of es k).point ≡ t
-  pub wrote : (access_of (edit_of es k) r).written ≡ true
+  pub wrote : has_written (access_of (edit_of es k) r) ≡ true
 
 -- "a write lock on its point, settled or of an edit that wrote the record and committed at that point"
 pub record Backed (es : List Edit) (r p : ℕ) (ls : List Lock) : Type 0 where

@@ -1,7 +1,8 @@
 -- The abstract store: what the words of a sound slice mean. Row numbers, chains and free rows are left out.
 -- Rests on Lists and on Limits, Values and Numbers of `types`; Version, Lock, Access, Value and Counts are its types.
 use Rattle.std.specs.Prelude.{ℕ, zero, suc, Bool, false, not, List, [], length, get_or, set, replicate, leb, ltb, eqb}
-use Rattle.std.specs.Prelude.{None}
+use Rattle.std.specs.Prelude.{None, is_some}
+use Rattle.std.specs.Option.{unwrap_or}
 use Rattle.meaning.specs.Lists.{any, find, total, keep}
 use Rattle.types.specs.Limits.{FREE}
 pub use Rattle.types.specs.Values.{Value}
@@ -128,7 +129,7 @@ is_of r a = eqb a.rec r
 
 -- an access of r with nothing read and nothing written; for access_of, where the edit has none
 abbrev pub no_access : ℕ → Access
-no_access r = record { rec = r; from = 0; written = false; value = blank }
+no_access r = record { rec = r; from = 0; value = None }
 
 -- "an edit names an existing record at most once in its accesses": its access of record r
 unfoldable pub access_of : Edit → ℕ → Access
@@ -142,9 +143,16 @@ names e r = any (is_of r) e.accesses
 abbrev pub has_read : Access → Bool
 has_read a = ltb 0 a.from
 
+-- Layout, access: "1 if written, value": the record was written, and what is to be written ("0 until written")
+abbrev pub has_written : Access → Bool
+has_written a = is_some a.value
+
+abbrev pub written_value : Access → Val
+written_value a = unwrap_or a.value blank
+
 -- "each record written": the accesses of records written
 abbrev pub written_of : Edit → List Access
-written_of e = keep (λ a. a.written) e.accesses
+written_of e = keep has_written e.accesses
 
 -- version rows in use; "the free rows" of the version table are the others
 unfoldable pub versions_used : Store → ℕ

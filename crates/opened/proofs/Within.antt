@@ -3,9 +3,10 @@
 use Rattle.std.specs.Prelude.{Result, Ok, Err}
 use Prim.Native.Nat.{ℕ}
 use mathlib.Core.Path.{◌≡◌, refl, sym, ap, ◌∙◌}
-use mathlib.Core.Bool.{true, false, false≢true}
-use mathlib.Core.List.{List}
-use Rattle.types.specs.Replies.{Reply, of_result, of_answer}
+use mathlib.Core.Bool.{true, false}
+use mathlib.Core.List.{List, []}
+use native.Mathlib.Omega.{arith}
+use Rattle.types.specs.Replies.{Reply, ok, refusing, of_result, of_answer}
 use Rattle.types.specs.declared.Refusal.{Refusal}
 use Rattle.types.specs.declared.Granted.{Granted}
 use Rattle.types.specs.declared.Call.{Call}
@@ -23,16 +24,21 @@ use Rattle.store.proofs.Doing.{does_sound}
 use Rattle.store.proofs.Performing.{does_same, shows_does}
 use Rattle.opened.specs.Opened.{Opened, Opens, Within}
 
-pub opens : {w ix ix' : List ℕ} → sound_words (lent w) ≡ true → RightOfAll ix' → Opens w ix ix' true
+pub opens : {w ix ix' : List ℕ} → sound_words (lent w) ≡ true → RightOfAll ix' → Opens w ix ix' ok
 opens {w} h f =
     record {
-      verdict = sym h;
+      verdict = rw h refl;
       opened = λ e. record { sound = h; index = f (decode (lent w)) };
-      stays = λ e. absurd (false≢true (sym e));
+      stays = λ e. let z : ◌≡◌ {A = ℕ} 0 1 = cc in absurd (omega arith);
     }
 
-pub opens_not : {w ix : List ℕ} → sound_words (lent w) ≡ false → Opens w ix ix false
-opens_not h = record { verdict = sym h; opened = λ e. absurd (false≢true e); stays = λ e. refl }
+pub opens_not : {w ix : List ℕ} → sound_words (lent w) ≡ false → Opens w ix ix (refusing 1 [])
+opens_not h =
+    record {
+      verdict = rw h refl;
+      opened = λ e. let z : ◌≡◌ {A = ℕ} 0 1 = cc in absurd (omega arith);
+      stays = λ e. refl;
+    }
 
 module _ {w w' ix' : List ℕ} {r : Reply} where
   pub within : {ix : List ℕ} (call : Call) {f : Store → Outcome} → ((s : Store) → act call s ≡ f s) → Opened w ix

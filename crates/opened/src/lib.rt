@@ -1,7 +1,7 @@
 // A session: words that were checked when it was opened, an index beside them, and calls on both without a check. For
 // callers who prove that words and index are still as the opening or the last call left them (`Opened`). Not a desk's
-// session, which the crate `sessions` has. Rests on the crates `types`, `meaning`, `tables`, `soundness`, `index`,
-// `calls`, `locking`, `reading`, `endings`, `commits`, `purges` and `store`.
+// session, which the crate `sessions` has. Rests on the crates `types`, `meaning`, `tables`, `index`, `calls`,
+// `locking`, `reading`, `endings`, `commits`, `purges` and `store`.
 #![tactic(auto)]
 
 ghost use Rattle.std.specs.Prelude.{◌≡◌, true};
@@ -22,16 +22,16 @@ use types::{
 };
 
 // Opens a session, if the words are sound. The index then knows nothing of the slots until their next Begin.
-pub fn open(words: &[u64], ix: &mut [u16]) -> bool
-    ensures { Opens words.now ix.old ix.new result }
+// Kept: words and index are two slices of C; over a struct of two `&mut` each contract names both fields again.
+pub fn open(words: &[u64], ix: &mut [u16]) -> Result<(), Refusal>
+    ensures { Opens words.now ix.old ix.new (of_done result) }
 {
-    if soundness::check(words) {
-        index::forget(ix);
-        return true;
-    }
-    false
+    store::check(words)?;
+    index::forget(ix);
+    Ok(())
 }
 
+// Kept: as `open`; `requires` says once a call that the session is open.
 pub fn begin(words: &mut [u64], ix: &mut [u16]) -> Result<Handle, Refusal>
     requires { Opened words.old ix.old }
     ensures { Within beginning words.old words.new ix.new (of_begin result) }
@@ -41,6 +41,7 @@ pub fn begin(words: &mut [u64], ix: &mut [u16]) -> Result<Handle, Refusal>
     reply
 }
 
+// Kept: as `begin`.
 pub fn write(
     words: &mut [u64],
     ix: &mut [u16],
@@ -56,6 +57,7 @@ pub fn write(
     reply
 }
 
+// Kept: as `begin`; of `write` it shares the one line `index::touch`.
 pub fn lock(
     words: &mut [u64],
     ix: &mut [u16],
@@ -74,6 +76,7 @@ pub fn lock(
     reply
 }
 
+// Kept: as `lock`.
 pub fn read(
     words: &mut [u64],
     ix: &mut [u16],
@@ -90,6 +93,7 @@ pub fn read(
     reply
 }
 
+// Kept: as `begin`.
 pub fn commit(
     words: &mut [u64],
     ix: &mut [u16],
@@ -103,6 +107,7 @@ pub fn commit(
     commits::commit(words, h, pick, finish, ix)
 }
 
+// Kept: as `begin`.
 pub fn abort(words: &mut [u64], ix: &mut [u16], h: Handle, finish: Finish) -> Result<(), Refusal>
     requires { Opened words.old ix.old }
     ensures { Within (aborting h.0 finish) words.old words.new ix.new (of_done result) }
@@ -110,6 +115,7 @@ pub fn abort(words: &mut [u64], ix: &mut [u16], h: Handle, finish: Finish) -> Re
     endings::abort(words, h, finish, ix)
 }
 
+// Kept: as `begin`.
 pub fn settle(words: &mut [u64], ix: &mut [u16], h: Handle) -> Result<(), Refusal>
     requires { Opened words.old ix.old }
     ensures { Within (settling h.0) words.old words.new ix.new (of_done result) }
@@ -117,6 +123,7 @@ pub fn settle(words: &mut [u64], ix: &mut [u16], h: Handle) -> Result<(), Refusa
     endings::settle(words, h, ix)
 }
 
+// Kept: as `begin`.
 pub fn purge(words: &mut [u64], ix: &mut [u16], rec: u64, b: Point) -> Result<Freed, Refusal>
     requires { Opened words.old ix.old }
     ensures { Within (purging rec b.0) words.old words.new ix.new (of_purge result) }
@@ -133,6 +140,7 @@ pub fn view(words: &[u64], rec: u64, p: Point) -> Result<Seen, Refusal>
 }
 
 // A call of any kind.
+// Kept: as `begin`; see `store::perform`.
 pub fn perform(words: &mut [u64], ix: &mut [u16], call: Call) -> Result<Granted, Refusal>
     requires { Opened words.old ix.old }
     ensures { Within (act call) words.old words.new ix.new (of_answer result) }

@@ -6,7 +6,8 @@ use native.Mathlib.Omega.{arith}
 use lib.ListN.{length, length-take}
 use Rattle.replies.specs.declared.Line.{Line}
 use Rattle.texts.specs.Parts.{Appended}
-use Rattle.printing.specs.Shown.{Printed, shown}
+use Rattle.replies.specs.Shown.{shown}
+use Rattle.printing.specs.Shown.{Printed}
 
 -- a whole line, written from the start
 pub printed : (l m : Line) {out₀ out : List ℕ} {end : ℕ} → l ≡ m → Appended out₀ 0 (shown m) out end → Printed l out end

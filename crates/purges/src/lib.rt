@@ -1,6 +1,11 @@
 // Purge on sound words: equal to its definition in the crate `meaning`, and leaving sound words. For callers who prove
 // the words sound (`requires sound_words`), as the calls of `calls` and `endings`. It goes along one record's versions
 // and locks. Rests on the crates `types`, `meaning`, `tables`, `changes`, `trims`, `lookups`, `calls` and `endings`.
+// Kept, words and counts: lent to be changed; over a struct of both each would promise, too, that they stay (BORROWS).
+// Kept, Well c w: of words before a change; a ghost field would say it of the words after it, which is each promise.
+// Kept, r < c.records: of words that change; a `Record` borrows them, so it ends at the first change.
+// Kept, sound_words: what a caller proves once for many calls, of words that each call changes.
+// Kept, v ≤ LAST: of the word of a version's point; a `Point` may lie above LAST, too.
 #![tactic(auto)]
 
 ghost use Rattle.std.specs.Prelude.{◌≡◌, true, not, ◌&&◌, ◌≤◌, ◌<◌, leb};
@@ -8,29 +13,27 @@ ghost use Rattle.types.specs.Limits.{LAST, SETTLED};
 ghost use Rattle.types.specs.Replies.{of_purge};
 ghost use Rattle.meaning.specs.Points.{is_owned};
 ghost use Rattle.meaning.specs.Records.{purge_to, purging};
-ghost use Rattle.tables.specs.Layout.{Fits};
-ghost use Rattle.tables.specs.Decode.{record_at, decode_at};
+ghost use Rattle.tables.specs.Decode.{decode_at};
+ghost use Rattle.tables.specs.Views.{rec_in};
 ghost use Rattle.tables.specs.Words.{lent, sound_words, Well};
 ghost use Rattle.calls.specs.Contract.{Acts, Makes};
 ghost use Rattle.endings.specs.Parts.{locked_below, purge_all};
 
+use tables::{Record, Tables};
 use types::{Counts, Freed, LAST, Lock, Point, Refusal, SETTLED};
 
 // A lock of an unsettled edit at or below v.
 fn held_below(l: Lock, v: u64) -> bool
     ensures { result ≡ (not (is_owned SETTLED l) && leb l.low v) }
 {
-    if l.owner == SETTLED {
-        return false;
-    }
-    l.low <= v
+    l.owner != SETTLED && l.low <= v
 }
 
-fn locked_below(w: &[u64], c: Counts, r: usize, v: u64) -> bool
-    requires { Fits c w.now × (r < c.records) }
-    ensures { result ≡ locked_below v (record_at c w.now r).locks }
+// Kept: the method of the iterator is the generic one; the line shows the test.
+fn locked_below(r: Record<'_>, v: u64) -> bool
+    ensures { result ≡ locked_below v (rec_in r.entry).locks }
 {
-    tables::locks(w, c, r).any(|l| held_below(l, v))
+    r.locks().any(|l| held_below(l, v))
 }
 
 // Versions are cut, locks trimmed and the floor set, with no lock in the way.
@@ -48,14 +51,18 @@ fn purge_to(w: &mut [u64], c: Counts, r: usize, v: u64) -> Result<Freed, Refusal
     requires { Well c w.old × (r < c.records) × (v ≤ LAST) }
     ensures { Makes c (purge_to (decode_at c w.old) r v) w.old w.new (of_purge result) }
 {
-    let floor = tables::floor_of(w, c, r);
-    if v <= floor {
+    let tables = Tables {
+        words: w,
+        counts: c,
+    };
+    let x = Record { tables, number: r };
+    if v <= x.floor() {
         return Ok(Freed {
             versions: 0,
             locks: 0,
         });
     }
-    if locked_below(w, c, r, v) {
+    if locked_below(x, v) {
         return Err(Refusal::LockedBelow);
     }
     purge_record(w, c, r, v)
@@ -71,6 +78,10 @@ pub fn purge(w: &mut [u64], rec: u64, b: Point) -> Result<Freed, Refusal>
     if LAST < p {
         return Err(Refusal::BadPoint);
     }
-    let v = lookups::newest_at(w, c, r, p);
+    let tables = Tables {
+        words: w,
+        counts: c,
+    };
+    let v = lookups::newest_at(Record { tables, number: r }, p);
     purge_to(w, c, r, v.point)
 }

@@ -1,11 +1,11 @@
 -- The ways that Read ends, one law for each return of the code. Rests on Verdicts and Granting.
-use Prim.Native.Nat.{ℕ, ◌-◌, ◌≤◌, ◌<◌}
+use Prim.Native.Nat.{ℕ, ◌-◌, ◌<◌}
 use mathlib.Core.Path.{◌≡◌, sym, ap, ◌∙◌}
 use mathlib.Core.Bool.{Bool, true, false}
 use mathlib.Core.List.{List, []}
 use lib.Dec.{ltb}
 use borrow.Author.Tests.{lt-ltb}
-use Rattle.types.specs.Limits.{READ, SLOTS}
+use Rattle.types.specs.Limits.{READ}
 use Rattle.meaning.specs.Store.{Store, edit_at, rec_at, access_of, version_on}
 use Rattle.types.specs.Numbers.{slot_of}
 use Rattle.meaning.specs.Points.{first_blocked}
@@ -19,17 +19,18 @@ use Rattle.types.specs.declared.Version.{Version}
 use Rattle.types.specs.declared.Access.{Access}
 use Rattle.types.specs.declared.Extent.{Extent}
 use Rattle.blocking.specs.declared.Blocked.{Blocked}
-use Rattle.blocking.specs.Search.{first_judged}
+use Rattle.blocking.specs.Search.{judged}
 use Rattle.std.specs.Prelude.{Result, Ok, Err}
-use Rattle.calls.specs.Grants.{read_grant, refusal_by}
+use Rattle.calls.specs.Grants.{read_grant, refusal_by, Small}
 use Rattle.calls.specs.Parts.{read_taken}
 use Rattle.calls.proofs.Verdicts.{needs_fails, needs_holds, else_fails, else_holds, edit_open}
 use Rattle.calls.specs.Checks.{open_slot}
 use Rattle.calls.proofs.Checks.{open_refused}
 use Rattle.types.specs.Replies.{of_refusal}
 use Rattle.types.specs.declared.Refusal.{Refusal}
-use Rattle.calls.proofs.Granting.{grant_judged, grant_taken, read_refused}
+use Rattle.calls.proofs.Granting.{grant_judged, grant_taken}
 use Rattle.calls.proofs.Judged.{by_small, refusal_is}
+use Rattle.meaning.specs.Store.{has_written, written_value}
 
 module _ (s : Store) (h r m : ℕ) (w : Extent) where
   abbrev read_rest : Verdict
@@ -63,16 +64,17 @@ module _ (s : Store) (h r m : ℕ) (w : Extent) where
 
 -- by the open edit of slot k, whose access of the record is a
 module _ (s : Store) (k r m : ℕ) (w : Extent) (a : Access) (e : a ≡ access_of (edit_at s k) r) where
-  pub read_own : a.written ≡ true → read_open s k r m w ≡ replies s (own a.value)
+  pub read_own : has_written a ≡ true → read_open s k r m w ≡ replies s (own (written_value a))
   unfolding read_open_by
   read_own f = rw (← e, f)
 
-  pub read_again : (v : Version) → a.written ≡ false → 0 < a.from → v ≡ version_on (rec_at s r).versions (a.from - 1)
+  pub read_again : (v : Version) → has_written a ≡ false → 0 < a.from
+      → v ≡ version_on (rec_at s r).versions (a.from - 1)
       → read_open s k r m w ≡ replies s (again (a.from - 1) v.value)
   unfolding read_open_by
   read_again v f l g = rw (← e, f, lt-ltb 0 a.from l, ← g)
 
-  pub read_first : a.written ≡ false → a.from ≡ 0 → read_open s k r m w ≡ read_new s k r m w
+  pub read_first : has_written a ≡ false → a.from ≡ 0 → read_open s k r m w ≡ read_new s k r m w
   unfolding read_open_by
   read_first f l = rw (← e, f, l)
 
@@ -85,7 +87,7 @@ module _ (s : Store) (k r m : ℕ) (w : Extent) where
   read_blocked_at = first_blocked READ k (rec_at s r) (read_from s r m) m
 
   abbrev read_first_judged : Blocked
-  read_first_judged = first_judged s r READ k (read_from s r m) m
+  read_first_judged = judged s r READ k (read_from s r m) m
 
   abbrev read_made : Outcome
   read_made =
@@ -108,20 +110,19 @@ module _ (s : Store) (k r m : ℕ) (w : Extent) where
     read_above = needs_holds s read_made (ltb (rec_at s r).floor m) 7 read_judged above
 
     module _ (b : Blocked) (e : Err b ≡ read_grant w s k r (read_from s r m) m) where
-      judged : (read_granted_lem ≡ false) × (read_first_judged ≡ b)
+      granted : (read_granted_lem ≡ false) × (read_first_judged ≡ b)
       unfolding read_grant
-      judged = grant_judged read_granted_lem (read_from s r m) (read_end s k r m w) read_first_judged b (sym e)
+      granted = grant_judged read_granted_lem (read_from s r m) (read_end s k r m w) read_first_judged b (sym e)
 
-      pub read_by_small : b.by ≤ SLOTS
-      read_by_small = by_small s r READ k (read_from s r m) m b (sym judged.1)
+      pub read_by_small : Small b.judgement
+      read_by_small = by_small s r READ k (read_from s r m) m b (sym granted.1)
 
-      pub read_blocked : (n : ℕ) (more : List ℕ) → read_from s r m ≤ m → refuse n more ≡ refusal_by s b.by
+      pub read_blocked : (n : ℕ) (more : List ℕ) → refuse n more ≡ refusal_by s b.judgement
           → read_new s k r m w ≡ replies s (refusing n more)
-      read_blocked n more order f =
-          let i = read_refused w k (rec_at s r) (read_from s r m) m order judged.0 in
+      read_blocked n more f =
           read_above
-          ∙ else_fails s read_made read_granted_lem n more (judge s r READ k read_blocked_at) read_rooms judged.0
-          (f ∙ refusal_is s r READ k (read_from s r m) m b (sym judged.1) i)
+          ∙ else_fails s read_made read_granted_lem n more (judge s r READ k read_blocked_at) read_rooms granted.0
+          (f ∙ refusal_is s r READ k (read_from s r m) m b (sym granted.1))
 
     pub read_granted_is : (from end : ℕ) → Ok (from, end) ≡ read_grant w s k r (read_from s r m) m
         → read_new s k r m w ≡ read_taken s k r from end (read_version s r m)

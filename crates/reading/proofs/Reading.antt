@@ -7,7 +7,7 @@ use native.Mathlib.Omega.{arith}
 use lib.Dec.{ltb}
 use borrow.Author.Tests.{lt-ltb, le-ltb, le-leb, lt-leb}
 use Rattle.chains.specs.Walk.{IsRow}
-use Rattle.types.specs.Limits.{LAST, READ, SLOTS}
+use Rattle.types.specs.Limits.{LAST, READ}
 use Rattle.meaning.specs.Store.{Rec, Edit, Store, edit_at, rec_at, access_of, newest_below, version_on, locks_used}
 use Rattle.types.specs.Numbers.{slot_of}
 use Rattle.meaning.specs.Points.{add_lock}
@@ -34,9 +34,9 @@ use Rattle.types.specs.declared.Refusal.{Refusal}
 use Rattle.types.specs.declared.Refusal.TheVariants.{NoRecord, BadPoint}
 use Rattle.calls.specs.Checks.{open_slot}
 use Rattle.calls.specs.Contract.{Acts, Ready, Makes}
-use Rattle.calls.specs.Grants.{read_grant, refusal_by}
+use Rattle.calls.specs.Grants.{read_grant, refusal_by, Small}
 use Rattle.calls.specs.Parts.{read_taken}
-use Rattle.calls.specs.Grants.{Grant}
+use Rattle.blocking.specs.Search.{Grant}
 use Rattle.std.specs.Prelude.{Result, Ok, Err}
 use Rattle.calls.proofs.Acting.{ready, facts, makes_refused, makes_done, makes_as, acts}
 use Rattle.calls.proofs.Handles.{has_record_is}
@@ -44,6 +44,8 @@ use Rattle.calls.proofs.Rooms.{lock_free, edit_leaves_room, edit_then_lock}
 use Rattle.reading.proofs.ReadExits.{read_closed, read_no_record, read_bad_point, read_passes}
 use Rattle.reading.proofs.ReadExits.{read_own, read_again, read_first, read_below, read_by_small}
 use Rattle.reading.proofs.ReadExits.{read_blocked, read_granted_is, read_no_access, read_no_lock, read_done}
+use Rattle.std.specs.Prelude.{Some, None}
+use Rattle.meaning.specs.Store.{has_written, written_value}
 
 -- the lock and the access of a read, of the version v
 module _ (c : Counts) (w : List ℕ) (R : Ready c w) (k r from end : ℕ) (v : Version) where
@@ -62,9 +64,9 @@ module _ (c : Counts) (w : List ℕ) (R : Ready c w) (k r from end : ℕ) (v : V
 
     module _ (l : lock_room (decode_at c w) ≡ true) (w₁ : List ℕ)
         (B : Becomes c w₁ (on_edit (decode_at c w) k
-        (λ x. with_access x (record { rec = r; from = from; written = false; value = 0 })))) where
+        (λ x. with_access x (record { rec = r; from = from; value = None })))) where
       abbrev changed : Edit
-      changed = with_access (edit_at (decode_at c w) k) (record { rec = r; from = from; written = false; value = 0 })
+      changed = with_access (edit_at (decode_at c w) k) (record { rec = r; from = from; value = None })
 
       pub taken_room : locks_used (decode_at c w₁) < c.locks
       taken_room = lock_free c w₁ (ap lock_room B.means ∙ edit_leaves_room (decode_at c w) k changed ∙ l)
@@ -122,15 +124,14 @@ module _ (c : Counts) (w : List ℕ) (R : Ready c w) (k r m : ℕ) (x : Extent) 
       granted q = sym q ∙ d ∙ ap (λ (y : ℕ). read_grant x (decode_at c w) k r y m) from_is
 
       module _ (b : Blocked) (q : g ≡ Err b) where
-        pub new_by_small : b.by ≤ SLOTS
+        pub new_by_small : Small b.judgement
         new_by_small = read_by_small (decode_at c w) k r m x above b (granted q)
 
-        pub new_blocked : (j : ℕ) (more : List ℕ) → refuse j more ≡ refusal_by (decode_at c w) b.by
+        pub new_blocked : (j : ℕ) (more : List ℕ) → refuse j more ≡ refusal_by (decode_at c w) b.judgement
             → Makes c (read_new (decode_at c w) k r m x) w w (refusing j more)
         new_blocked j more u =
-            let order : read_from (decode_at c w) r m ≤ m = omega (arith, version_below, from_is) in
             makes_refused c w (read_new (decode_at c w) k r m x) j more R.well
-            (read_blocked (decode_at c w) k r m x above b (granted q) j more order u)
+            (read_blocked (decode_at c w) k r m x above b (granted q) j more u)
 
       pub new_taken : (from end : ℕ) (w' : List ℕ) (q : Reply) → g ≡ Ok (from, end)
           → Makes c (read_taken (decode_at c w) k r from end v) w w' q
@@ -145,12 +146,12 @@ module _ (c : Counts) (w : List ℕ) (R : Ready c w) (k r m : ℕ) (x : Extent) 
   access_is : a ≡ access_of (edit_at (decode_at c w) k) r
   access_is = e ∙ ap (λ (y : Edit). access_of y r) (sym (edit_at_lem c w k i))
 
-  pub opened_own : a.written ≡ true → Makes c (read_open (decode_at c w) k r m x) w w (own a.value)
+  pub opened_own : has_written a ≡ true → Makes c (read_open (decode_at c w) k r m x) w w (own (written_value a))
   opened_own f =
-      makes_done c w (read_open (decode_at c w) k r m x) w (decode_at c w) (own a.value) R.well refl
+      makes_done c w (read_open (decode_at c w) k r m x) w (decode_at c w) (own (written_value a)) R.well refl
       (read_own (decode_at c w) k r m x a access_is f) refl
 
-  module _ (f : a.written ≡ false) where
+  module _ (f : has_written a ≡ false) where
     pub opened_again : (v : Version) (p : ℕ) → r < c.records → 0 < a.from
         → v ≡ version_on (record_at c w r).versions (a.from - 1) → p ≡ a.from - 1
         → Makes c (read_open (decode_at c w) k r m x) w w (again p v.value)

@@ -1,7 +1,16 @@
 // Read on sound words: equal to its definition in the crate `meaning`, and leaving sound words. For callers who prove
 // the words sound (`requires sound_words`), as the calls of `calls`. It goes along the edit's accesses, unless the
 // index says that the record is new to it, and along one record's versions and locks. Rests on the crates `types`,
-// `meaning`, `chains`, `tables`, `changes`, `slots`, `lookups`, `blocking`, `index` and `calls`.
+// `meaning`, `locks`, `chains`, `tables`, `changes`, `slots`, `lookups`, `blocking`, `index` and `calls`.
+// Kept, words and counts: lent to be changed; over a struct of both each would promise, too, that they stay (BORROWS).
+// Kept, Ready c w: `Well` and more, of words before a change.
+// Kept, IsRow c.edits k: of words that change; a `Slot` borrows them, so it ends at the first change.
+// Kept, r < c.records: of words that change; a `Record` borrows them, so it ends at the first change.
+// Kept, sound_words: what a caller proves once for many calls, of words that each call changes.
+// Kept, Indexed: between words that change and an index, which C callers lend one beside the other.
+// Kept, words and index: two memories that C callers lend, one of them to be changed.
+// Kept, handle and record: the parameters of the call in document 01.
+// Kept, index and slot: as the call has them; the `Slot` of `access_row` ends before the words change.
 #![tactic(auto)]
 
 ghost use Rattle.std.specs.Prelude.{◌≡◌, true, ◌≤◌, ◌<◌};
@@ -14,42 +23,14 @@ ghost use Rattle.tables.specs.Decode.{decode_at, AccessRow};
 ghost use Rattle.tables.specs.Words.{lent, decode, sound_words};
 ghost use Rattle.index.specs.Index.{Indexed};
 ghost use Rattle.calls.specs.Contract.{Acts, Ready, Makes};
-ghost use Rattle.calls.specs.Grants.{read_grant};
 ghost use Rattle.calls.specs.Parts.{read_taken};
 
-use blocking::Blocked;
-use types::{Access, Counts, Extent, Found, Handle, LAST, Lock, Point, READ, Refusal, Version};
-
-fn read_grant(
-    w: &[u64],
-    c: Counts,
-    extent: Extent,
-    k: u64,
-    r: usize,
-    low: u64,
-    high: u64,
-) -> Result<(u64, u64), Blocked>
-    requires { Ready c w.now × (r < c.records) × (1 ≤ low) × (low ≤ high) × (high ≤ LAST) × (1 ≤ k) }
-    ensures { result ≡ read_grant extent (decode_at c w.now) k r low high }
-{
-    let b = blocking::first_blocked(w, c, READ, k, r, low, high);
-    match extent {
-        Extent::All => {
-            if high < b.point {
-                Ok((low, high))
-            } else {
-                Err(b)
-            }
-        }
-        Extent::Part => {
-            if low < b.point {
-                Ok((low, b.point - 1))
-            } else {
-                Err(b)
-            }
-        }
-    }
-}
+use blocking::Points;
+use locks::Asker;
+use tables::{Record, Slot, Tables};
+use types::{
+    Access, Counts, Extent, Found, Handle, LAST, Lock, Mode, Point, READ, Refusal, Version,
+};
 
 // Read, once the points are granted: one access row for a record new to the edit, one lock row for the points.
 fn read_taken(
@@ -57,7 +38,7 @@ fn read_taken(
     c: Counts,
     k: usize,
     r: usize,
-    i: usize,
+    i: Option<usize>,
     from: u64,
     end: u64,
     v: Version,
@@ -65,10 +46,14 @@ fn read_taken(
     requires { Ready c w.old × IsRow c.edits k × (r < c.records) × AccessRow c w.old k r i }
     ensures { Makes c (read_taken (decode_at c w.old) k r from end v) w.old w.new (of_read result) }
 {
-    if !lookups::access_room(w, c, i) {
+    let tables = Tables {
+        words: w,
+        counts: c,
+    };
+    if !lookups::access_room(tables, i) {
         return Err(Refusal::NoAccessRow);
     }
-    if !lookups::lock_room(w, c) {
+    if !lookups::lock_room(tables) {
         return Err(Refusal::NoLockRow);
     }
     slots::set_access(
@@ -79,8 +64,7 @@ fn read_taken(
         Access {
             rec: r as u64,
             from,
-            written: false,
-            value: 0,
+            value: None,
         },
     );
     changes::add_lock(
@@ -98,25 +82,38 @@ fn read_taken(
     Ok(Found::Read(Point::from(v.point), Point::from(end), value))
 }
 
-// Read, of a record that the edit has neither written nor read; i is the row of its access, or 0.
+// Read, of a record that the edit has neither written nor read; i is the row of its access, if it has one.
 fn read_new(
     w: &mut [u64],
     c: Counts,
     k: usize,
     r: usize,
-    i: usize,
+    i: Option<usize>,
     m: u64,
     extent: Extent,
 ) -> Result<Found, Refusal>
     requires { Ready c w.old × IsRow c.edits k × (r < c.records) × (m ≤ LAST) × AccessRow c w.old k r i }
     ensures { Makes c (read_new (decode_at c w.old) k r m extent) w.old w.new (of_read result) }
 {
-    if m <= tables::floor_of(w, c, r) {
+    let tables = Tables {
+        words: w,
+        counts: c,
+    };
+    let x = Record { tables, number: r };
+    if m <= x.floor() {
         return Err(Refusal::BelowFloor);
     }
-    let v = lookups::newest_below(w, c, r, m);
-    match read_grant(w, c, extent, k as u64, r, v.point + 1, m) {
-        Err(b) => Err(calls::judge(w, c, b)),
+    let v = lookups::newest_below(x, m);
+    let p = Points {
+        low: v.point + 1,
+        high: m,
+    };
+    let a = Asker {
+        mode: Mode::Read,
+        slot: k as u64,
+    };
+    match blocking::run(x, a, p, extent) {
+        Err(b) => Err(calls::judge(tables, b)),
         Ok((from, end)) => read_taken(w, c, k, r, i, from, end, v),
     }
 }
@@ -134,13 +131,18 @@ fn read_open(
     requires { Ready c w.old × IsRow c.edits k × (r < c.records) × (m ≤ LAST) × Indexed (decode_at c w.old) ix.now }
     ensures { Makes c (read_open (decode_at c w.old) k r m extent) w.old w.new (of_read result) }
 {
-    let i = index::access_row(w, c, k, r as u64, ix);
-    let a = lookups::access_in(w, c, r as u64, i);
-    if a.written {
-        return Ok(Found::Own(a.value));
+    let tables = Tables {
+        words: w,
+        counts: c,
+    };
+    let slot = Slot { tables, number: k };
+    let i = index::access_row(slot, r as u64, ix);
+    let a = lookups::access_in(slot, r as u64, i);
+    if let Some(value) = a.value {
+        return Ok(Found::Own(value));
     }
     if 0 < a.from {
-        let v = lookups::version_on(w, c, r, a.from - 1);
+        let v = lookups::version_on(Record { tables, number: r }, a.from - 1);
         let value = v.value;
         return Ok(Found::Again(Point::from(a.from - 1), value));
     }
@@ -160,7 +162,11 @@ pub fn read(
     ensures { Acts (reading h.0 rec m.0 extent) (lent w.old) (lent w.new) (of_read result) }
 {
     let c = tables::counts_of(w);
-    let k = calls::open_slot(w, c, h)?;
+    let tables = Tables {
+        words: w,
+        counts: c,
+    };
+    let k = calls::open_slot(tables, h)?;
     let r = calls::record(c, rec)?;
     let n = u64::from(m);
     if n < 1 {

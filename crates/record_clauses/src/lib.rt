@@ -1,98 +1,97 @@
 // The clauses of a record: its locks in one pass, its versions, and what backs each version. `all_pass` is that of the
 // locks of all records, for the clauses of slots need it (`soundness::check`); `records_sound` is the rest, for all
 // records. It asks that the slots are sound, for then the marks of `lock_marks` say of each lock whether its owner
-// wrote the record. Rests on the crates `types`, `meaning`, `locks`, `chains`, `tables`, `lookups`, `sweeps` and
-// `clauses` and on the module `lock_marks`.
+// wrote the record. Rests on the crates `types`, `meaning`, `locks`, `chains`, `tables`, `sweeps` and `clauses` and on
+// the module `lock_marks`.
 #![tactic(auto)]
 
 mod lock_marks;
 
-ghost use Rattle.std.specs.Prelude.{◌≡◌, true, ℕ, suc, ◌≤◌, ◌<◌};
+ghost use Rattle.std.specs.Prelude.{◌≡◌, true, suc, ◌≤◌, ◌<◌};
 ghost use Rattle.chains.specs.Lists.{occ};
-ghost use Rattle.chains.specs.Walk.{IsRow};
 ghost use Rattle.types.specs.Limits.{LAST};
 ghost use Rattle.meaning.specs.Lists.{all, any};
-ghost use Rattle.meaning.specs.Store.{access_of};
-ghost use Rattle.meaning.specs.Sound.{wrote_at, backs, sound_rec};
-ghost use Rattle.tables.specs.Layout.{Fits};
-ghost use Rattle.tables.specs.Decode.{lock_at, record_at, slot_at, edits_of, lock_rows};
+ghost use Rattle.meaning.specs.Store.{in_use};
+ghost use Rattle.meaning.specs.Sound.{wrote_at, backs};
+ghost use Rattle.tables.specs.Decode.{lock_at};
 ghost use Rattle.tables.specs.Words.{locks_parted};
+ghost use Rattle.tables.specs.Views.{rec_in};
 ghost use Rattle.clauses.specs.Clauses.{mode_listed, span_lies, owner_used, lock_sound, lock_now, locks_pass, all_pass};
 ghost use Rattle.clauses.specs.Clauses.{falls_below, ends_on, falls_to, versions_sound, is_backed};
-ghost use Rattle.clauses.specs.Clauses.{records_sound, slots_sound};
+ghost use Rattle.clauses.specs.Clauses.{record_rest, records_sound, slots_sound};
 ghost use Rattle.clauses.specs.Marks.{Writers};
+ghost use Rattle.clauses.specs.Views.{edits_in, lock_rows, SlotOf, committed_at};
 
-use chains::Walk;
-use lock_marks::{MARKS, mark_slots};
+use chains::MARKS;
+use clauses::all_records;
+use lock_marks::{LockMarks, lock_rows};
 use sweeps::Swept;
-use types::{COMMITTED, Counts, LAST, Lock, READ, SETTLED, Version, WRITE};
+use tables::{Record, Row, Slot, Tables};
+use types::{COMMITTED, FREE, LAST, Lock, READ, SETTLED, Version, WRITE};
+
+// The slot with this number, if there is one.
+fn slot_of<'a>(t: Tables<'a>, k: u64) -> Option<Slot<'a>>
+    ensures { SlotOf t.entry k result }
+{
+    let number = k as usize;
+    if number == 0 || t.counts.edits < number {
+        return None;
+    }
+    Some(Slot { tables: t, number })
+}
 
 // The locks of a record, each by itself: its span, its mode, its owner.
 
 fn span_lies(floor: u64, l: Lock) -> bool
     ensures { result ≡ span_lies floor l }
 {
-    if l.low <= floor {
-        return false;
-    }
-    if l.high < l.low {
-        return false;
-    }
-    l.high <= LAST
+    floor < l.low && l.low <= l.high && l.high <= LAST
 }
 
 fn mode_listed(l: Lock) -> bool
     ensures { result ≡ mode_listed l }
 {
-    if l.mode == READ {
-        return true;
-    }
-    l.mode == WRITE
+    l.mode == READ || l.mode == WRITE
 }
 
-fn owner_used(w: &[u64], c: Counts, l: Lock) -> bool
-    requires { Fits c w.now }
-    ensures { result ≡ owner_used (edits_of c w.now) l }
+fn slot_used(t: Tables<'_>, k: u64) -> bool
+    ensures { result ≡ in_use (edits_in t.entry) k }
 {
-    if l.owner == SETTLED {
-        return true;
+    match slot_of(t, k) {
+        Some(s) => s.state() != FREE,
+        None => false,
     }
-    lookups::slot_used(w, c, l.owner)
 }
 
-fn lock_sound(w: &[u64], c: Counts, floor: u64, l: Lock) -> bool
-    requires { Fits c w.now }
-    ensures { result ≡ lock_sound (edits_of c w.now) floor l }
+fn owner_used(t: Tables<'_>, l: Lock) -> bool
+    ensures { result ≡ owner_used (edits_in t.entry) l }
 {
-    if !span_lies(floor, l) {
-        return false;
-    }
-    if !mode_listed(l) {
-        return false;
-    }
-    owner_used(w, c, l)
+    l.owner == SETTLED || slot_used(t, l.owner)
+}
+
+#[tactic(auto, unfolding(clauses::specs::Clauses::lock_sound))]
+fn lock_sound(t: Tables<'_>, floor: u64, l: Lock) -> bool
+    ensures { result ≡ lock_sound (edits_in t.entry) floor l }
+{
+    span_lies(floor, l) && mode_listed(l) && owner_used(t, l)
 }
 
 // In one pass along their chain: each by itself, and how it stands to those before it (the crate `sweeps`).
 
-fn lock_passes(w: &[u64], c: Counts, floor: u64, s: Swept, l: Lock) -> bool
-    requires { Fits c w.now }
-    ensures { result ≡ lock_now (edits_of c w.now) floor s l }
+#[tactic(auto, unfolding(clauses::specs::Clauses::lock_now))]
+fn lock_passes(t: Tables<'_>, floor: u64, s: Swept, l: Lock) -> bool
+    ensures { result ≡ lock_now (edits_in t.entry) floor s l }
 {
-    if !lock_sound(w, c, floor, l) {
-        return false;
-    }
-    sweeps::swept_now(s, l)
+    lock_sound(t, floor, l) && sweeps::swept_now(s, l)
 }
 
-fn locks_pass(w: &[u64], c: Counts, r: usize) -> bool
-    requires { Fits c w.now × (r < c.records) }
-    ensures { result ≡ locks_pass (edits_of c w.now) (record_at c w.now r) }
+fn locks_pass(r: Record<'_>) -> bool
+    ensures { result ≡ locks_pass (edits_in r.entry.tables) (rec_in r.entry) }
 {
-    let floor = tables::floor_of(w, c, r);
+    let floor = r.floor();
     let mut s = sweeps::none_passed();
-    for l in tables::locks(w, c, r) {
-        if !lock_passes(w, c, floor, s, l) {
+    for l in r.locks() {
+        if !lock_passes(r.tables, floor, s, l) {
             return false;
         }
         s = sweeps::passed(s, l);
@@ -101,43 +100,33 @@ fn locks_pass(w: &[u64], c: Counts, r: usize) -> bool
 }
 
 // The locks of all records. It comes before the clauses of slots and those of versions, which ask for it.
-pub fn all_pass(w: &[u64], c: Counts) -> bool
-    requires { Fits c w.now }
-    ensures { result ≡ all_pass c w.now }
+pub fn all_pass(t: Tables<'_>) -> bool
+    ensures { result ≡ all_pass t.entry.counts t.entry.words.now }
 {
-    (0..c.records).all(|r| locks_pass(w, c, r))
+    all_records(t, |r| locks_pass(r))
 }
 
 // Its versions: they fall strictly from LAST at most, none below the floor, none at 0, the last at the floor if that is
 // above 0.
 
+#[tactic(auto, unfolding(clauses::specs::Clauses::falls_below))]
 fn falls_below(floor: u64, top: u64, p: u64) -> bool
     ensures { result ≡ falls_below floor top p }
 {
-    if top <= p {
-        return false;
-    }
-    if p < floor {
-        return false;
-    }
-    0 < p
+    p < top && floor <= p && 0 < p
 }
 
 fn ends_at(floor: u64, top: u64) -> bool
     ensures { result ≡ ends_on floor top }
 {
-    if floor == 0 {
-        return true;
-    }
-    top == floor
+    floor == 0 || top == floor
 }
 
-fn versions_fall(w: &[u64], c: Counts, r: usize, floor: u64) -> bool
-    requires { Fits c w.now × (r < c.records) }
-    ensures { result ≡ falls_to floor (suc LAST) (record_at c w.now r).versions }
+fn versions_fall(r: Record<'_>, floor: u64) -> bool
+    ensures { result ≡ falls_to floor (suc LAST) (rec_in r.entry).versions }
 {
     let mut top = LAST + 1;
-    for v in tables::versions(w, c, r) {
+    for v in r.versions() {
         if !falls_below(floor, top, v.point) {
             return false;
         }
@@ -146,112 +135,122 @@ fn versions_fall(w: &[u64], c: Counts, r: usize, floor: u64) -> bool
     ends_at(floor, top)
 }
 
-fn versions_sound(w: &[u64], c: Counts, r: usize) -> bool
-    requires { Fits c w.now × (r < c.records) }
-    ensures { result ≡ versions_sound (record_at c w.now r) }
+#[tactic(auto, unfolding(clauses::specs::Clauses::versions_sound))]
+fn versions_sound(r: Record<'_>) -> bool
+    ensures { result ≡ versions_sound (rec_in r.entry) }
 {
-    let floor = tables::floor_of(w, c, r);
-    if LAST < floor {
-        return false;
-    }
-    versions_fall(w, c, r, floor)
+    let floor = r.floor();
+    floor <= LAST && versions_fall(r, floor)
 }
 
 // Each version above the floor has a write lock on its point, settled or of an edit that wrote the record and committed
 // at that point.
 
-fn wrote_at(w: &[u64], c: Counts, k: u64, r: usize, t: u64, wrote: bool) -> bool
-    requires { Fits c w.now × (IsRow c.edits k → wrote ≡ (access_of (slot_at c w.now k) r).written) }
-    ensures { result ≡ wrote_at (edits_of c w.now) k r t }
+// Slot k has committed at p.
+fn committed_at(t: Tables<'_>, k: u64, p: u64) -> bool
+    ensures { result ≡ committed_at (edits_in t.entry) k p }
 {
-    if k == 0 {
-        return false;
+    match slot_of(t, k) {
+        Some(s) => s.state() == COMMITTED && s.point() == p,
+        None => false,
     }
-    if chains::word(c.edits) < k {
-        return false;
-    }
-    let slot = chains::wide(k);
-    if tables::state_of(w, c, slot) != COMMITTED {
-        return false;
-    }
-    if tables::point_of(w, c, slot) != t {
-        return false;
-    }
-    wrote
 }
 
-fn row_backs(w: &[u64], c: Counts, r: usize, p: u64, i: usize, marks: &[u8; MARKS]) -> bool
-    requires { Fits c w.now × IsRow c.locks i × Writers c w.now r marks.now × (1 ≤ occ i (lock_rows c w.now r)) }
-    ensures { result ≡ backs (edits_of c w.now) r p (lock_at c w.now i) }
-{
-    let l = tables::lock_at(w, c, i);
-    if l.mode != WRITE {
-        return false;
-    }
-    if !locks::covers(p, l) {
-        return false;
-    }
-    if l.owner == SETTLED {
-        return true;
-    }
-    wrote_at(w, c, l.owner, r, p, marks[i] == 1)
+// A record with marks that say of each of its lock rows whether the lock's owner wrote the record.
+#[derive(Clone, Copy)]
+struct Marked<'a, 'm> {
+    record: Record<'a>,
+    marks: &'m LockMarks,
+    ghost wrote: { Writers record.tables.counts record.tables.words.now record.number marks.now.rows },
 }
 
-fn any_backs(w: &[u64], c: Counts, r: usize, p: u64, marks: &[u8; MARKS]) -> bool
-    requires { Fits c w.now × (r < c.records) × Writers c w.now r marks.now }
-    ensures { result ≡ any (backs (edits_of c w.now) r p) (record_at c w.now r).locks }
-{
-    for i in Walk::new(w, tables::lock_table(c), tables::first_lock(w, c, r)) {
-        if row_backs(w, c, r, p, i, marks) {
-            return true;
+impl<'a, 'm> Marked<'a, 'm> {
+    // Slot k, the owner of the record's lock in row i, wrote the record and committed at p.
+    fn owner_wrote(self, k: u64, p: u64, i: usize) -> bool
+        requires { (1 ≤ occ i (lock_rows self.record))
+            × (k ≡ (lock_at self.record.tables.counts self.record.tables.words.now i).owner) }
+        ensures { result ≡ wrote_at (edits_in self.entry.record.tables) k self.entry.record.number p }
+    {
+        committed_at(self.record.tables, k, p) && self.marks.rows[i]
+    }
+
+    // The record's lock in row i backs a version at p.
+    #[tactic(auto, unfolding(meaning::specs::Sound::backs))]
+    fn row_backs(self, p: u64, i: usize) -> bool
+        requires { 1 ≤ occ i (lock_rows self.record) }
+        ensures { result
+            ≡ backs (edits_in self.entry.record.tables) self.entry.record.number p
+            (lock_at self.entry.record.tables.counts self.entry.record.tables.words.now i) }
+    {
+        let l = Lock::read(self.record.tables, i);
+        l.mode == WRITE
+            && locks::covers(p, l)
+            && (l.owner == SETTLED || self.owner_wrote(l.owner, p, i))
+    }
+
+    // Kept: the test asks of a row that it stands on the record's chain, as the loop's invariant says; the closure of
+    // an `any` would have to ask it of each row number, and no line would say it
+    fn any_backs(self, p: u64) -> bool
+        ensures { result
+            ≡ any (backs (edits_in self.entry.record.tables)
+            self.entry.record.number p) (rec_in self.entry.record).locks }
+    {
+        for i in lock_rows(self.record) {
+            if self.row_backs(p, i) {
+                return true;
+            }
         }
+        false
     }
-    false
-}
 
-fn version_backed(w: &[u64], c: Counts, r: usize, v: Version, marks: &[u8; MARKS]) -> bool
-    requires { Fits c w.now × (r < c.records) × Writers c w.now r marks.now }
-    ensures { result ≡ is_backed (edits_of c w.now) r (record_at c w.now r) v }
-{
-    if v.point <= tables::floor_of(w, c, r) {
-        return true;
+    #[tactic(auto, unfolding(clauses::specs::Clauses::is_backed))]
+    fn version_backed(self, v: Version) -> bool
+        ensures { result
+            ≡ is_backed (edits_in self.entry.record.tables)
+            self.entry.record.number (rec_in self.entry.record) v }
+    {
+        v.point <= self.record.floor() || self.any_backs(v.point)
     }
-    any_backs(w, c, r, v.point, marks)
-}
 
-fn versions_backed(w: &[u64], c: Counts, r: usize, marks: &[u8; MARKS]) -> bool
-    requires { Fits c w.now × (r < c.records) × Writers c w.now r marks.now }
-    ensures { result ≡ all (is_backed (edits_of c w.now) r (record_at c w.now r))
-        (record_at c w.now r).versions }
-{
-    tables::versions(w, c, r).all(|v| version_backed(w, c, r, v, marks))
-}
-
-// The clauses of a record, and of all records.
-
-fn record_sound(w: &[u64], c: Counts, r: usize, marks: &[u8; MARKS]) -> bool
-    requires { Fits c w.now × (r < c.records) × Writers c w.now r marks.now
-        × (locks_pass (edits_of c w.now) (record_at c w.now r) ≡ true) }
-    ensures { result ≡ sound_rec (edits_of c w.now) r (record_at c w.now r) }
-{
-    if !versions_sound(w, c, r) {
-        return false;
+    // Kept: the iterator's method is the generic function, and the line shows the test
+    fn versions_backed(self) -> bool
+        ensures { result
+            ≡ all (is_backed (edits_in self.entry.record.tables)
+            self.entry.record.number (rec_in self.entry.record)) (rec_in self.entry.record).versions }
+    {
+        self.record.versions().all(|v| self.version_backed(v))
     }
-    versions_backed(w, c, r, marks)
+
+    // The clauses of a record whose locks pass.
+    fn sound(self) -> bool
+        ensures { result
+            ≡ record_rest (edits_in self.entry.record.tables)
+            self.entry.record.number (rec_in self.entry.record) }
+    {
+        versions_sound(self.record) && self.versions_backed()
+    }
 }
 
-fn records_sound_with(w: &[u64], c: Counts, marks: &[u8; MARKS]) -> bool
-    requires { Fits c w.now × ((r : ℕ) → r < c.records → Writers c w.now r marks.now) × (all_pass c w.now ≡ true) }
-    ensures { result ≡ records_sound c w.now }
+// Kept: the rows are lent words, which a check does not change, and memory is fixed: marks stand beside the rows
+pub fn records_sound(t: Tables<'_>) -> bool
+    requires { (locks_parted t.counts t.words.now ≡ true) × (slots_sound t.counts t.words.now ≡ true)
+        × (all_pass t.counts t.words.now ≡ true) }
+    ensures { result ≡ records_sound t.entry.counts t.entry.words.now }
 {
-    (0..c.records).all(|r| record_sound(w, c, r, marks))
-}
-
-pub fn records_sound(w: &[u64], c: Counts) -> bool
-    requires { Fits c w.now × (locks_parted c w.now ≡ true) × (slots_sound c w.now ≡ true) × (all_pass c w.now ≡ true) }
-    ensures { result ≡ records_sound c w.now }
-{
-    let mut marks = [0u8; MARKS];
-    mark_slots(w, c, &mut marks);
-    records_sound_with(w, c, &marks)
+    let mut marks = LockMarks {
+        rows: [false; MARKS],
+    };
+    marks.mark_slots(t);
+    (0..t.counts.records).all(
+        |number|
+            requires { (number < t.counts.records) × Writers t.counts t.words.now number marks.rows }
+        {
+            let record = Record { tables: t, number };
+            Marked {
+                record,
+                marks: &marks,
+            }
+            .sound()
+        },
+    )
 }

@@ -1,63 +1,90 @@
 // Marks of lock rows, so that one step tells whether a lock's owner wrote the record: for each record that an edit has
-// written, the rows of its own locks on that record become 1. Marks of the crate `clauses` has the same marks on lists.
-// Rests on the crates `types`, `chains`, `tables` and `clauses`.
-ghost use Rattle.std.specs.Prelude.{◌≡◌, ◌<◌, length};
+// written, the rows of its own locks on that record are marked. Marks of the crate `clauses` has the same marks on
+// lists. Rests on the crates `types`, `chains`, `tables` and `clauses`.
+ghost use Rattle.std.specs.Prelude.{◌≡◌};
 ghost use Rattle.chains.specs.Walk.{IsRow};
-ghost use Rattle.tables.specs.Layout.{Fits};
-ghost use Rattle.tables.specs.Decode.{slot_at, lock_rows};
-ghost use Rattle.clauses.specs.Marks.{MARKS, own_mark, mark_own, mark_access, mark_accesses, mark_slots};
+ghost use Rattle.chains.specs.Walker.{rows_left};
+ghost use Rattle.tables.specs.Views.{edit_in};
+ghost use Rattle.clauses.specs.Marks.{own_mark, mark_own, mark_access, mark_accesses, mark_slots};
+ghost use Rattle.clauses.specs.Views.{lock_rows};
 
-use chains::Walk;
-use types::{Access, Counts};
+use chains::{MARKS, Placed, Walk};
+use tables::{Part, Record, Row, Slot, Tables};
+use types::{Access, Lock};
 
-// A mark for each row number from 0 to the last, so that a row is its own index.
-pub const MARKS: usize = types::MAX_ROWS + 1;
-
-fn own_mark(w: &[u64], c: Counts, k: u64, i: usize, old: u8) -> u8
-    requires { Fits c w.now × IsRow c.locks i }
-    ensures { result ≡ own_mark c w.now k old i }
+// The rows of a record's locks.
+// Kept: only the words are those of the tables, whose type is another one, so `..` cannot take them
+pub fn lock_rows<'a>(r: Record<'a>) -> Walk<'a>
+    ensures { rows_left result ≡ lock_rows r.entry }
 {
-    let l = tables::lock_at(w, c, i);
-    if l.owner == k { 1 } else { old }
+    let t = r.tables;
+    Placed {
+        words: t.words,
+        table: Lock::table(t.counts),
+    }
+    .rows(t.first::<Lock>(r.number + 1))
 }
 
-fn mark_own(w: &[u64], c: Counts, k: u64, r: usize, marks: &mut [u8; MARKS])
-    requires { Fits c w.now × (r < c.records) × (length marks.old ≡ MARKS) }
-    ensures { marks.new ≡ mark_own c w.now k marks.old (lock_rows c w.now r) }
+// Kept: `old` is the mark as it was, a value and no switch
+#[tactic(auto, unfolding(tables::specs::Layout::lock_table))]
+fn own_mark(t: Tables<'_>, k: u64, i: usize, old: bool) -> bool
+    requires { IsRow t.counts.locks i }
+    ensures { result ≡ own_mark t.entry.counts t.entry.words.now k old i }
 {
-    for i in Walk::new(w, tables::lock_table(c), tables::first_lock(w, c, r)) {
-        marks[i] = own_mark(w, c, k, i, marks[i]);
-    }
+    Lock::read(t, i).owner == k || old
 }
 
-fn mark_access(w: &[u64], c: Counts, k: usize, a: Access, marks: &mut [u8; MARKS])
-    requires { Fits c w.now × (length marks.old ≡ MARKS) }
-    ensures { marks.new ≡ mark_access c w.now k marks.old a }
-{
-    if !a.written {
-        return;
-    }
-    if chains::word(c.records) <= a.rec {
-        return;
-    }
-    mark_own(w, c, chains::word(k), chains::wide(a.rec), marks);
+// A mark for each row of the lock table.
+// Kept: the rows are lent words, which a check does not change, and memory is fixed: marks stand beside the rows
+#[derive(Drop)]
+pub struct LockMarks {
+    pub rows: [bool; MARKS],
 }
 
-fn mark_slot(w: &[u64], c: Counts, k: usize, marks: &mut [u8; MARKS])
-    requires { Fits c w.now × IsRow c.edits k × (length marks.old ≡ MARKS) }
-    ensures { marks.new
-        ≡ mark_accesses c w.now k marks.old (slot_at c w.now k).accesses }
-{
-    for a in tables::accesses(w, c, k) {
-        mark_access(w, c, k, a, marks);
+impl LockMarks {
+    fn mark_own(&mut self, r: Record<'_>, k: u64)
+        ensures { self.new.rows
+            ≡ mark_own r.entry.tables.counts r.entry.tables.words.now k self.old.rows (lock_rows r.entry) }
+    {
+        for i in lock_rows(r) {
+            self.rows[i] = own_mark(r.tables, k, i, self.rows[i]);
+        }
     }
-}
 
-pub fn mark_slots(w: &[u64], c: Counts, marks: &mut [u8; MARKS])
-    requires { Fits c w.now × (length marks.old ≡ MARKS) }
-    ensures { marks.new ≡ mark_slots c w.now marks.old c.edits }
-{
-    for k in 0..c.edits {
-        mark_slot(w, c, k + 1, marks);
+    fn mark_access(&mut self, s: Slot<'_>, a: Access)
+        ensures { self.new.rows
+            ≡ mark_access s.entry.tables.counts s.entry.tables.words.now s.entry.number self.old.rows a }
+    {
+        if a.value.is_none() {
+            return;
+        }
+        let number = a.rec as usize;
+        let t = s.tables;
+        if t.counts.records <= number {
+            return;
+        }
+        self.mark_own(Record { tables: t, number }, s.number as u64);
+    }
+
+    // Kept: what it shares with other steps for each access is the line of the loop: it changes marks, theirs words
+    fn mark_slot(&mut self, s: Slot<'_>)
+        ensures { self.new.rows
+            ≡ mark_accesses s.entry.tables.counts s.entry.tables.words.now s.entry.number self.old.rows
+            (edit_in s.entry).accesses }
+    {
+        for a in s.accesses() {
+            self.mark_access(s, a);
+        }
+    }
+
+    pub fn mark_slots(&mut self, t: Tables<'_>)
+        ensures { self.new.rows ≡ mark_slots t.entry.counts t.entry.words.now self.old.rows t.entry.counts.edits }
+    {
+        for k in 0..t.counts.edits {
+            self.mark_slot(Slot {
+                tables: t,
+                number: k + 1,
+            });
+        }
     }
 }

@@ -5,24 +5,27 @@
 #![tactic(auto)]
 
 use answers::answer;
-use console::print_line;
+use chains::Table;
+use console::Moved;
 use fields::Command;
 use rendering::line_of_answer;
 use std::io;
-use types::{Call, Granted, Refusal};
+use tables::Part;
+use types::{Access, Call, Counts, Granted, Lock, Refusal, Version};
 
-// The store 2 3 4 8 8 in 122 words: where its parts begin.
+// The store 2 3 4 8 8.
 const WORDS: usize = 122;
 
-const RECORDS: usize = tables::HEADER;
+const COUNTS: Counts = Counts {
+    records: 2,
+    edits: 3,
+    versions: 4,
+    locks: 8,
+    accesses: 8,
+};
 
-const SLOTS: usize = RECORDS + 2 * tables::RECORD;
-
-const VERSIONS: usize = SLOTS + 3 * tables::SLOT;
-
-const LOCKS: usize = VERSIONS + 4 * tables::VERSION;
-
-const ACCESSES: usize = LOCKS + 8 * tables::LOCK;
+// Where the words of its slot 1 begin.
+const SLOT_1: usize = tables::HEADER + 2 * tables::RECORD;
 
 // Makes record 0 have a version at 7 with its settled lock, and slot 3 free; edit 129 in slot 1 has read the record and
 // holds 8..9, edit 66 in slot 2 has ended and is not settled.
@@ -59,15 +62,8 @@ const CALLS: [&str; 17] = [
     "V 0 8",
 ];
 
-// The tables with chains.
-#[derive(Clone, Copy)]
-enum Part {
-    Versions,
-    Locks,
-    Accesses,
-}
-
 // The reply of the call's own function, which `perform` gives too.
+// Kept: what is shown is that the two agree.
 fn direct(words: &mut [u64], call: Call) -> Result<Granted, Refusal> {
     match call {
         Call::Begin => store::begin(words).map(Granted::Edit),
@@ -93,16 +89,11 @@ fn told(
     before: &[u64],
     after: &[u64],
 ) -> io::Result<()> {
-    print_line(rt, line_of_answer(reply))?;
+    let line = line_of_answer(reply);
     if before.is_empty() {
-        return Ok(());
+        return print!(rt; "{line}");
     }
-    let moved = if console::moved(before, after) {
-        "words moved"
-    } else {
-        "no word moved"
-    };
-    print!(rt; ", {moved}")
+    print!(rt; "{line}, {}", Moved { before, after })
 }
 
 // Makes each call on a copy of the words, by its own function and by `perform`.
@@ -123,75 +114,72 @@ fn try_calls<const N: usize>(rt: &impl Print, state: [u64; N]) -> io::Result<()>
     Ok(())
 }
 
-fn prepare(rt: &impl Print, words: &mut [u64; WORDS]) -> io::Result<()> {
+// The state, each line of which is printed with its answer.
+fn prepare(rt: &impl Print) -> io::Result<[u64; WORDS]> {
+    let mut words = [0u64; WORDS];
     for line in STATE {
-        print!(rt; "{line}: ")?;
-        print_line(rt, answer(words, WORDS, line.as_bytes()).line)?;
-        println!(rt)?;
+        let reply = answer(&mut words, WORDS, line.as_bytes()).line;
+        println!(rt; "{line}: {reply}")?;
     }
-    Ok(())
+    Ok(words)
 }
 
-// Where the link word of a row stands; no table here has more than eight rows.
-fn link_place(part: Part, row: u64) -> Option<usize> {
-    if row < 1 || 8 < row {
-        return None;
-    }
-    let before = (row - 1) as usize;
-    Some(match part {
-        Part::Versions => VERSIONS + before * tables::VERSION + tables::V_NEXT,
-        Part::Locks => LOCKS + before * tables::LOCK + tables::L_NEXT,
-        Part::Accesses => ACCESSES + before * tables::ACCESS + tables::A_NEXT,
-    })
+// Where the link word of a row stands.
+// Kept: the chains are the store's own form, rows of a slice that are linked by their numbers.
+fn link_place(t: Table, row: u64) -> Option<usize> {
+    let before = (row as usize).checked_sub(1)?;
+    let row_place = before.checked_mul(t.stride)?.checked_add(t.base)?;
+    row_place.checked_add(t.off)
 }
 
 // The row after a row; 0 ends a chain.
-fn further(state: &[u64; WORDS], part: Part, row: u64) -> Option<u64> {
-    let next = *state.get(link_place(part, row)?)?;
-    if next == 0 { None } else { Some(next) }
+// Kept: the same.
+fn further(state: &[u64; WORDS], t: Table, row: u64) -> Option<u64> {
+    let next = *state.get(link_place(t, row)?)?;
+    (next != 0).then_some(next)
 }
 
 // The words with the chain whose first row stands in word `head` going on from its last row to its first.
-fn circle(state: &[u64; WORDS], part: Part, head: usize) -> Option<[u64; WORDS]> {
+// Kept: the same.
+fn circle(state: &[u64; WORDS], t: Table, head: usize) -> Option<[u64; WORDS]> {
     let first = *state.get(head)?;
     let mut last = first;
     // no chain here has more than eight rows
     for _ in 1..8 {
-        last = further(state, part, last).unwrap_or(last);
+        last = further(state, t, last).unwrap_or(last);
     }
     let mut w = *state;
-    *w.get_mut(link_place(part, last)?)? = first;
+    *w.get_mut(link_place(t, last)?)? = first;
     Some(w)
 }
 
 fn try_circles(rt: &impl Print, state: &[u64; WORDS]) -> io::Result<()> {
+    let versions = Version::table(COUNTS);
+    let locks = Lock::table(COUNTS);
+    let accesses = Access::table(COUNTS);
     let chains = [
         (
             "the versions of record 0",
-            Part::Versions,
-            RECORDS + tables::R_VERSION,
+            versions,
+            tables::HEADER + tables::R_VERSION,
         ),
         (
             "the locks of record 0",
-            Part::Locks,
-            RECORDS + tables::R_LOCK,
+            locks,
+            tables::HEADER + tables::R_LOCK,
         ),
         (
             "the accesses of slot 1",
-            Part::Accesses,
-            SLOTS + tables::S_ACCESS,
+            accesses,
+            SLOT_1 + tables::S_ACCESS,
         ),
-        (
-            "the free version rows",
-            Part::Versions,
-            tables::FREE_VERSION,
-        ),
-        ("the free lock rows", Part::Locks, tables::FREE_LOCK),
-        ("the free access rows", Part::Accesses, tables::FREE_ACCESS),
+        ("the free version rows", versions, tables::FREE_VERSION),
+        ("the free lock rows", locks, tables::FREE_LOCK),
+        ("the free access rows", accesses, tables::FREE_ACCESS),
     ];
-    for (text, part, head) in chains {
+    for (text, table, head) in chains {
         println!(rt; "-- {text} in a circle")?;
-        if let Some(w) = circle(state, part, head) {
+        if let Some(w) = circle(state, table, head) {
             try_calls(rt, w)?;
         }
     }
@@ -199,8 +187,7 @@ fn try_circles(rt: &impl Print, state: &[u64; WORDS]) -> io::Result<()> {
 }
 
 fn main(rt: HostRuntime) -> io::Result<()> {
-    let mut state = [0u64; WORDS];
-    prepare(&rt, &mut state)?;
+    let state = prepare(&rt)?;
     println!(&rt; "-- the sound store")?;
     try_calls(&rt, state)?;
     println!(&rt; "-- record count 5000")?;

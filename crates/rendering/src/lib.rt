@@ -6,16 +6,14 @@ ghost use Rattle.std.specs.Prelude.{◌≡◌};
 ghost use Rattle.types.specs.Replies.{of_answer};
 ghost use Rattle.replies.specs.Lines.{line_of};
 
-use replies::{Line, line_of_refusal};
+use replies::Line;
 use types::{Granted, Refusal};
 use value_replies::line_of_granted;
 
 // The line of an answer: what the call gives, or the refusal.
+// Kept: as a From it would stand in the crate of Line, with `line_of_granted`, in the place of three small ones.
 pub fn line_of_answer(a: Result<Granted, Refusal>) -> Line
     ensures { result ≡ line_of (of_answer a) }
 {
-    match a {
-        Ok(g) => line_of_granted(g),
-        Err(x) => line_of_refusal(x),
-    }
+    a.map_or_else(Line::from, line_of_granted)
 }

@@ -1,2 +1,3 @@
--- What a line is. Rests on the crate `types`.
+-- What a line is, and what it prints. Rests on the crates `types` and `texts`.
 pub mod Lines
+pub mod Shown

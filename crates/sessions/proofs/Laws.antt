@@ -31,9 +31,11 @@ use Rattle.desk.specs.Laws.{Same}
 use Rattle.desk.proofs.Cases as cases
 use Rattle.desk.proofs.Cases.{ReadOr, new, read_or}
 use Rattle.desk.proofs.Laws.{only_the_interval, unsound_says_one, ended_says_three, read_plays}
+use Rattle.desk.specs.declared.Setting.{Setting}
+use Rattle.desk.specs.declared.Setting.TheVariants.{Earliest, Latest}
 use Rattle.desk.specs.declared.Session.{Session}
-use Rattle.sessions.specs.Sessions.{WORDS, EMPTIED, code_of_report, setting_of, flag_of, session_of, with_interval}
-use Rattle.sessions.specs.Sessions.{with_session}
+use Rattle.sessions.specs.Sessions.{WORDS, EMPTIED, code_of_report, setting_of, number_of, session_of, with_interval}
+use Rattle.sessions.specs.Sessions.{session_numbers}
 use Rattle.sessions.specs.Laws.{NumbersAreSession, OpenedAreSession, EmptiedIsAlone, SameSessionSameNumbers}
 
 -- a list of five numbers
@@ -50,14 +52,14 @@ is_five (a ∷ b ∷ c ∷ d ∷ e ∷ []) l = five a b c d e
 is_five (a ∷ b ∷ c ∷ d ∷ e ∷ f ∷ xs) l = absurd (omega arith)
 
 -- a session with the handle, the width and the setting of another
-abbrev rebuilt : Session → Handle → ℕ → Bool → Session
-rebuilt s h w l = record { handle = h; low = s.low; high = s.high; width = w; latest = l }
+abbrev rebuilt : Session → Handle → ℕ → Setting → Session
+rebuilt s h w x = record { handle = h; low = s.low; high = s.high; width = w; setting = x }
 
-rebuilt_same : (s s' : Session) → Same s s' → rebuilt s' s.handle s.width s.latest ≡ s'
+rebuilt_same : (s s' : Session) → Same s s' → rebuilt s' s.handle s.width s.setting ≡ s'
 rebuilt_same s s' e =
-    ap (λ (h : Handle). rebuilt s' h s.width s.latest) (sym e.handle)
-    ∙ ap (λ (w : ℕ). rebuilt s' s'.handle w s.latest) (sym e.width)
-    ∙ ap (λ (l : Bool). rebuilt s' s'.handle s'.width l) (sym e.setting)
+    ap (λ (h : Handle). rebuilt s' h s.width s.setting) (sym e.handle)
+    ∙ ap (λ (w : ℕ). rebuilt s' s'.handle w s.setting) (sym e.width)
+    ∙ ap (λ (x : Setting). rebuilt s' s'.handle s'.width x) (sym e.setting)
 
 interval_back : {xs : List ℕ} → Five xs → (s : Session) → Same (session_of xs) s → session_of (with_interval xs s) ≡ s
 unfolding session_of with_interval
@@ -76,17 +78,17 @@ numbers_are_session c w w' code held left session session' n r =
     ap session_of r.told.interval
     ∙ interval_back (is_five session n) r.after.session (keeps c (session_of session) w w' r.after r.kept)
 
-flag_back : (b : Bool) → setting_of (flag_of b) ≡ b
-flag_back true = refl
-flag_back false = refl
+setting_back : (x : Setting) → setting_of (number_of x) ≡ x
+setting_back Earliest = refl
+setting_back Latest = refl
 
-session_back : {xs : List ℕ} → Five xs → (s : Session) → session_of (with_session xs s) ≡ s
-unfolding session_of with_session with_interval
-session_back (five a b c d e) s = ap (λ (l : Bool). rebuilt s s.handle s.width l) (flag_back s.latest)
+session_back : (s : Session) → session_of (session_numbers s) ≡ s
+unfolding session_of session_numbers
+session_back s = ap (λ (x : Setting). rebuilt s s.handle s.width x) (setting_back s.setting)
 
 pub opened_are_session : OpenedAreSession
-opened_are_session t width latest w w' code session session' n o s e =
-    ap session_of (rw e at o.told.set) ∙ session_back (is_five session n) s
+opened_are_session t width setting w w' code session session' n o s e =
+    ap session_of (rw e at o.told.set) ∙ session_back s
 
 same_back : {xs : List ℕ} → Five xs → with_interval xs (session_of xs) ≡ xs
 unfolding session_of with_interval

@@ -1,9 +1,10 @@
 -- What the contracts of the desk's functions imply of the session's numbers: statements, which proofs/Laws proves.
 -- Rests on Sessions, and on Desk and Laws of `desk`.
-use Rattle.std.specs.Prelude.{ℕ, ◌≡◌, Bool, List, length}
+use Rattle.std.specs.Prelude.{ℕ, ◌≡◌, List, length}
 use Rattle.layers.specs.Serial.{Layer}
 use Rattle.desk.specs.Replies.{opened, emptied}
 use Rattle.desk.specs.Desk.{desk_open, DeskCall, read, program}
+use Rattle.desk.specs.declared.Setting.{Setting}
 use Rattle.desk.specs.declared.Session.{Session}
 use Rattle.sessions.specs.Sessions.{WORDS, EMPTIED, session_of, with_interval, Reports, Opens}
 
@@ -19,8 +20,8 @@ NumbersAreSession = (c : DeskCall) (words words' : List ℕ) (code : ℕ) (held 
     → (r : Contract c words words' code held left session session') → session_of session' ≡ r.after.session
 
 abbrev pub OpenedAreSession : Type 0
-OpenedAreSession = (t width : ℕ) (latest : Bool) (words words' : List ℕ) (code : ℕ) (session session' : List ℕ)
-    → length session ≡ WORDS → (o : Opens (Layer (desk_open t width latest) words words') code session session')
+OpenedAreSession = (t width : ℕ) (setting : Setting) (words words' : List ℕ) (code : ℕ) (session session' : List ℕ)
+    → length session ≡ WORDS → (o : Opens (Layer (desk_open t width setting) words words') code session session')
     → (s : Session) → o.opening ≡ opened s → session_of session' ≡ s
 
 -- 30 is for an emptied session alone

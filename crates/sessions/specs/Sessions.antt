@@ -1,9 +1,11 @@
 -- A desk's session as five numbers that the caller lends, and what a caller from another language hears of a desk.
 -- Rests on Codes of `codes`, and on Replies and Desk of `desk`.
-use Rattle.std.specs.Prelude.{ℕ, ◌≡◌, Bool, true, false, not, List, eqb, get_or, set}
-use Rattle.codes.specs.Codes.{code_of, numbers_of}
+use Rattle.std.specs.Prelude.{ℕ, ◌≡◌, List, [], ◌∷◌, get_or, set}
+use Rattle.codes.specs.Codes.{code_of, numbers_of, flag_of}
 use Rattle.desk.specs.Replies.{Opening, opened, declined, Report, told, emptied, After}
 use Rattle.desk.specs.Desk.{point_at}
+use Rattle.desk.specs.declared.Setting.{Setting}
+use Rattle.desk.specs.declared.Setting.TheVariants.{Earliest, Latest}
 use Rattle.desk.specs.declared.Session.{Session}
 
 -- how many numbers a session is, and what stands where
@@ -26,12 +28,12 @@ abbrev pub LATEST : ℕ
 LATEST = 4
 
 -- the setting as a number: 0 names the earliest point, any other number the latest
-abbrev pub setting_of : ℕ → Bool
-setting_of n = not (eqb n 0)
+abbrev pub setting_of : ℕ → Setting
+setting_of n = flag_of n Earliest Latest
 
-abbrev pub flag_of : Bool → ℕ
-flag_of false = 0
-flag_of true = 1
+abbrev pub number_of : Setting → ℕ
+number_of Earliest = 0
+number_of Latest = 1
 
 -- every five numbers are a session
 unfoldable pub session_of : List ℕ → Session
@@ -41,7 +43,7 @@ session_of xs =
       low = point_at (get_or xs LOW 0);
       high = point_at (get_or xs HIGH 0);
       width = get_or xs WIDTH 0;
-      latest = setting_of (get_or xs LATEST 0);
+      setting = setting_of (get_or xs LATEST 0);
     }
 
 -- "The desk's session record is updated in place by each call": the interval, and no other number
@@ -49,9 +51,8 @@ unfoldable pub with_interval : List ℕ → Session → List ℕ
 with_interval xs s = set (set xs LOW s.low.0) HIGH s.high.0
 
 -- opening sets all five
-unfoldable pub with_session : List ℕ → Session → List ℕ
-with_session xs s =
-    with_interval (set (set (set xs HANDLE s.handle.0) WIDTH s.width) LATEST (flag_of s.latest)) s
+unfoldable pub session_numbers : Session → List ℕ
+session_numbers s = s.handle.0 ∷ s.low.0 ∷ s.high.0 ∷ s.width ∷ number_of s.setting ∷ []
 
 -- `emptied` is no refusal: its number is above theirs, and below that of `nopoint`
 abbrev pub EMPTIED : ℕ
@@ -78,7 +79,7 @@ code_of_opening (opened s) = 0
 code_of_opening (declined q) = code_of q
 
 abbrev pub session_after : Opening → List ℕ → List ℕ
-session_after (opened s) held = with_session held s
+session_after (opened s) held = session_numbers s
 session_after (declined q) held = held
 
 pub record TellsOpening (o : Opening) (code : ℕ) (session session' : List ℕ) : Type 0 where

@@ -5,69 +5,73 @@
 
 ghost use Rattle.std.specs.Prelude.{◌≡◌, [], ◌∷◌};
 ghost use Rattle.desk.specs.Replies.{of_open, of_read_step, of_write_step, of_commit_step};
-ghost use Rattle.sessions.specs.Sessions.{setting_of, session_of, with_interval, with_session};
+ghost use Rattle.sessions.specs.Sessions.{setting_of, session_of, with_interval, session_numbers};
 ghost use Rattle.sessions.specs.Sessions.{TellsOpening, TellsAfter};
 
-use desk::{Session, Step};
+use desk::{Session, Setting, Step};
 use types::{Found, Handle, Point, Refusal};
 
-// How many numbers a session is, and what stands where.
+// How many numbers a session is: its handle, the two ends of its interval, the width and the setting.
 pub const WORDS: usize = 5;
 
-const HANDLE: usize = 0;
-
-const LOW: usize = 1;
-
-const HIGH: usize = 2;
-
-const WIDTH: usize = 3;
-
-const LATEST: usize = 4;
-
 // The number of a read that left nothing of the interval: above those of the refusals, below that of `nopoint`.
+// Kept: a number that the C header names.
 const EMPTIED: u64 = 30;
 
-// The setting as a number: 0 names the earliest point, any other number the latest.
-pub fn setting(latest: u64) -> bool
+// The setting by a number: 0 names the earliest point, any other number the latest.
+// Kept: a flag is a number of the C interface; `desk` knows nothing of C.
+pub fn setting(latest: u64) -> Setting
     ensures { result ≡ setting_of latest }
 {
-    latest != 0
+    codes::flag(latest, Setting::Earliest, Setting::Latest)
 }
 
 // Every five numbers are a session.
+// Kept: C lends a session as five numbers; neither they nor `Session` are of this crate, so that there is no `From`.
 #[tactic(auto, unfolding(crate::specs::Sessions::session_of))]
 pub fn session_of(numbers: &[u64; WORDS]) -> Session
     ensures { result ≡ session_of numbers.now }
 {
+    let [handle, low, high, width, latest] = *numbers;
     Session {
-        handle: Handle::from(numbers[HANDLE]),
-        low: Point::from(numbers[LOW]),
-        high: Point::from(numbers[HIGH]),
-        width: numbers[WIDTH],
-        latest: setting(numbers[LATEST]),
+        handle: Handle::from(handle),
+        low: Point::from(low),
+        high: Point::from(high),
+        width,
+        setting: setting(latest),
     }
 }
 
-// The interval after a call; the other numbers stay.
+// The reply of a call, and the interval after it put among the numbers; the others stay.
 #[tactic(auto, unfolding(crate::specs::Sessions::with_interval))]
-fn put_interval(s: Session, numbers: &mut [u64; WORDS])
-    ensures { numbers.new ≡ with_interval numbers.old s }
+fn after<R: Copy>(step: Step<R>, numbers: &mut [u64; WORDS]) -> R
+    ensures { (result ≡ step.reply) × (numbers.new ≡ with_interval numbers.old step.session) }
 {
-    numbers[LOW] = u64::from(s.low);
-    numbers[HIGH] = u64::from(s.high);
+    let Step { session: s, reply } = step;
+    let [handle, _, _, width, latest] = *numbers;
+    *numbers = [handle, u64::from(s.low), u64::from(s.high), width, latest];
+    reply
 }
 
-#[tactic(auto, unfolding(crate::specs::Sessions::with_session))]
+#[tactic(auto, unfolding(crate::specs::Sessions::session_numbers))]
 fn put_session(s: Session, numbers: &mut [u64; WORDS])
-    ensures { numbers.new ≡ with_session numbers.old s }
+    ensures { numbers.new ≡ session_numbers s }
 {
-    numbers[HANDLE] = u64::from(s.handle);
-    numbers[WIDTH] = s.width;
-    numbers[LATEST] = s.latest as u64;
-    put_interval(s, numbers);
+    let latest = match s.setting {
+        Setting::Earliest => 0,
+        Setting::Latest => 1,
+    };
+    *numbers = [
+        u64::from(s.handle),
+        u64::from(s.low),
+        u64::from(s.high),
+        s.width,
+        latest,
+    ];
 }
 
 // What opening, read, write and commit answered.
+// Kept: C hears a session by its five numbers, and a refusal by its number.
 pub fn open(r: Result<Session, Refusal>, numbers: &mut [u64; WORDS]) -> u64
     ensures { TellsOpening (of_open r) result numbers.old numbers.new }
 {
@@ -80,6 +84,7 @@ pub fn open(r: Result<Session, Refusal>, numbers: &mut [u64; WORDS]) -> u64
     }
 }
 
+// Kept: C hears a number, the session's numbers and each value at a pointer of its own.
 pub fn read(
     step: Step<Result<Option<Found>, Refusal>>,
     numbers: &mut [u64; WORDS],
@@ -94,21 +99,21 @@ pub fn read(
         (kind.new ∷ tr.new ∷ end.new ∷ written.new ∷ value.new ∷ [])
         numbers.old numbers.new }
 {
-    put_interval(step.session, numbers);
-    match step.reply {
+    match after(step, numbers) {
         Ok(Some(f)) => telling::read(Ok(f), kind, tr, end, written, value),
         Ok(None) => EMPTIED,
         Err(no) => codes::refusal(no),
     }
 }
 
+// Kept: as `read`; the three share `after`, and each tells another kind of reply at other pointers.
 pub fn write(step: Step<Result<(), Refusal>>, numbers: &mut [u64; WORDS]) -> u64
     ensures { TellsAfter (of_write_step step) result [] [] numbers.old numbers.new }
 {
-    put_interval(step.session, numbers);
-    verdicts::done(step.reply)
+    verdicts::done(after(step, numbers))
 }
 
+// Kept: as `write`.
 pub fn commit(
     step: Step<Result<Option<Point>, Refusal>>,
     numbers: &mut [u64; WORDS],
@@ -118,6 +123,5 @@ pub fn commit(
         (point.old ∷ []) (point.new ∷ [])
         numbers.old numbers.new }
 {
-    put_interval(step.session, numbers);
-    telling::commit(step.reply, point)
+    telling::commit(after(step, numbers), point)
 }

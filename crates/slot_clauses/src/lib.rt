@@ -1,86 +1,71 @@
 // The clauses of a slot: its words, the records that its accesses name, its reads, and its point; `slots_sound` is all
 // of them for all slots. It asks that the locks of every record rise, for so does the search for the common set. Rests
-// on the crates `types`, `meaning`, `locks`, `chains`, `tables`, `blocking` (for that a record's locks rise), `common`
+// on the crates `types`, `meaning`, `locks`, `tables`, `lookups`, `blocking` (for that a record's locks rise), `common`
 // (for the common set) and `clauses`.
 #![tactic(auto)]
 
-ghost use Rattle.std.specs.Prelude.{◌≡◌, true, ◌||◌, ◌-◌, ◌<◌, eqb};
-ghost use Rattle.chains.specs.Walk.{IsRow};
-ghost use Rattle.types.specs.Limits.{COMMITTED};
+ghost use Rattle.std.specs.Prelude.{◌≡◌, true, suc, ◌-◌};
 ghost use Rattle.meaning.specs.Lists.{any};
-ghost use Rattle.meaning.specs.Sound.{names_existing, starts_read, is_present, point_common, free_idle, sound_edit};
-ghost use Rattle.tables.specs.Layout.{Fits};
-ghost use Rattle.tables.specs.Decode.{record_at, slot_at, records_of};
+ghost use Rattle.meaning.specs.Sound.{names_existing, starts_read, is_present, point_common, sound_edit};
+ghost use Rattle.meaning.specs.Sound.{state_listed, generation_listed, point_listed, free_idle};
+ghost use Rattle.tables.specs.Views.{rec_in, edit_in};
 ghost use Rattle.blocking.specs.Search.{AllRise};
-ghost use Rattle.clauses.specs.Clauses.{stands_before, read_sound, accesses_sound, slot_listed, Stamps, slots_sound};
+ghost use Rattle.clauses.specs.Clauses.{read_of, accesses_sound, slot_listed, Stamps, slots_sound};
+ghost use Rattle.clauses.specs.Views.{records_in};
 
-use types::{ABORTED, Access, COMMITTED, Counts, FREE, GENERATIONS, MAX_RECORDS};
+use common::CommonSet;
+use tables::{Record, Slot, Tables};
+use types::{ABORTED, COMMITTED, FREE, GENERATIONS, MAX_RECORDS};
 
 // A record read: the edit has a read lock that starts just after the point read, and that point is a present version,
 // or 0 under floor 0.
 
-fn has_read_lock(w: &[u64], c: Counts, r: usize, k: u64, from: u64) -> bool
-    requires { Fits c w.now × (r < c.records) }
-    ensures { result ≡ any (starts_read k from) (record_at c w.now r).locks }
+// Kept: the iterator's method is the generic function, and the line shows the test
+fn has_read_lock(r: Record<'_>, k: u64, from: u64) -> bool
+    ensures { result ≡ any (starts_read k from) (rec_in r.entry).locks }
 {
-    tables::locks(w, c, r).any(|l| locks::starts_read(k, from, l))
+    r.locks().any(|l| locks::starts_read(k, from, l))
 }
 
-// `from` is the point read + 1.
-fn has_version(w: &[u64], c: Counts, r: usize, from: u64) -> bool
-    requires { Fits c w.now × (r < c.records) }
-    ensures { result ≡ any (stands_before from) (record_at c w.now r).versions }
+fn is_present(r: Record<'_>, p: u64) -> bool
+    ensures { result ≡ is_present (rec_in r.entry) (suc p) }
 {
-    tables::versions(w, c, r).any(|v| from != 0 && v.point == from - 1)
+    lookups::version_stands(r, p) || (p == 0 && r.floor() == 0)
 }
 
-fn is_present(w: &[u64], c: Counts, r: usize, from: u64) -> bool
-    requires { Fits c w.now × (r < c.records) }
-    ensures { result ≡ is_present (record_at c w.now r) from }
+// `from` is the point read + 1, or 0 where the edit has not read the record.
+fn read_sound(r: Record<'_>, k: u64, from: u64) -> bool
+    ensures { result ≡ read_of (rec_in r.entry) k from }
 {
-    if has_version(w, c, r, from) {
-        return true;
+    match from.checked_sub(1) {
+        Some(p) => has_read_lock(r, k, from) && is_present(r, p),
+        None => true,
     }
-    if from != 1 {
-        return false;
-    }
-    tables::floor_of(w, c, r) == 0
 }
 
-fn read_sound(w: &[u64], c: Counts, k: usize, a: Access) -> bool
-    requires { Fits c w.now × (a.rec < c.records) }
-    ensures { result ≡ read_sound (records_of c w.now) k a }
-{
-    if a.from == 0 {
-        return true;
-    }
-    let r = chains::wide(a.rec);
-    if !has_read_lock(w, c, r, chains::word(k), a.from) {
-        return false;
-    }
-    is_present(w, c, r, a.from)
-}
-
-// The accesses of slot k: each names an existing record, at most once, and its read is in order. A record that slot k
-// has named bears the stamp k; slots rise, so an older stamp is lower.
-
-fn accesses_sound(w: &[u64], c: Counts, k: usize, stamps: &mut [u8; MAX_RECORDS]) -> bool
-    requires { Fits c w.now × IsRow c.edits k × Stamps k stamps.old }
+// The accesses of a slot: each names an existing record, at most once, and its read is in order. A record that the slot
+// has named bears its number as a stamp; slots rise, so an older stamp is lower.
+// Kept: a record is lent words, which a check does not change, and memory is fixed: stamps stand beside the records
+fn accesses_sound(s: Slot<'_>, stamps: &mut [u8; MAX_RECORDS]) -> bool
+    requires { Stamps s.number stamps.old }
     ensures { (result
-        ≡ accesses_sound (records_of c w.now) k stamps.old (slot_at c w.now k).accesses)
-        × Stamps k stamps.new }
+        ≡ accesses_sound (records_in s.entry.tables) s.entry.number stamps.old
+        (edit_in s.entry).accesses)
+        × Stamps s.entry.number stamps.new }
 {
-    let mark = k as u8;
-    for a in tables::accesses(w, c, k) {
-        if chains::word(c.records) <= a.rec {
+    let stamp = s.number as u8;
+    let t = s.tables;
+    for a in s.accesses() {
+        let number = a.rec as usize;
+        if t.counts.records <= number {
             return false;
         }
-        let r = chains::wide(a.rec);
-        if stamps[r] == mark {
+        if stamps[number] == stamp {
             return false;
         }
-        stamps[r] = mark;
-        if !read_sound(w, c, k, a) {
+        stamps[number] = stamp;
+        let r = Record { tables: t, number };
+        if !read_sound(r, s.number as u64, a.from) {
             return false;
         }
     }
@@ -89,85 +74,79 @@ fn accesses_sound(w: &[u64], c: Counts, k: usize, stamps: &mut [u8; MAX_RECORDS]
 
 // The words of a slot.
 
-fn point_listed(state: u64, point: u64) -> bool
-    ensures { result ≡ (eqb state COMMITTED || eqb point 0) }
+#[tactic(auto, unfolding(meaning::specs::Sound::state_listed))]
+fn state_listed(s: Slot<'_>) -> bool
+    ensures { result ≡ state_listed (edit_in s.entry) }
 {
-    if state == COMMITTED {
-        return true;
-    }
-    point == 0
+    s.state() <= ABORTED
 }
 
-fn free_idle(w: &[u64], c: Counts, k: usize) -> bool
-    requires { Fits c w.now × IsRow c.edits k }
-    ensures { result ≡ free_idle (slot_at c w.now k) }
+#[tactic(auto, unfolding(meaning::specs::Sound::generation_listed))]
+fn generation_listed(s: Slot<'_>) -> bool
+    ensures { result ≡ generation_listed (edit_in s.entry) }
 {
-    if tables::state_of(w, c, k) != FREE {
-        return true;
-    }
-    tables::accesses(w, c, k).next().is_none()
+    s.generation() < GENERATIONS
 }
 
-fn slot_listed(w: &[u64], c: Counts, k: usize) -> bool
-    requires { Fits c w.now × IsRow c.edits k }
-    ensures { result ≡ slot_listed (slot_at c w.now k) }
+#[tactic(auto, unfolding(meaning::specs::Sound::point_listed))]
+fn point_listed(s: Slot<'_>) -> bool
+    ensures { result ≡ point_listed (edit_in s.entry) }
 {
-    let state = tables::state_of(w, c, k);
-    if ABORTED < state {
-        return false;
-    }
-    if GENERATIONS <= tables::generation_of(w, c, k) {
-        return false;
-    }
-    if !point_listed(state, tables::point_of(w, c, k)) {
-        return false;
-    }
-    free_idle(w, c, k)
+    s.state() == COMMITTED || s.point() == 0
+}
+
+#[tactic(auto, unfolding(meaning::specs::Sound::free_idle))]
+fn free_idle(s: Slot<'_>) -> bool
+    ensures { result ≡ free_idle (edit_in s.entry) }
+{
+    s.state() != FREE || s.accesses().next().is_none()
+}
+
+#[tactic(auto, unfolding(clauses::specs::Clauses::slot_listed))]
+fn slot_listed(s: Slot<'_>) -> bool
+    ensures { result ≡ slot_listed (edit_in s.entry) }
+{
+    state_listed(s) && generation_listed(s) && point_listed(s) && free_idle(s)
 }
 
 // A committed edit's point is in its common set.
-fn point_common(w: &[u64], c: Counts, k: usize) -> bool
-    requires { Fits c w.now × IsRow c.edits k × (names_existing (records_of c w.now) (slot_at c w.now k) ≡ true)
-        × AllRise c w.now }
-    ensures { result ≡ point_common (records_of c w.now) k (slot_at c w.now k) }
+#[tactic(auto, unfolding(meaning::specs::Sound::point_common))]
+fn point_common(s: Slot<'_>) -> bool
+    requires { (names_existing (records_in s.tables) (edit_in s) ≡ true)
+        × AllRise s.tables.counts s.tables.words.now }
+    ensures { result
+        ≡ point_common (records_in s.entry.tables) s.entry.number (edit_in s.entry) }
 {
-    if tables::state_of(w, c, k) != COMMITTED {
-        return true;
-    }
-    common::in_common(w, c, k, tables::point_of(w, c, k))
+    s.state() != COMMITTED || CommonSet { slot: s }.contains(s.point())
 }
 
 // The clauses of a slot, and of all slots.
 
-fn slot_sound(w: &[u64], c: Counts, k: usize, stamps: &mut [u8; MAX_RECORDS]) -> bool
-    requires { Fits c w.now × IsRow c.edits k × Stamps (k - 1) stamps.old × AllRise c w.now }
-    ensures { (result ≡ sound_edit (records_of c w.now) k (slot_at c w.now k)) × Stamps k stamps.new }
+// Kept: a record is lent words, which a check does not change, and memory is fixed: stamps stand beside the records
+fn slot_sound(s: Slot<'_>, stamps: &mut [u8; MAX_RECORDS]) -> bool
+    requires { Stamps (s.number - 1) stamps.old × AllRise s.tables.counts s.tables.words.now }
+    ensures { (result
+        ≡ sound_edit (records_in s.entry.tables) s.entry.number (edit_in s.entry))
+        × Stamps s.entry.number stamps.new }
 {
-    if !slot_listed(w, c, k) {
-        return false;
-    }
-    if !accesses_sound(w, c, k, stamps) {
-        return false;
-    }
-    point_common(w, c, k)
+    slot_listed(s) && (accesses_sound(s, stamps) && point_common(s))
 }
 
-fn slots_sound_with(w: &[u64], c: Counts, stamps: &mut [u8; MAX_RECORDS]) -> bool
-    requires { Fits c w.now × Stamps 0 stamps.old × AllRise c w.now }
-    ensures { result ≡ slots_sound c w.now }
+// Kept: a record is lent words, which a check does not change, and memory is fixed: stamps stand beside the records
+pub fn slots_sound(t: Tables<'_>) -> bool
+    requires { AllRise t.counts t.words.now }
+    ensures { result ≡ slots_sound t.entry.counts t.entry.words.now }
 {
-    for k in 0..c.edits {
-        if !slot_sound(w, c, k + 1, stamps) {
+    // Kept: a stamp is the number of a slot; with flags in its place each slot would first clear those of all records
+    let mut stamps = [0u8; MAX_RECORDS];
+    for k in 0..t.counts.edits {
+        let s = Slot {
+            tables: t,
+            number: k + 1,
+        };
+        if !slot_sound(s, &mut stamps) {
             return false;
         }
     }
     true
-}
-
-pub fn slots_sound(w: &[u64], c: Counts) -> bool
-    requires { Fits c w.now × AllRise c w.now }
-    ensures { result ≡ slots_sound c w.now }
-{
-    let mut stamps = [0u8; MAX_RECORDS];
-    slots_sound_with(w, c, &mut stamps)
 }

@@ -10,12 +10,12 @@ use lib.Dec.{leb}
 use Rattle.chains.specs.Lists.{occ, all_of, last_or}
 use Rattle.chains.specs.Walk.{IsRow}
 use Rattle.chains.specs.Table.{field, rows_of}
-use Rattle.chains.specs.Change.{Ready, Changed, Moved, Taken, Emptied}
+use Rattle.chains.specs.Change.{Ready, Changed, Moved, First, Emptied}
 use Rattle.chains.proofs.Occurs.{occ_here}
 use Rattle.chains.proofs.Words.{on_chain}
 use Rattle.chains.proofs.Frames.{only_elsewhere, field_kept}
 use Rattle.chains.proofs.Entries.{Filled, filled_start, pushed_entries, other_entries, entries_kept}
-use Rattle.meaning.specs.Store.{Edit, with_edit, edit_at, accesses_used, names}
+use Rattle.meaning.specs.Store.{Edit, with_edit, edit_at, names}
 use Rattle.meaning.specs.Edits.{with_access}
 use Rattle.types.specs.declared.Access.{Access}
 use Rattle.types.specs.declared.Counts.{Counts}
@@ -28,7 +28,6 @@ use Rattle.tables.proofs.Decoded.{edit_at_lem}
 use Rattle.changes.specs.Becomes.{Becomes, with_accesses}
 use Rattle.changes.proofs.Parts.{all_same}
 use Rattle.changes.proofs.OneTable.{accesses_become, accesses_fit}
-use Rattle.tables.proofs.Rooms.{free_access}
 use Rattle.changes.proofs.Stored.{access_stored_at, access_stored_marked, access_filled, access_rest}
 use Rattle.changes.proofs.Lists.{all_pushed}
 
@@ -66,11 +65,10 @@ module _ {c : Counts} {w : List ℕ} (W : Well c w) {k : ℕ} (l : IsRow c.edits
   }
 
   -- where there is room, a row was taken
-  module _ {w₁ : List ℕ} {i : ℕ} (t : Taken (access_heads c) w w₁ 0 i
-      (Moved (access_table c) (access_heads c) w w₁ 0 k i))
-      (room : accesses_used (decode_at c w) < c.accesses) where
+  module _ {w₁ : List ℕ} {i : ℕ} (t : First (access_heads c) w 0
+      (Moved (access_table c) (access_heads c) w w₁ 0 k) i) where
     access_moved : Moved (access_table c) (access_heads c) w w₁ 0 k i
-    access_moved = let z : i ≡ 0 → ⊥ = λ e. free_access W room (sym t.head ∙ e) in t.done (omega arith)
+    access_moved = t.done
 
     pub access_row : IsRow c.accesses i
     unfolding access_table

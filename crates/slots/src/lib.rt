@@ -1,13 +1,17 @@
 // Changes of a slot and of its accesses, as those of `changes`: each leaves the words well formed and equals a function
 // of the decoded store; the callers prove that the words are well formed (`Well`), that slots are in range, and that
 // there is room. Rests on the crates `types`, `meaning`, `chains`, `updates`, `tables`, `writes` and `changes`.
+// Kept, words and counts: lent to be changed; over a struct of both each would promise, too, that they stay (BORROWS).
+// Kept, Well c w: of words before a change; a ghost field would say it of the words after it, which is each promise.
+// Kept, IsRow c.edits k: of words that change; a `Slot` borrows them, so it ends at the first change.
 #![tactic(auto)]
 
 ghost use Rattle.std.specs.Prelude.{◌≡◌, true, false, [], ◌≤◌, ◌<◌};
 ghost use Rattle.chains.specs.Lists.{occ};
 ghost use Rattle.chains.specs.Walk.{IsRow};
 ghost use Rattle.chains.specs.Change.{Taken, Moved};
-ghost use Rattle.types.specs.Limits.{GENERATIONS, FREE};
+ghost use Rattle.types.specs.Limits.{GENERATIONS};
+ghost use Rattle.types.specs.Kinds.{state_number};
 ghost use Rattle.meaning.specs.Store.{edit_at, names, accesses_used};
 ghost use Rattle.meaning.specs.Outcomes.{access_room};
 ghost use Rattle.meaning.specs.Sound.{names_once};
@@ -20,15 +24,20 @@ ghost use Rattle.changes.specs.Becomes.{Becomes};
 ghost use Rattle.changes.specs.Becomes.{with_generation};
 ghost use Rattle.changes.specs.Becomes.{with_accesses, on_edit};
 
-use types::{Access, Counts, FREE, OPEN};
+use chains::Linked;
+use tables::{Part, Row, S_GENERATION, S_POINT, S_STATE, Slot, Slots, Tables};
+use types::{Access, Counts, State};
+use updates::Pair;
+use writes::set_word;
 
 // The slot's state and commit point.
-pub fn set_state(w: &mut [u64], c: Counts, k: usize, state: u64, point: u64)
+pub fn set_state(w: &mut [u64], c: Counts, k: usize, state: State, point: u64)
     requires { Well c w.old × IsRow c.edits k }
-    ensures { Becomes c w.new (on_edit (decode_at c w.old) k (λ e. ended e state point)) }
+    ensures { Becomes c w.new
+        (on_edit (decode_at c w.old) k (λ e. ended e (state_number state) point)) }
 {
-    writes::put_state(w, c, k, state);
-    writes::put_point(w, c, k, point);
+    set_word::<Slots>(w, c, k, S_STATE, u64::from(state));
+    set_word::<Slots>(w, c, k, S_POINT, point);
 }
 
 // The slot's generation.
@@ -36,7 +45,7 @@ fn set_generation(w: &mut [u64], c: Counts, k: usize, g: u64)
     requires { Well c w.old × IsRow c.edits k }
     ensures { Becomes c w.new (on_edit (decode_at c w.old) k (λ e. with_generation e g)) }
 {
-    writes::put_generation(w, c, k, g);
+    set_word::<Slots>(w, c, k, S_GENERATION, g);
 }
 
 // Begin: a free slot is opened, with the next generation.
@@ -45,28 +54,39 @@ pub fn open_slot(w: &mut [u64], c: Counts, k: usize)
         × ((edit_at (decode_at c w.old) k).accesses ≡ []) }
     ensures { Becomes c w.new (begun (decode_at c w.old) k) }
 {
-    let g = tables::generation_of(w, c, k);
+    let tables = Tables {
+        words: w,
+        counts: c,
+    };
+    let g = Slot { tables, number: k }.generation();
     let next = types::next_generation(g as u16);
     set_generation(w, c, k, next as u64);
-    set_state(w, c, k, OPEN, 0);
+    set_state(w, c, k, State::Open, 0);
 }
 
 // The first free row becomes the first of slot k's accesses.
-fn take_access(w: &mut [u64], c: Counts, k: usize) -> usize
+fn take_access(w: &mut [u64], c: Counts, k: usize) -> Option<usize>
     requires { Well c w.old × IsRow c.edits k }
     ensures { Taken (access_heads c) w.old w.new 0 result
-        (Moved (access_table c) (access_heads c) w.old w.new 0 k result) }
+        (Moved (access_table c) (access_heads c) w.old w.new 0 k) }
 {
-    updates::move_first(w, tables::access_table(c), tables::access_heads(c), 0, k)
+    let of = Linked {
+        table: Access::table(c),
+        heads: Access::heads(c),
+    };
+    updates::move_first(w, Pair { of, a: 0, b: k })
 }
 
 // An access of a record that the edit does not name.
+// Kept: a lock is put in order of its low point, an access first: what takes the row differs, and what is promised.
 pub fn add_access(w: &mut [u64], c: Counts, k: usize, a: Access)
     requires { Well c w.old × IsRow c.edits k × (names (edit_at (decode_at c w.old) k) a.rec ≡ false)
         × (accesses_used (decode_at c w.old) < c.accesses) }
     ensures { Becomes c w.new (on_edit (decode_at c w.old) k (λ e. with_access e a)) }
 {
-    let i = take_access(w, c, k);
+    let Some(i) = take_access(w, c, k) else {
+        return;
+    };
     writes::put_access(w, c, i, a);
 }
 
@@ -79,26 +99,30 @@ pub fn change_access(w: &mut [u64], c: Counts, k: usize, i: usize, a: Access)
     writes::put_access(w, c, i, a);
 }
 
-// The access takes the place of the edit's access of that record, which is in row i, or stands first where it has none
-// and i is 0.
-pub fn set_access(w: &mut [u64], c: Counts, k: usize, i: usize, a: Access)
+// The access takes the place of the edit's access of that record, which is in row i, or stands first where it has none.
+// Kept: a match on an Option, with an arm for each.
+pub fn set_access(w: &mut [u64], c: Counts, k: usize, i: Option<usize>, a: Access)
     requires { Well c w.old × IsRow c.edits k × (names_once (edit_at (decode_at c w.old) k) ≡ true)
         × (access_room (decode_at c w.old) k a.rec ≡ true) × AccessRow c w.old k a.rec i }
     ensures { Becomes c w.new (on_edit (decode_at c w.old) k (λ e. with_access e a)) }
 {
-    if i == 0 {
-        add_access(w, c, k, a);
-    } else {
-        change_access(w, c, k, i, a);
+    match i {
+        None => add_access(w, c, k, a),
+        Some(row) => change_access(w, c, k, row, a),
     }
 }
 
 // All of slot k's access rows become free.
+// Kept: rows in lent words, linked by their numbers: there is no heap, and document 01 gives the layout.
 fn empty_accesses(w: &mut [u64], c: Counts, k: usize)
     requires { Well c w.old × IsRow c.edits k }
     ensures { Becomes c w.new (on_edit (decode_at c w.old) k (λ e. with_accesses e [])) }
 {
-    updates::empty_after(w, tables::access_table(c), tables::access_heads(c), k, 0, 0);
+    let of = Linked {
+        table: Access::table(c),
+        heads: Access::heads(c),
+    };
+    updates::empty_after(w, Pair { of, a: k, b: 0 }, 0);
 }
 
 // The slot is free, without accesses; its generation stays.
@@ -107,5 +131,5 @@ pub fn free_slot(w: &mut [u64], c: Counts, k: usize)
     ensures { Becomes c w.new (on_edit (decode_at c w.old) k freed) }
 {
     empty_accesses(w, c, k);
-    set_state(w, c, k, FREE, 0);
+    set_state(w, c, k, State::Free, 0);
 }

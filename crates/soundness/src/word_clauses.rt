@@ -1,93 +1,106 @@
 // The clauses on the words: every row is on exactly one chain, lock rows name the record of their chain, written marks
 // are 0 or 1. `formed_at` is all of them; it equals `formed_at` of tables/specs/Words. Rests on the crates `types`,
-// `chains` and `tables`.
-ghost use Rattle.std.specs.Prelude.{◌≡◌, ◌&&◌, ◌<◌};
+// `chains`, `tables` and `clauses`.
+ghost use Rattle.std.specs.Prelude.{◌≡◌, ◌&&◌, ◌<◌, ◌≤◌};
 ghost use Rattle.chains.specs.Lists.{all_of};
-ghost use Rattle.chains.specs.Walk.{IsRow};
-ghost use Rattle.tables.specs.Layout.{Fits};
+ghost use Rattle.chains.specs.Table.{rows_of};
+ghost use Rattle.chains.specs.Walker.{fields_left, with_word};
 ghost use Rattle.tables.specs.Decode.{lock_rows, access_rows};
 ghost use Rattle.tables.specs.Words.{versions_parted, locks_parted, accesses_parted, names_record, marked, locks_named};
 ghost use Rattle.tables.specs.Words.{marks_listed, formed_at};
 
-use chains::{Fields, Tables};
-use tables::{A_WRITTEN, L_RECORD};
-use types::Counts;
+use chains::{Fields, Linked, Placed};
+use clauses::all_records;
+use tables::{A_WRITTEN, L_RECORD, Record, Row, Slot, Tables};
+use types::{Access, Lock, Version};
 
 // Every row is on exactly one chain, in each of the three tables.
 
-fn chains_parted(w: &[u64], c: Counts) -> bool
-    requires { Fits c w.now }
-    ensures { result
-        ≡ (versions_parted c w.now
-        && (locks_parted c w.now && accesses_parted c w.now)) }
+fn linked<R: Row>(t: Tables<'_>) -> Linked
+    ensures { result ≡ record { table = R.table t.entry.counts; heads = R.heads t.entry.counts } }
 {
-    let all = Tables {
-        a: tables::version_table(c),
-        b: tables::lock_table(c),
-        c: tables::access_table(c),
-    };
+    Linked {
+        table: R::table(t.counts),
+        heads: R::heads(t.counts),
+    }
+}
+
+fn chains_parted(t: Tables<'_>) -> bool
+    ensures { result
+        ≡ (versions_parted t.entry.counts t.entry.words.now
+        && (locks_parted t.entry.counts t.entry.words.now && accesses_parted t.entry.counts t.entry.words.now)) }
+{
     chains::partitions_ok(
-        w,
-        all,
-        tables::version_heads(c),
-        tables::lock_heads(c),
-        tables::access_heads(c),
+        t.words,
+        linked::<Version>(t),
+        linked::<Lock>(t),
+        linked::<Access>(t),
     )
+}
+
+// The rows of an owner's chain, each with its word o.
+// Kept: only the words are those of the tables, whose type is another one, so `..` cannot take them
+#[tactic(auto, unfolding(chains::specs::Table::rows_of))]
+fn words_of<'a, R: Row>(t: Tables<'a>, owner: usize, o: usize) -> Fields<'a>
+    requires { owner ≤ (R.heads t.counts).owners × (o < (R.table t.counts).stride) }
+    ensures { fields_left result
+        ≡ with_word (R.table t.entry.counts) t.entry.words.now o
+        (rows_of (R.table t.entry.counts) (R.heads t.entry.counts) t.entry.words.now owner) }
+{
+    Placed {
+        words: t.words,
+        table: R::table(t.counts),
+    }
+    .fields(o, t.first::<R>(owner))
 }
 
 // Lock rows name their chain's record.
 
-fn record_named(w: &[u64], c: Counts, r: usize) -> bool
-    requires { Fits c w.now × (r < c.records) }
-    ensures { result ≡ all_of (names_record c w.now r) (lock_rows c w.now r) }
+// Kept: the iterator's method is the generic function, and the line shows the test
+fn record_named(r: Record<'_>) -> bool
+    ensures { result
+        ≡ all_of (names_record r.entry.tables.counts r.entry.tables.words.now r.entry.number)
+        (lock_rows r.entry.tables.counts r.entry.tables.words.now r.entry.number) }
 {
-    chains::all_with(
-        w,
-        tables::lock_table(c),
-        L_RECORD,
-        r,
-        tables::first_lock(w, c, r),
-    )
+    words_of::<Lock>(r.tables, r.number + 1, L_RECORD).all(|(_, x)| x == r.number)
 }
 
-fn locks_named(w: &[u64], c: Counts) -> bool
-    requires { Fits c w.now }
-    ensures { result ≡ locks_named c w.now }
+// Kept: `all_records` is the generic function, and the line shows the test
+fn locks_named(t: Tables<'_>) -> bool
+    ensures { result ≡ locks_named t.entry.counts t.entry.words.now }
 {
-    (0..c.records).all(|r| record_named(w, c, r))
+    all_records(t, |r| record_named(r))
 }
 
 // Written marks are 0 or 1.
 
-fn slot_marked(w: &[u64], c: Counts, k: usize) -> bool
-    requires { Fits c w.now × IsRow c.edits k }
-    ensures { result ≡ all_of (marked c w.now) (access_rows c w.now k) }
+// Kept: the iterator's method is the generic function, and the line shows the test
+fn slot_marked(s: Slot<'_>) -> bool
+    ensures { result
+        ≡ all_of (marked s.entry.tables.counts s.entry.tables.words.now)
+        (access_rows s.entry.tables.counts s.entry.tables.words.now s.entry.number) }
 {
-    Fields::new(
-        w,
-        tables::access_table(c),
-        A_WRITTEN,
-        tables::first_access(w, c, k),
+    words_of::<Access>(s.tables, s.number, A_WRITTEN).all(|(_, x)| x <= 1)
+}
+
+// Kept: the iterator's method is the generic function, and the line shows the test
+fn marks_listed(t: Tables<'_>) -> bool
+    ensures { result ≡ marks_listed t.entry.counts t.entry.words.now }
+{
+    (0..t.counts.edits).all(
+        |k|
+            requires { k < t.counts.edits }
+        {
+            slot_marked(Slot {
+                tables: t,
+                number: k + 1,
+            })
+        },
     )
-    .all(|(_, x)| x <= 1)
 }
 
-fn marks_listed(w: &[u64], c: Counts) -> bool
-    requires { Fits c w.now }
-    ensures { result ≡ marks_listed c w.now }
+pub fn formed_at(t: Tables<'_>) -> bool
+    ensures { result ≡ formed_at t.entry.counts t.entry.words.now }
 {
-    (0..c.edits).all(|k| slot_marked(w, c, k + 1))
-}
-
-pub fn formed_at(w: &[u64], c: Counts) -> bool
-    requires { Fits c w.now }
-    ensures { result ≡ formed_at c w.now }
-{
-    if !chains_parted(w, c) {
-        return false;
-    }
-    if !locks_named(w, c) {
-        return false;
-    }
-    marks_listed(w, c)
+    chains_parted(t) && (locks_named(t) && marks_listed(t))
 }

@@ -65,14 +65,12 @@ module _ (w : List ℕ) {q : Result (Unit {0}) Refusal} (m : q ≡ sound_or_refu
   unfolding sound_or_refused
   checked_sound e = by_check (sound_words (lent w)) (sym m ∙ e)
 
-  pub does_refused : {call : Store → Outcome} {x : Refusal} → q ≡ Err x → Does call w w (of_refusal x)
+  pub checked_unsound : {x : Refusal} → q ≡ Err x → (sound_words (lent w) ≡ false) × (x ≡ Unsound)
   unfolding sound_or_refused
-  does_refused {call} {x} e =
-      let p = no_check (sound_words (lent w)) x (sym m ∙ e) in
-      rw p.1 (does_unsound {call = call} p.0)
+  checked_unsound {x} e = no_check (sound_words (lent w)) x (sym m ∙ e)
+
+  pub does_refused : {call : Store → Outcome} {x : Refusal} → q ≡ Err x → Does call w w (of_refusal x)
+  does_refused {call} e = let p = checked_unsound e in rw p.1 (does_unsound {call = call} p.0)
 
   pub shows_refused : {call : Store → Outcome} {x : Refusal} → q ≡ Err x → Shows call w (of_refusal x)
-  unfolding sound_or_refused
-  shows_refused {call} {x} e =
-      let p = no_check (sound_words (lent w)) x (sym m ∙ e) in
-      rw p.1 (shows_unsound {call = call} p.0)
+  shows_refused {call} e = let p = checked_unsound e in rw p.1 (shows_unsound {call = call} p.0)

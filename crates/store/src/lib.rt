@@ -17,13 +17,14 @@ ghost use Rattle.format.specs.Format.{Formats};
 ghost use Rattle.meaning.specs.Calls.{act};
 ghost use Rattle.store.specs.Promises.{Does, Shows, may_begin, sound_or_refused};
 
+use tables::Tables;
 use types::{
     Call, Counts, Extent, Finish, Found, Freed, Granted, Handle, Pick, Point, Reading, Refusal,
     Seat, Seen, Span,
 };
 
-// Refusal 1, unless the words are a sound store.
-fn check(words: &[u64]) -> Result<(), Refusal>
+// Refusal 1, unless the words are a sound store. For callers that check once and call often.
+pub fn check(words: &[u64]) -> Result<(), Refusal>
     ensures { result ≡ sound_or_refused words.now }
 {
     if soundness::check(words) {
@@ -41,6 +42,7 @@ pub fn point(reading: Reading, seat: Seat) -> Result<Point, Refusal>
 }
 
 // A fresh store in the slice, whatever it held.
+// Kept: the public name of `format::format`; words and counts are what a Format is asked with, and meet here alone.
 pub fn format(words: &mut [u64], counts: Counts) -> Result<(), Refusal>
     ensures { Formats counts words.old words.new (of_done result) }
 {
@@ -55,18 +57,22 @@ pub fn begin(words: &mut [u64]) -> Result<Handle, Refusal>
 }
 
 // Begin that only looks: `Ok` if it would find a slot, or how it would be refused; nothing is changed.
+// Kept: it shares `check` and `?` with the calls below; what follows is its own.
 pub fn would_begin(words: &[u64]) -> Result<(), Refusal>
     ensures { Shows may_begin words.now (of_done result) }
 {
     check(words)?;
-    let c = tables::counts_of(words);
-    let k = lookups::free_slot(words, c);
-    if c.edits < k {
-        return Err(Refusal::NoSlot);
+    let tables = Tables {
+        words,
+        counts: tables::counts_of(words),
+    };
+    match lookups::free_slot(tables) {
+        Some(_) => Ok(()),
+        None => Err(Refusal::NoSlot),
     }
-    Ok(())
 }
 
+// Kept: as `begin`: the line `check(words)?;` is all that the calls share; a closure for the rest would be longer.
 pub fn write(words: &mut [u64], h: Handle, rec: u64, value: u64) -> Result<(), Refusal>
     ensures { Does (writing h.0 rec value) words.old words.new (of_done result) }
 {
@@ -74,6 +80,7 @@ pub fn write(words: &mut [u64], h: Handle, rec: u64, value: u64) -> Result<(), R
     calls::write(words, h, rec, value, &[index::UNKNOWN; 1])
 }
 
+// Kept: as `write`.
 pub fn lock(
     words: &mut [u64],
     h: Handle,
@@ -88,6 +95,7 @@ pub fn lock(
     locking::lock(words, h, rec, low, high, extent)
 }
 
+// Kept: as `write`.
 pub fn read(
     words: &mut [u64],
     h: Handle,
@@ -101,6 +109,7 @@ pub fn read(
     reading::read(words, h, rec, m, extent, &[index::UNKNOWN; 1])
 }
 
+// Kept: as `write`.
 pub fn commit(
     words: &mut [u64],
     h: Handle,
@@ -113,6 +122,7 @@ pub fn commit(
     commits::commit(words, h, pick, finish, &[index::UNKNOWN; 1])
 }
 
+// Kept: as `write`.
 pub fn abort(words: &mut [u64], h: Handle, finish: Finish) -> Result<(), Refusal>
     ensures { Does (aborting h.0 finish) words.old words.new (of_done result) }
 {
@@ -120,6 +130,7 @@ pub fn abort(words: &mut [u64], h: Handle, finish: Finish) -> Result<(), Refusal
     endings::abort(words, h, finish, &[index::UNKNOWN; 1])
 }
 
+// Kept: as `write`.
 pub fn settle(words: &mut [u64], h: Handle) -> Result<(), Refusal>
     ensures { Does (settling h.0) words.old words.new (of_done result) }
 {
@@ -127,6 +138,7 @@ pub fn settle(words: &mut [u64], h: Handle) -> Result<(), Refusal>
     endings::settle(words, h, &[index::UNKNOWN; 1])
 }
 
+// Kept: as `write`.
 pub fn purge(words: &mut [u64], rec: u64, b: Point) -> Result<Freed, Refusal>
     ensures { Does (purging rec b.0) words.old words.new (of_purge result) }
 {
@@ -134,6 +146,7 @@ pub fn purge(words: &mut [u64], rec: u64, b: Point) -> Result<Freed, Refusal>
     purges::purge(words, rec, b)
 }
 
+// Kept: as `write`.
 pub fn view(words: &[u64], rec: u64, p: Point) -> Result<Seen, Refusal>
     ensures { Shows (viewing rec p.0) words.now (of_view result) }
 {
@@ -142,6 +155,7 @@ pub fn view(words: &[u64], rec: u64, p: Point) -> Result<Seen, Refusal>
 }
 
 // A call of any kind.
+// Kept: `opened::perform`, above this crate, has these arms with an index; a trait would say nine contracts thrice.
 pub fn perform(words: &mut [u64], call: Call) -> Result<Granted, Refusal>
     ensures { Does (act call) words.old words.new (of_answer result) }
 {

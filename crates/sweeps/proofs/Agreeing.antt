@@ -1,6 +1,6 @@
 -- One pass along a record's locks accepts exactly if their low ends rise, settled read locks are joined, and no write
 -- lock shares a point with a lock of another owner. Rests on Reaching and on Lists of the crate `meaning`.
-use Prim.Native.Nat.{ℕ, suc, ◌-◌, ◌≤◌, ◌<◌, max}
+use Prim.Native.Nat.{ℕ, suc, ◌-◌, ◌≤◌, ◌<◌}
 use mathlib.Core.Path.{◌≡◌, refl, sym, ap, ◌∙◌}
 use mathlib.Core.Logic.{◌⊎◌, inl, inr}
 use mathlib.Core.Bool.{Bool, true, false, not, cond, ◌&&◌, ◌||◌, and-false}
@@ -10,6 +10,7 @@ use native.Mathlib.Omega.{arith}
 use native.Mathlib.Decide.{ℕ_discrete, dec_le, dec_lt}
 use lib.Dec.{leb, ltb, eqb}
 use borrow.Author.Tests.{eq-eqb, ne_eqb, le-leb, lt-leb, lt-ltb, le-ltb, leb-true}
+use Rattle.std.specs.Prelude.{Some}
 use Rattle.types.specs.declared.Lock.{Lock}
 use Rattle.meaning.specs.Lists.{◌∈◌, all, pairwise}
 use Rattle.meaning.specs.Points.{is_write, is_settled_read, meets, no_later, apart_reads}
@@ -17,7 +18,7 @@ use Rattle.meaning.specs.Sound.{agree}
 use Rattle.meaning.proofs.Lists.{and_left, and_right, test, all_in, all_out}
 use Rattle.sweeps.specs.declared.Swept.{Swept}
 use Rattle.sweeps.specs.Sweep.{others, reached, rises_now, joined_now, agrees_now, swept_now, passed, passing}
-use Rattle.sweeps.specs.Sweep.{no_swept}
+use Rattle.sweeps.specs.Sweep.{no_swept, later, below}
 use Rattle.sweeps.proofs.Reaching.{Reaches, of_others, farthest, reaches_none, reaches_on, reaches_off}
 use Rattle.sweeps.proofs.Reaching.{farthest_all}
 
@@ -41,13 +42,13 @@ swept_none = record { joined = refl; all = reaches_none (λ p. true); writes = r
 swept_on : {s : Swept} {ps : List Lock} (l : Lock) → SweptOf s ps → SweptOf (passed s l) (l ∷ ps)
 unfolding passed
 swept_on {s} {ps} l v = record {
-  joined = ap (λ j. cond (is_settled_read l) (max j (suc l.high)) j) v.joined;
+  joined = ap (λ j. cond (is_settled_read l) (Some (later j l.high)) j) v.joined;
   all = reaches_on l refl v.all;
   writes = go (is_write l) refl;
 }
   where
     go : (b : Bool) → is_write l ≡ b
-        → Reaches is_write (cond b (reached s.writes l.owner (suc l.high)) s.writes) (l ∷ ps)
+        → Reaches is_write (cond b (reached s.writes l.owner l.high) s.writes) (l ∷ ps)
     go true e = reaches_on l e v.writes
     go false e = reaches_off l e v.writes
 
@@ -76,25 +77,21 @@ module _ (p l : Lock) (rise : p.low ≤ l.low) (some : l.low ≤ l.high) where
       go (yes e) = eq-eqb l.owner p.owner e ∙ sym (eq-eqb p.owner l.owner (sym e))
       go (no e) = ne_eqb l.owner p.owner e ∙ sym (ne_eqb p.owner l.owner (λ z. e (sym z)))
 
-  apart_by : not (meets p.low p.high l) ≡ leb (suc p.high) l.low
+  apart_by : not (meets p.low p.high l) ≡ ltb p.high l.low
   apart_by = go (dec_le l.low p.high)
     where
-      go : Dec (l.low ≤ p.high) → not (meets p.low p.high l) ≡ leb (suc p.high) l.low
-      go (yes e) =
-          rw (le-leb l.low p.high e, le-leb p.low l.high (omega arith))
-          (sym (lt-leb (suc p.high) l.low (omega arith)))
-      go (no e) =
-          rw (lt-leb l.low p.high (omega arith)) (sym (le-leb (suc p.high) l.low (omega arith)))
+      go : Dec (l.low ≤ p.high) → not (meets p.low p.high l) ≡ ltb p.high l.low
+      go (yes e) = rw (le-leb l.low p.high e, le-leb p.low l.high (omega arith)) (sym (le-ltb p.high l.low e))
+      go (no e) = rw (lt-leb l.low p.high (omega arith)) (sym (lt-ltb p.high l.low (omega arith)))
 
   -- agreement as the pass tests it, for a write lock and for a read lock
   agree_as : (b : Bool) → is_write l ≡ b
-      → agree p l ≡ (not (of_others (λ x. cond b true (is_write x)) l.owner p) || leb (suc p.high) l.low)
+      → agree p l ≡ (not (of_others (λ x. cond b true (is_write x)) l.owner p) || ltb p.high l.low)
   unfolding agree
   agree_as b e = rw (same_owner, apart_by, e) (go (eqb p.owner l.owner) (is_write p) b)
     where
       go : (o v b : Bool)
-          → (o || (not (v || b) || leb (suc p.high) l.low))
-          ≡ (not (not o && cond b true v) || leb (suc p.high) l.low)
+          → (o || (not (v || b) || ltb p.high l.low)) ≡ (not (not o && cond b true v) || ltb p.high l.low)
       go true v b = refl
       go false true true = refl
       go false true false = refl
@@ -108,29 +105,29 @@ unfolding agrees_now
 agrees_now_lem s ps l v rise pos some = go (is_write l) refl
   where
     go : (b : Bool) → is_write l ≡ b
-        → leb (others (cond b s.all s.writes) l.owner) l.low ≡ all (λ p. agree p l) ps
+        → below (others (cond b s.all s.writes) l.owner) l.low ≡ all (λ p. agree p l) ps
     go true e =
-        ap (λ x. leb x l.low) (v.all.exact l.owner)
+        ap (λ x. below x l.low) (v.all.exact l.owner)
         ∙ farthest_all (of_others (λ p. true) l.owner) l.low ps
         ∙ all_same _ _ ps (λ p m. sym (agree_as p l (rise p m) some true e))
     go false e =
-        ap (λ x. leb x l.low) (v.writes.exact l.owner)
+        ap (λ x. below x l.low) (v.writes.exact l.owner)
         ∙ farthest_all (of_others is_write l.owner) l.low ps
         ∙ all_same _ _ ps (λ p m. sym (agree_as p l (rise p m) some false e))
 
-less_pred : (a b : ℕ) → 1 ≤ b → ltb a b ≡ leb a (b - 1)
-less_pred a b h = go (dec_lt a b)
+less_pred : (a b : ℕ) → ltb (suc a) b ≡ ltb a (b - 1)
+less_pred a b = go (dec_lt (suc a) b)
   where
-    go : Dec (a < b) → ltb a b ≡ leb a (b - 1)
-    go (yes l) = lt-ltb a b l ∙ sym (le-leb a (b - 1) (omega arith))
-    go (no l) = le-ltb a b (omega arith) ∙ sym (lt-leb a (b - 1) (omega arith))
+    go : Dec (suc a < b) → ltb (suc a) b ≡ ltb a (b - 1)
+    go (yes l) = lt-ltb (suc a) b l ∙ sym (lt-ltb a (b - 1) (omega arith))
+    go (no l) = le-ltb (suc a) b (omega arith) ∙ sym (le-ltb a (b - 1) (omega arith))
 
 -- and settled read locks
-apart_as : (p l : Lock) → p.low ≤ l.low → 1 ≤ l.low → l.low ≤ l.high → (b : Bool) → is_settled_read l ≡ b
-    → apart_reads p l ≡ (not b || (not (is_settled_read p) || leb (suc p.high) (l.low - 1)))
-apart_as p l rise pos some b e =
-    rw (e, le-ltb (suc l.high) p.low (omega arith), less_pred (suc p.high) l.low pos)
-    (go (is_settled_read p) b (leb (suc p.high) (l.low - 1)))
+apart_as : (p l : Lock) → p.low ≤ l.low → l.low ≤ l.high → (b : Bool) → is_settled_read l ≡ b
+    → apart_reads p l ≡ (not b || (not (is_settled_read p) || ltb p.high (l.low - 1)))
+apart_as p l rise some b e =
+    rw (e, le-ltb (suc l.high) p.low (omega arith), less_pred p.high l.low)
+    (go (is_settled_read p) b (ltb p.high (l.low - 1)))
   where
     go : (x b y : Bool) → (not (x && b) || (y || false)) ≡ (not b || (not x || y))
     go true true true = refl
@@ -144,16 +141,14 @@ joined_now_lem : (s : Swept) (ps : List Lock) (l : Lock) → SweptOf s ps → Be
 unfolding joined_now
 joined_now_lem s ps l v rise pos some =
     go (is_settled_read l) refl
-    ∙ all_same (λ p. not (is_settled_read l) || (not (is_settled_read p) || leb (suc p.high) (l.low - 1)))
-    (λ p. apart_reads p l) ps (λ p m. sym (apart_as p l (rise p m) pos some (is_settled_read l) refl))
+    ∙ all_same (λ p. not (is_settled_read l) || (not (is_settled_read p) || ltb p.high (l.low - 1)))
+    (λ p. apart_reads p l) ps (λ p m. sym (apart_as p l (rise p m) some (is_settled_read l) refl))
   where
     go : (b : Bool) → is_settled_read l ≡ b
-        → (not b || ltb s.joined l.low)
-        ≡ all (λ p. not b || (not (is_settled_read p) || leb (suc p.high) (l.low - 1))) ps
+        → (not b || below s.joined (l.low - 1))
+        ≡ all (λ p. not b || (not (is_settled_read p) || ltb p.high (l.low - 1))) ps
     go true e =
-        ap (λ x. ltb x l.low) v.joined
-        ∙ less_pred (farthest is_settled_read ps) l.low pos
-        ∙ farthest_all is_settled_read (l.low - 1) ps
+        ap (λ x. below x (l.low - 1)) v.joined ∙ farthest_all is_settled_read (l.low - 1) ps
     go false e = sym (all_in (λ p. true) ps (λ p m. refl))
 
 -- a pass whose test at each lock is how it stands to all behind it, from any lock on

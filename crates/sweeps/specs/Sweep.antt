@@ -1,29 +1,48 @@
--- One pass along the locks of a record: what it keeps of those behind it, and what it tests at each lock. An end here
--- is one more than a high end, so that 0 stands for "no lock". Rests on Points of the crate `meaning`.
-use Rattle.std.specs.Prelude.{ℕ, suc, max, Bool, true, not, cond, ◌&&◌, ◌||◌, List, [], ◌∷◌, leb, ltb, eqb}
+-- One pass along the locks of a record: what it keeps of those behind it, and what it tests at each lock. Rests on
+-- Points of the crate `meaning`.
+use Rattle.std.specs.Prelude.{ℕ, ◌-◌, max, Bool, true, not, cond, ◌&&◌, ◌||◌, List, [], ◌∷◌, leb, ltb, eqb}
+use Rattle.std.specs.Prelude.{Option, None, Some}
+use Rattle.std.specs.Option.{option_map_or}
 use Rattle.types.specs.declared.Lock.{Lock}
 use Rattle.meaning.specs.Points.{is_write, is_settled_read}
+use Rattle.sweeps.specs.declared.End.{End}
 use Rattle.sweeps.specs.declared.Reach.{Reach}
 use Rattle.sweeps.specs.declared.Swept.{Swept}
 
--- how far the locks of owners other than k reach
-unfoldable pub others : Reach → ℕ → ℕ
-others s k = cond (eqb s.owner k) s.other s.top
+-- the higher of an end, if there is one, and another; and whether it lies below a point
+abbrev pub later : Option ℕ → ℕ → ℕ
+later end high = option_map_or (λ x. max x high) end high
 
--- with one lock more, of owner k and with this end
+abbrev pub below : Option ℕ → ℕ → Bool
+below end p = option_map_or (λ x. ltb x p) end true
+
+-- how far the locks of owners other than k reach
+abbrev pub beside : Option End → Option ℕ → ℕ → Option ℕ
+beside None other k = other
+beside (Some end) other k = cond (eqb end.owner k) other (Some end.high)
+
+unfoldable pub others : Reach → ℕ → Option ℕ
+others s k = beside s.last s.other k
+
+-- with one lock more, of owner k and up to high
+abbrev pub with_end : Option End → Option ℕ → ℕ → ℕ → Reach
+with_end None other k high = record { last = Some (record { high = high; owner = k }); other = other }
+with_end (Some end) other k high =
+    cond (eqb end.owner k)
+    (record { last = Some (record { high = max end.high high; owner = end.owner }); other = other })
+    (cond (ltb end.high high)
+    (record { last = Some (record { high = high; owner = k }); other = Some end.high })
+    (record { last = Some end; other = Some (later other high) }))
+
 unfoldable pub reached : Reach → ℕ → ℕ → Reach
-reached s k end =
-    cond (eqb s.owner k)
-    (record { top = max s.top end; owner = s.owner; other = s.other })
-    (cond (ltb s.top end) (record { top = end; owner = k; other = s.top })
-    (record { top = s.top; owner = s.owner; other = max s.other end }))
+reached s k high = with_end s.last s.other k high
 
 -- before the first lock
 abbrev pub no_reach : Reach
-no_reach = record { top = 0; owner = 0; other = 0 }
+no_reach = record { last = None; other = None }
 
 abbrev pub no_swept : Swept
-no_swept = record { low = 0; joined = 0; all = no_reach; writes = no_reach }
+no_swept = record { low = 0; joined = None; all = no_reach; writes = no_reach }
 
 -- a lock after those that were passed: it starts no earlier than the last of them
 abbrev pub rises_now : Swept → Lock → Bool
@@ -31,28 +50,28 @@ rises_now s l = leb s.low l.low
 
 -- a settled read lock leaves a gap of at least one point after the settled read locks that were passed
 unfoldable pub joined_now : Swept → Lock → Bool
-joined_now s l = not (is_settled_read l) || ltb s.joined l.low
+joined_now s l = not (is_settled_read l) || below s.joined (l.low - 1)
 
 -- a write lock starts after all locks of other owners, a read lock after their write locks
 unfoldable pub agrees_now : Swept → Lock → Bool
-agrees_now s l = leb (others (cond (is_write l) s.all s.writes) l.owner) l.low
+agrees_now s l = below (others (cond (is_write l) s.all s.writes) l.owner) l.low
 
 abbrev pub swept_now : Swept → Lock → Bool
 swept_now s l = rises_now s l && (joined_now s l && agrees_now s l)
 
 -- what is kept after one lock more
 abbrev pub passed_writes : Reach → Lock → Reach
-passed_writes s l = cond (is_write l) (reached s l.owner (suc l.high)) s
+passed_writes s l = cond (is_write l) (reached s l.owner l.high) s
 
-abbrev pub passed_joined : ℕ → Lock → ℕ
-passed_joined j l = cond (is_settled_read l) (max j (suc l.high)) j
+abbrev pub passed_joined : Option ℕ → Lock → Option ℕ
+passed_joined end l = cond (is_settled_read l) (Some (later end l.high)) end
 
 unfoldable pub passed : Swept → Lock → Swept
 passed s l =
     record {
       low = l.low;
       joined = passed_joined s.joined l;
-      all = reached s.all l.owner (suc l.high);
+      all = reached s.all l.owner l.high;
       writes = passed_writes s.writes l;
     }
 

@@ -4,21 +4,25 @@
 // clauses, for any locks, is proofs/Agreeing. Rests on the crates `types`, `meaning` and `locks`.
 #![tactic(auto)]
 
-ghost use Rattle.std.specs.Prelude.{◌≡◌, ◌≤◌};
-ghost use Rattle.types.specs.Limits.{LAST};
-ghost use Rattle.sweeps.specs.Sweep.{others, reached, no_swept, joined_now, agrees_now, swept_now};
+ghost use Rattle.std.specs.Prelude.{◌≡◌};
+ghost use Rattle.sweeps.specs.Sweep.{later, below, others, reached, no_swept, joined_now, agrees_now, swept_now};
 ghost use Rattle.sweeps.specs.Sweep.{passed_writes, passed_joined, passed};
 
 use locks::is_settled_read;
 use types::{Lock, WRITE};
 
-// How far locks reach: the highest end, its owner, and the highest end of the other owners' locks. An end is one more
-// than a high end; 0 where there is no lock.
+// Where a lock ends, and whose it is.
+#[derive(Clone, Copy)]
+pub struct End {
+    pub high: u64,
+    pub owner: u64,
+}
+
+// How far locks reach: the last end among them, and the highest end of the other owners' locks.
 #[derive(Clone, Copy)]
 pub struct Reach {
-    pub top: u64,
-    pub owner: u64,
-    pub other: u64,
+    pub last: Option<End>,
+    pub other: Option<u64>,
 }
 
 // What a pass keeps of the locks behind it: the low end of the last one, the highest end of the settled read locks, and
@@ -26,39 +30,65 @@ pub struct Reach {
 #[derive(Clone, Copy)]
 pub struct Swept {
     pub low: u64,
-    pub joined: u64,
+    pub joined: Option<u64>,
     pub all: Reach,
     pub writes: Reach,
 }
 
-// How far the locks of owners other than k reach.
-#[tactic(auto, unfolding(crate::specs::Sweep::others))]
-fn others(s: Reach, k: u64) -> u64
-    ensures { result ≡ others s k }
+// The higher of an end, if there is one, and another.
+fn later(end: Option<u64>, high: u64) -> u64
+    ensures { result ≡ later end high }
 {
-    if s.owner == k { s.other } else { s.top }
+    end.map_or(high, |x| x.max(high))
 }
 
-// With one lock more, of owner k and with this end.
-#[tactic(auto, unfolding(crate::specs::Sweep::reached))]
-fn reached(s: Reach, k: u64, end: u64) -> Reach
-    ensures { result ≡ reached s k end }
+// An end, if there is one, lies below a point.
+fn below(end: Option<u64>, p: u64) -> bool
+    ensures { result ≡ below end p }
 {
-    if s.owner == k {
+    end.is_none_or(|x| x < p)
+}
+
+// How far the locks of owners other than k reach.
+#[tactic(auto, unfolding(crate::specs::Sweep::others))]
+fn others(s: Reach, k: u64) -> Option<u64>
+    ensures { result ≡ others s k }
+{
+    match s.last {
+        Some(end) if end.owner != k => Some(end.high),
+        _ => s.other,
+    }
+}
+
+// With one lock more, of owner k and up to high.
+#[tactic(auto, unfolding(crate::specs::Sweep::reached))]
+fn reached(s: Reach, k: u64, high: u64) -> Reach
+    ensures { result ≡ reached s k high }
+{
+    let end = End { high, owner: k };
+    let Some(last) = s.last else {
         return Reach {
-            top: s.top.max(end),
+            last: Some(end),
+            ..s
+        };
+    };
+    if last.owner == k {
+        return Reach {
+            last: Some(End {
+                high: last.high.max(high),
+                ..last
+            }),
             ..s
         };
     }
-    if s.top < end {
+    if last.high < high {
         return Reach {
-            top: end,
-            owner: k,
-            other: s.top,
+            last: Some(end),
+            other: Some(last.high),
         };
     }
     Reach {
-        other: s.other.max(end),
+        other: Some(later(s.other, high)),
         ..s
     }
 }
@@ -69,17 +99,16 @@ fn reached(s: Reach, k: u64, end: u64) -> Reach
 fn joined_now(s: Swept, l: Lock) -> bool
     ensures { result ≡ joined_now s l }
 {
-    !is_settled_read(l) || s.joined < l.low
+    !is_settled_read(l) || below(s.joined, l.low.saturating_sub(1))
 }
 
+// Kept: the mode picks which of two values is looked at, and no step differs
 #[tactic(auto, unfolding(crate::specs::Sweep::agrees_now))]
 fn agrees_now(s: Swept, l: Lock) -> bool
     ensures { result ≡ agrees_now s l }
 {
-    if l.mode == WRITE {
-        return others(s.all, l.owner) <= l.low;
-    }
-    others(s.writes, l.owner) <= l.low
+    let behind = if l.mode == WRITE { s.all } else { s.writes };
+    below(others(behind, l.owner), l.low)
 }
 
 pub fn swept_now(s: Swept, l: Lock) -> bool
@@ -94,47 +123,46 @@ pub fn none_passed() -> Swept
     ensures { result ≡ no_swept }
 {
     let none = Reach {
-        top: 0,
-        owner: 0,
-        other: 0,
+        last: None,
+        other: None,
     };
     Swept {
         low: 0,
-        joined: 0,
+        joined: None,
         all: none,
         writes: none,
     }
 }
 
 fn passed_writes(s: Reach, l: Lock) -> Reach
-    requires { l.high ≤ LAST }
     ensures { result ≡ passed_writes s l }
 {
-    if l.mode != WRITE {
-        return s;
+    if l.mode == WRITE {
+        reached(s, l.owner, l.high)
+    } else {
+        s
     }
-    reached(s, l.owner, l.high + 1)
 }
 
-fn passed_joined(j: u64, l: Lock) -> u64
-    requires { l.high ≤ LAST }
-    ensures { result ≡ passed_joined j l }
+fn passed_joined(end: Option<u64>, l: Lock) -> Option<u64>
+    ensures { result ≡ passed_joined end l }
 {
-    if !is_settled_read(l) {
-        return j;
+    if is_settled_read(l) {
+        Some(later(end, l.high))
+    } else {
+        end
     }
-    j.max(l.high + 1)
 }
 
+// Kept: `low` is a lock's field here and not one of a `Swept`, so `..` cannot take it
 #[tactic(auto, unfolding(crate::specs::Sweep::passed))]
 pub fn passed(s: Swept, l: Lock) -> Swept
-    requires { l.high ≤ LAST }
     ensures { result ≡ passed s l }
 {
     Swept {
         low: l.low,
         joined: passed_joined(s.joined, l),
-        all: reached(s.all, l.owner, l.high + 1),
+        all: reached(s.all, l.owner, l.high),
         writes: passed_writes(s.writes, l),
     }
 }

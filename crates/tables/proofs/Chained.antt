@@ -2,11 +2,11 @@
 -- iterator whose list `rest` of what is left is known. In each, d is the call's clause `ran`, e that list, and k what
 -- the closure computes. Rests on nothing.
 use mathlib.Core.Path.{◌≡◌, refl, sym, ap, ◌∙◌}
-use mathlib.Core.Bool.{Bool, true, false, ◌&&◌, ◌||◌, cond}
+use mathlib.Core.Bool.{Bool, true, false, ◌&&◌, ◌||◌, cond, true≢false}
 use mathlib.Core.List.{List, [], ◌∷◌}
 use denote.Ref.{Bor}
 use denote.Param.Members.{Mut}
-use Rattle.std.specs.Prelude.{Option, None, Some, MatchOption, ⊤}
+use Rattle.std.specs.Prelude.{Option, None, Some, MatchOption, ⊤, is_some, map}
 use Rattle.std.specs.List.{list_any, list_all, filter, FoldsTo}
 use Rattle.std.specs.List.{find as find_first}
 use Rattle.std.specs.Option.{unwrap_or, option_map}
@@ -38,6 +38,26 @@ module _ {A : Type 0} (p : A → Bool) where
           → unwrap_or (cond b (Some x) (find_first p xs)) d ≡ cond b x (find p d xs)
       go true e = refl
       go false e = e
+
+-- some entry passes where a search for its row finds one
+pub found_some : {A B : Type 0} (p : A → Bool) (g : B → A) (xs : List B)
+    → is_some (find_first (λ i. p (g i)) xs) ≡ any p (map g xs)
+found_some p g [] = refl
+found_some p g (x ∷ xs) = go (p (g x)) (found_some p g xs)
+  where
+    go : (b : Bool) → is_some (find_first (λ i. p (g i)) xs) ≡ any p (map g xs)
+        → is_some (cond b (Some x) (find_first (λ i. p (g i)) xs)) ≡ (b || any p (map g xs))
+    go true e = refl
+    go false e = e
+
+-- so where none passes it finds none
+pub found_none : {A B : Type 0} (p : A → Bool) (g : B → A) (xs : List B) → any p (map g xs) ≡ false
+    → find_first (λ i. p (g i)) xs ≡ None
+found_none p g xs e = go (find_first (λ i. p (g i)) xs) (found_some p g xs ∙ e)
+  where
+    go : {B : Type 0} (o : Option B) → is_some o ≡ false → o ≡ None
+    go None z = refl
+    go (Some x) z = absurd (true≢false z)
 
 option_map_same : {A : Type 0} (r : Option A) → option_map (λ x. x) r ≡ r
 option_map_same None = refl

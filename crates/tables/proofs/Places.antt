@@ -9,6 +9,7 @@ use lib.Seq.{get_or-set_other}
 use Rattle.chains.specs.Walk.{IsRow}
 use Rattle.chains.specs.Table.{Laid, Lies, place, head_cell}
 use Rattle.types.specs.declared.Counts.{Counts}
+use Rattle.tables.specs.Rows as Rows
 use Rattle.tables.specs.Layout.{slot_base, version_base, lock_base, access_base, size_of, record_table, slot_table}
 use Rattle.tables.specs.Layout.{version_table, lock_table, access_table, version_heads, lock_heads, access_heads}
 use Rattle.tables.specs.Layout.{Fits, counts_of, HEADER, H_RECORDS, H_EDITS, H_VERSIONS, H_LOCKS}
@@ -16,45 +17,19 @@ use Rattle.tables.specs.Layout.{H_ACCESSES, R_VERSION, R_LOCK, S_ACCESS}
 
 module _ {c : Counts} {w : List ℕ} (f : Fits c w) where
   pub versions_laid : Laid (version_table c) (version_heads c) w
-  unfolding version_table version_heads version_base size_of
-  versions_laid =
-      record {
-        inside = omega (arith, f.size);
-        within = omega arith;
-        free_first_lem = omega arith;
-        heads_before = omega arith;
-        step_pos = omega arith;
-      }
+  versions_laid = Rows.versions_laid c w f
 
   pub locks_laid : Laid (lock_table c) (lock_heads c) w
-  unfolding lock_table lock_heads lock_base size_of
-  locks_laid =
-      record {
-        inside = omega (arith, f.size);
-        within = omega arith;
-        free_first_lem = omega arith;
-        heads_before = omega (arith, f.ranged.edits_low);
-        step_pos = omega arith;
-      }
+  locks_laid = Rows.locks_laid c w f
 
   pub accesses_laid : Laid (access_table c) (access_heads c) w
-  unfolding access_table access_heads access_base slot_base size_of
-  accesses_laid =
-      record {
-        inside = omega (arith, f.size);
-        within = omega arith;
-        free_first_lem = omega arith;
-        heads_before = omega (arith, f.ranged.versions_low);
-        step_pos = omega arith;
-      }
+  accesses_laid = Rows.accesses_laid c w f
 
   pub records_lie : Lies (record_table c) w
-  unfolding record_table size_of
-  records_lie = record { inside = omega (arith, f.size); within = omega arith }
+  records_lie = Rows.records_lie c w f
 
   pub slots_lie : Lies (slot_table c) w
-  unfolding slot_table slot_base size_of
-  slots_lie = record { inside = omega (arith, f.size); within = omega arith }
+  slots_lie = Rows.slots_lie c w f
 
 -- A word of a part is at or after its base and before the next part's
 module _ (c : Counts) (i o : ℕ) where

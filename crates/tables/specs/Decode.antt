@@ -1,7 +1,7 @@
 -- What the words mean: the abstract store of the crate `meaning`. Rests on Layout and the chains of `chains`; total on
 -- all words.
-use Rattle.std.specs.Prelude.{ℕ, zero, suc, ◌/◌, ◌%◌, List, [], ◌∷◌, map, eqb, ◌≡◌, Some}
-use Rattle.chains.specs.Lists.{first_of}
+use Rattle.std.specs.Prelude.{ℕ, zero, suc, ◌/◌, ◌%◌, List, [], ◌∷◌, map, eqb, ◌≡◌, cond, Option, Some, None}
+use Rattle.std.specs.List.{find}
 use Rattle.chains.specs.Table.{field, rows_of}
 use Rattle.meaning.specs.Store.{Rec, Edit, Store, is_of}
 use Rattle.types.specs.declared.Version.{Version}
@@ -39,8 +39,9 @@ module _ (c : Counts) (w : List ℕ) where
       record {
         rec = field (Layout.access_table c) w i Layout.A_RECORD;
         from = field (Layout.access_table c) w i Layout.A_FROM;
-        written = eqb (field (Layout.access_table c) w i Layout.A_WRITTEN) 1;
-        value = field (Layout.access_table c) w i Layout.A_VALUE;
+        value =
+            cond (eqb (field (Layout.access_table c) w i Layout.A_WRITTEN) 1)
+            (Some (field (Layout.access_table c) w i Layout.A_VALUE)) None;
       }
 
   -- the rows of a chain: record r's versions and locks, slot k's accesses
@@ -95,6 +96,6 @@ module _ (c : Counts) (w : List ℕ) where
         access_rows = c.accesses;
       }
 
-  -- i is the row of slot k's access of record r, or 0 where there is none
-  abbrev pub AccessRow : ℕ → ℕ → ℕ → Type 0
-  AccessRow k r i = i ≡ first_of (λ j. is_of r (access_at j)) (access_rows k)
+  -- i is the row of slot k's access of record r, if it has one
+  abbrev pub AccessRow : ℕ → ℕ → Option ℕ → Type 0
+  AccessRow k r i = i ≡ find (λ j. is_of r (access_at j)) (access_rows k)

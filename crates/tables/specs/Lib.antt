@@ -5,3 +5,4 @@ pub mod Rows
 pub mod Decode
 pub mod Words
 pub mod Walked
+pub mod Views

@@ -6,4 +6,5 @@ use Rattle.tables.specs.declared.rows.Row
 use Rattle.tables.specs.declared.rows.Rows.{Rows}
 
 unfoldable pub values_left : {R : Type 0} {row : Row.Ghosts R} {part : Part.Ghosts R} → Rows R row part → List R
-values_left {R} {row} {part} s = map (row.at s.counts s.words.now) (ahead (part.table s.counts) s.words.now s.cursor)
+values_left {R} {row} {part} s =
+    map (row.at s.tables.counts s.tables.words.now) (ahead (part.table s.tables.counts) s.tables.words.now s.cursor)

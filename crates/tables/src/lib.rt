@@ -5,22 +5,17 @@
 #![tactic(auto)]
 
 mod parts;
-mod reads;
 mod rows;
+mod views;
 
 ghost use Rattle.std.specs.Prelude.{◌≡◌, ◌≤◌, ◌<◌, length, get_or};
 ghost use Rattle.meaning.specs.Records.{in_range, good_counts};
-ghost use Rattle.tables.specs.Layout.{HEADER, record_table, slot_table, version_table, lock_table, access_table};
-ghost use Rattle.tables.specs.Layout.{version_heads, lock_heads, access_heads, counts_of, size_of, header_ok, Ranged};
+ghost use Rattle.tables.specs.Layout.{HEADER, counts_of, size_of, header_ok, Ranged};
 
-use chains::{Heads, Table};
 pub use parts::{Part, Records, Slots};
-pub use reads::{
-    access_at, accesses, first_access, first_lock, first_version, floor_of, generation_of, lock_at,
-    locks, point_of, state_of, version_at, versions,
-};
 pub use rows::{Row, Rows};
 use types::{Counts, MAX_EDITS, MAX_RECORDS, MAX_ROWS};
+pub use views::{Record, Slot, Tables};
 
 // The layout: every width and offset has its name here and nowhere else; specs/Layout has the same names.
 pub const HEADER: usize = 8;
@@ -95,122 +90,20 @@ pub const A_VALUE: usize = 3;
 
 pub const A_NEXT: usize = 4;
 
-// The five parts as tables, and the heads of their chains.
-
-pub fn record_table(c: Counts) -> Table
-    requires { Ranged c }
-    ensures { result ≡ record_table c }
-{
-    Table {
-        base: HEADER,
-        stride: RECORD,
-        off: R_VERSION,
-        count: c.records,
-    }
-}
-
-pub fn slot_table(c: Counts) -> Table
-    requires { Ranged c }
-    ensures { result ≡ slot_table c }
-{
-    Table {
-        base: HEADER + c.records * RECORD,
-        stride: SLOT,
-        off: S_ACCESS,
-        count: c.edits,
-    }
-}
-
-pub fn version_table(c: Counts) -> Table
-    requires { Ranged c }
-    ensures { result ≡ version_table c }
-{
-    Table {
-        base: HEADER + c.records * RECORD + c.edits * SLOT,
-        stride: VERSION,
-        off: V_NEXT,
-        count: c.versions,
-    }
-}
-
-pub fn lock_table(c: Counts) -> Table
-    requires { Ranged c }
-    ensures { result ≡ lock_table c }
-{
-    Table {
-        base: HEADER + c.records * RECORD + c.edits * SLOT + c.versions * VERSION,
-        stride: LOCK,
-        off: L_NEXT,
-        count: c.locks,
-    }
-}
-
-pub fn access_table(c: Counts) -> Table
-    requires { Ranged c }
-    ensures { result ≡ access_table c }
-{
-    Table {
-        base: HEADER + c.records * RECORD + c.edits * SLOT + c.versions * VERSION + c.locks * LOCK,
-        stride: ACCESS,
-        off: A_NEXT,
-        count: c.accesses,
-    }
-}
-
-pub fn version_heads(c: Counts) -> Heads
-    ensures { result ≡ version_heads c }
-{
-    Heads {
-        free: FREE_VERSION,
-        first: HEADER + R_VERSION,
-        step: RECORD,
-        owners: c.records,
-    }
-}
-
-pub fn lock_heads(c: Counts) -> Heads
-    ensures { result ≡ lock_heads c }
-{
-    Heads {
-        free: FREE_LOCK,
-        first: HEADER + R_LOCK,
-        step: RECORD,
-        owners: c.records,
-    }
-}
-
-pub fn access_heads(c: Counts) -> Heads
-    requires { Ranged c }
-    ensures { result ≡ access_heads c }
-{
-    Heads {
-        free: FREE_ACCESS,
-        first: HEADER + c.records * RECORD + S_ACCESS,
-        step: SLOT,
-        owners: c.edits,
-    }
-}
-
 // The header.
 
-fn header_word(w: &[u64], i: usize) -> usize
-    requires { i < length w.now }
-    ensures { result ≡ get_or w.now i 0 }
-{
-    chains::wide(w[i])
-}
-
+// Kept: words of any length are no counts, and a `From` may ask for nothing.
 #[tactic(auto, unfolding(crate::specs::Layout::counts_of))]
 pub fn counts_of(w: &[u64]) -> Counts
     requires { HEADER ≤ length w.now }
     ensures { result ≡ counts_of w.now }
 {
     Counts {
-        records: header_word(w, H_RECORDS),
-        edits: header_word(w, H_EDITS),
-        versions: header_word(w, H_VERSIONS),
-        locks: header_word(w, H_LOCKS),
-        accesses: header_word(w, H_ACCESSES),
+        records: w[H_RECORDS] as usize,
+        edits: w[H_EDITS] as usize,
+        versions: w[H_VERSIONS] as usize,
+        locks: w[H_LOCKS] as usize,
+        accesses: w[H_ACCESSES] as usize,
     }
 }
 

@@ -1,14 +1,15 @@
-// The five parts of a store's words, each a table of rows, and a word of one. Rests on lib.rt and on the crates `types`
-// and `chains`.
-ghost use Rattle.std.specs.Prelude.{◌≡◌, ◌<◌, ℕ, List};
+// The five parts of a store's words, each a table of rows: where it lies. Rests on lib.rt and on the crates `types` and
+// `chains`.
+ghost use Rattle.std.specs.Prelude.{◌≡◌, ℕ, List};
 ghost use Rattle.chains.specs.declared.Table.{Table};
-ghost use Rattle.chains.specs.Table.{Lies, field};
-ghost use Rattle.chains.specs.Walk.{IsRow};
+ghost use Rattle.chains.specs.Table.{Lies};
 ghost use Rattle.types.specs.declared.Counts.{Counts};
 ghost use Rattle.tables.specs.Layout.{record_table, slot_table, version_table, lock_table, access_table, Ranged, Fits};
 ghost use Rattle.tables.specs.Rows.{records_lie, slots_lie, versions_lie, locks_lie, accesses_lie};
 
-use crate::{access_table, lock_table, record_table, slot_table, version_table};
+use crate::{
+    A_NEXT, ACCESS, HEADER, L_NEXT, LOCK, R_VERSION, RECORD, S_ACCESS, SLOT, V_NEXT, VERSION,
+};
 use chains::Table;
 use types::{Access, Counts, Lock, Version};
 
@@ -33,8 +34,15 @@ impl Part for Records {
 
     ghost lies = { records_lie };
 
+    // Kept: rows in lent words, linked by their numbers: there is no heap, and document 01 gives the layout.
+    #[tactic(auto, unfolding(crate::specs::Layout::record_table))]
     fn table(c: Counts) -> Table {
-        record_table(c)
+        Table {
+            base: HEADER,
+            stride: RECORD,
+            off: R_VERSION,
+            count: c.records,
+        }
     }
 }
 
@@ -43,8 +51,15 @@ impl Part for Slots {
 
     ghost lies = { slots_lie };
 
+    // Kept: rows in lent words, linked by their numbers: there is no heap, and document 01 gives the layout.
+    #[tactic(auto, unfolding(crate::specs::Layout::slot_table, crate::specs::Layout::slot_base))]
     fn table(c: Counts) -> Table {
-        slot_table(c)
+        Table {
+            base: HEADER + c.records * RECORD,
+            stride: SLOT,
+            off: S_ACCESS,
+            count: c.edits,
+        }
     }
 }
 
@@ -53,8 +68,15 @@ impl Part for Version {
 
     ghost lies = { versions_lie };
 
+    // Kept: rows in lent words, linked by their numbers: there is no heap, and document 01 gives the layout.
+    #[tactic(auto, unfolding(crate::specs::Layout::version_table, crate::specs::Layout::version_base))]
     fn table(c: Counts) -> Table {
-        version_table(c)
+        Table {
+            base: HEADER + c.records * RECORD + c.edits * SLOT,
+            stride: VERSION,
+            off: V_NEXT,
+            count: c.versions,
+        }
     }
 }
 
@@ -63,8 +85,15 @@ impl Part for Lock {
 
     ghost lies = { locks_lie };
 
+    // Kept: rows in lent words, linked by their numbers: there is no heap, and document 01 gives the layout.
+    #[tactic(auto, unfolding(crate::specs::Layout::lock_table, crate::specs::Layout::lock_base))]
     fn table(c: Counts) -> Table {
-        lock_table(c)
+        Table {
+            base: HEADER + c.records * RECORD + c.edits * SLOT + c.versions * VERSION,
+            stride: LOCK,
+            off: L_NEXT,
+            count: c.locks,
+        }
     }
 }
 
@@ -73,15 +102,18 @@ impl Part for Access {
 
     ghost lies = { accesses_lie };
 
+    // Kept: rows in lent words, linked by their numbers: there is no heap, and document 01 gives the layout.
+    #[tactic(auto, unfolding(crate::specs::Layout::access_table, crate::specs::Layout::access_base))]
     fn table(c: Counts) -> Table {
-        access_table(c)
+        Table {
+            base: HEADER
+                + c.records * RECORD
+                + c.edits * SLOT
+                + c.versions * VERSION
+                + c.locks * LOCK,
+            stride: ACCESS,
+            off: A_NEXT,
+            count: c.accesses,
+        }
     }
-}
-
-// Word o of row i.
-pub fn word<P: Part>(w: &[u64], c: Counts, i: usize, o: usize) -> u64
-    requires { Fits c w.now × IsRow (P.table c).count i × (o < (P.table c).stride) }
-    ensures { result ≡ field (P.table c) w.now i o }
-{
-    chains::get(w, P::table(c), i, o) as u64
 }

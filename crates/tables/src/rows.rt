@@ -1,61 +1,146 @@
 // The rows of a chain by value, in order: an iterator over record r's versions or locks, or over slot k's accesses.
-// `next` reads a row's words and its link, as a loop along the chain would. Rests on reads.rt.
+// `next` reads a row's words and its link, as a loop along the chain would. Rests on parts.rt and views.rt.
 ghost use Rattle.std.specs.Prelude.{◌≡◌, ℕ, List};
 ghost use Rattle.chains.specs.Walk.{IsRow};
+ghost use Rattle.chains.specs.Table.{Lies, Laid};
+ghost use Rattle.chains.specs.declared.Heads.{Heads};
 ghost use Rattle.types.specs.declared.Counts.{Counts};
-ghost use Rattle.tables.specs.Layout.{Fits};
+ghost use Rattle.tables.specs.Layout.{version_heads, lock_heads, access_heads, Ranged, Fits};
+ghost use Rattle.tables.specs.Rows.{versions_laid, locks_laid, accesses_laid};
 ghost use Rattle.tables.specs.Decode.{version_at, lock_at, access_at};
 
 use crate::parts::Part;
-use crate::{access_at, lock_at, version_at};
-use chains::Cursor;
+use crate::views::Tables;
+use crate::{
+    A_FROM, A_RECORD, A_VALUE, A_WRITTEN, FREE_ACCESS, FREE_LOCK, FREE_VERSION, HEADER, L_HIGH,
+    L_LOW, L_MODE, MODES, R_LOCK, R_VERSION, RECORD, S_ACCESS, SLOT, V_POINT, V_SPARE, V_VALUE,
+};
+use chains::{Cursor, Heads};
 use std::marker::PhantomData;
 use types::{Access, Counts, Lock, Version};
 
-// A kind of row that stands on chains: a row of its table by value.
+// A kind of row that stands on chains: where their heads lie, and a row by value.
 pub trait Row: Part + Copy {
+    ghost heads: { Counts → Heads };
+
     ghost at: { Counts → List ℕ → ℕ → Self };
 
-    fn read(w: &[u64], c: Counts, i: usize) -> Self
-        requires { Fits c w.now × IsRow (Self.table c).count i }
-        ensures { result ≡ at c w.now i };
+    fn heads(c: Counts) -> Heads
+        requires { Ranged c }
+        ensures { result ≡ heads c };
+
+    fn read(t: Tables<'_>, i: usize) -> Self
+        requires { IsRow (Self.table t.counts).count i }
+        ensures { result ≡ at t.entry.counts t.entry.words.now i };
+
+    ghost laid: { (c : Counts) (w : List ℕ) → Fits c w → Laid (Self.table c) (heads c) w };
 }
 
 impl Row for Version {
+    ghost heads = { version_heads };
+
     ghost at = { version_at };
 
-    #[tactic(auto, unfolding(crate::specs::Layout::version_table))]
-    fn read(w: &[u64], c: Counts, i: usize) -> Version {
-        version_at(w, c, i)
+    // Kept: rows in lent words, linked by their numbers: there is no heap, and document 01 gives the layout.
+    #[tactic(auto, unfolding(crate::specs::Layout::version_heads))]
+    fn heads(c: Counts) -> Heads {
+        Heads {
+            free: FREE_VERSION,
+            first: HEADER + R_VERSION,
+            step: RECORD,
+            owners: c.records,
+        }
     }
+
+    // Kept: here alone the layout of a row is named, which no derive knows.
+    #[tactic(auto, unfolding(crate::specs::Layout::version_table, crate::specs::Decode::version_at))]
+    fn read(t: Tables<'_>, i: usize) -> Version {
+        let point = t.word::<Version>(i, V_POINT);
+        let value = t.word::<Version>(i, V_VALUE);
+        let spare = t.word::<Version>(i, V_SPARE);
+        Version {
+            point,
+            value: Some(value),
+            spare,
+        }
+    }
+
+    ghost laid = { versions_laid };
 }
 
 impl Row for Lock {
+    ghost heads = { lock_heads };
+
     ghost at = { lock_at };
 
-    #[tactic(auto, unfolding(crate::specs::Layout::lock_table))]
-    fn read(w: &[u64], c: Counts, i: usize) -> Lock {
-        lock_at(w, c, i)
+    // Kept: rows in lent words, linked by their numbers: there is no heap, and document 01 gives the layout.
+    #[tactic(auto, unfolding(crate::specs::Layout::lock_heads))]
+    fn heads(c: Counts) -> Heads {
+        Heads {
+            free: FREE_LOCK,
+            first: HEADER + R_LOCK,
+            step: RECORD,
+            owners: c.records,
+        }
     }
+
+    // Kept: here alone the layout of a row is named, which no derive knows.
+    #[tactic(auto, unfolding(crate::specs::Layout::lock_table, crate::specs::Decode::lock_at))]
+    fn read(t: Tables<'_>, i: usize) -> Lock {
+        let low = t.word::<Lock>(i, L_LOW);
+        let high = t.word::<Lock>(i, L_HIGH);
+        let tag = t.word::<Lock>(i, L_MODE);
+        Lock {
+            low,
+            high,
+            mode: tag % MODES,
+            owner: tag / MODES,
+        }
+    }
+
+    ghost laid = { locks_laid };
 }
 
 impl Row for Access {
+    ghost heads = { access_heads };
+
     ghost at = { access_at };
 
-    #[tactic(auto, unfolding(crate::specs::Layout::access_table))]
-    fn read(w: &[u64], c: Counts, i: usize) -> Access {
-        access_at(w, c, i)
+    // Kept: rows in lent words, linked by their numbers: there is no heap, and document 01 gives the layout.
+    #[tactic(auto, unfolding(crate::specs::Layout::access_heads, crate::specs::Layout::slot_base))]
+    fn heads(c: Counts) -> Heads {
+        Heads {
+            free: FREE_ACCESS,
+            first: HEADER + c.records * RECORD + S_ACCESS,
+            step: SLOT,
+            owners: c.edits,
+        }
     }
+
+    // Kept: here alone the layout of a row is named, which no derive knows.
+    #[tactic(auto, unfolding(crate::specs::Layout::access_table, crate::specs::Decode::access_at))]
+    fn read(t: Tables<'_>, i: usize) -> Access {
+        let rec = t.word::<Access>(i, A_RECORD);
+        let from = t.word::<Access>(i, A_FROM);
+        let mark = t.word::<Access>(i, A_WRITTEN);
+        let value = t.word::<Access>(i, A_VALUE);
+        Access {
+            rec,
+            from,
+            value: if mark == 1 { Some(value) } else { None },
+        }
+    }
+
+    ghost laid = { accesses_laid };
 }
 
 // A walk along a chain of such rows.
 #[derive(Drop)]
 pub struct Rows<'a, R: Row> {
-    words: &'a [u64],
-    counts: Counts,
+    tables: Tables<'a>,
     cursor: Cursor,
     of: PhantomData<R>,
-    ghost fits: { Fits counts words.now },
+    ghost lies: { Lies (R.table tables.counts) tables.words.now },
 }
 
 impl<'a, R: Row> Iterator for Rows<'a, R> {
@@ -70,8 +155,9 @@ impl<'a, R: Row> Iterator for Rows<'a, R> {
 
     #[tactic(auto, unfolding(crate::specs::Walked::values_left))]
     fn next(&mut self) -> Option<R> {
-        let i = self.cursor.step(self.words, R::table(self.counts))?;
-        Some(R::read(self.words, self.counts, i))
+        let t = self.tables;
+        let i = self.cursor.step(t.words, R::table(t.counts))?;
+        Some(R::read(t, i))
     }
 }
 
@@ -80,14 +166,14 @@ impl<'a, R: Row> Rows<'a, R> {
     ghost use Rattle.chains.specs.Table.{chain};
     ghost use Rattle.tables.specs.Walked.{values_left};
 
-    pub fn from(w: &'a [u64], c: Counts, head: usize) -> Rows<'a, R>
-        requires { Fits c w.now }
-        ensures { values_left result ≡ map (R.at c w.now) (chain (R.table c) w.now head) }
+    pub fn from(t: Tables<'a>, head: usize) -> Rows<'a, R>
+        ensures { values_left result
+            ≡ map (R.at t.entry.counts t.entry.words.now)
+            (chain (R.table t.entry.counts) t.entry.words.now head) }
     {
         Rows {
-            words: w,
-            counts: c,
-            cursor: Cursor::new(R::table(c), head),
+            tables: t,
+            cursor: Cursor::new(R::table(t.counts), head),
             of: PhantomData,
         }
     }

@@ -10,13 +10,17 @@ use codes::{bits, mark, refusal};
 use types::{Found, Freed, Handle, Point, Refusal, Seen, Span};
 
 // The number of `nopoint`, which is above those of the refusals and below codes' CODES.
+// Kept: a number that the C header names.
 pub const NOPOINT: u64 = 31;
 
 // Which of its three replies a granted Read has.
+// Kept: the C header names the three.
 const NEW: u64 = 1;
 
+// Kept: as NEW.
 const OWN: u64 = 2;
 
+// Kept: as NEW.
 const AGAIN: u64 = 3;
 
 // The numbers of a granted Read.
@@ -31,6 +35,7 @@ pub fn found(f: Found) -> [u64; 5]
 }
 
 // Each call's reply: 0 and its values, or the number of a refusal, which leaves the lent numbers.
+// Kept: C asks for the number of a refusal, and for each value at a pointer of its own.
 pub fn point(r: Result<Point, Refusal>, point: &mut u64) -> u64
     ensures { Tells (of_point r) result (point.old ∷ []) (point.new ∷ []) }
 {
@@ -43,6 +48,7 @@ pub fn point(r: Result<Point, Refusal>, point: &mut u64) -> u64
     }
 }
 
+// Kept: `done(r.map(|h| ..))` was tried: of a closure not called `map` says nothing, so not that `handle` stays.
 pub fn begin(r: Result<Handle, Refusal>, handle: &mut u64) -> u64
     ensures { Tells (of_begin r) result (handle.old ∷ []) (handle.new ∷ []) }
 {
@@ -55,6 +61,7 @@ pub fn begin(r: Result<Handle, Refusal>, handle: &mut u64) -> u64
     }
 }
 
+// Kept: as `begin`, with two values; one function for N values would be lent an array, which C does not lend.
 pub fn lock(r: Result<Span, Refusal>, low: &mut u64, high: &mut u64) -> u64
     ensures { Tells (of_lock r) result
         (low.old ∷ high.old ∷ [])
@@ -70,6 +77,7 @@ pub fn lock(r: Result<Span, Refusal>, low: &mut u64, high: &mut u64) -> u64
     }
 }
 
+// Kept: as `lock`, with the five pointers that the C header asks for.
 pub fn read(
     r: Result<Found, Refusal>,
     kind: &mut u64,
@@ -91,6 +99,7 @@ pub fn read(
     }
 }
 
+// Kept: as `begin`, with a third outcome, `nopoint`, which has a number of its own and puts nothing.
 pub fn commit(r: Result<Option<Point>, Refusal>, point: &mut u64) -> u64
     ensures { Tells (of_commit r) result (point.old ∷ []) (point.new ∷ []) }
 {
@@ -104,6 +113,7 @@ pub fn commit(r: Result<Option<Point>, Refusal>, point: &mut u64) -> u64
     }
 }
 
+// Kept: as `lock`, with the two counts.
 pub fn purge(r: Result<Freed, Refusal>, versions: &mut u64, locks: &mut u64) -> u64
     ensures { Tells (of_purge r) result
         (versions.old ∷ locks.old ∷ [])
@@ -119,6 +129,7 @@ pub fn purge(r: Result<Freed, Refusal>, versions: &mut u64, locks: &mut u64) -> 
     }
 }
 
+// Kept: as `lock`, with the three pointers that the C header asks for.
 pub fn view(r: Result<Seen, Refusal>, point: &mut u64, written: &mut u64, value: &mut u64) -> u64
     ensures { Tells (of_view r) result
         (point.old ∷ written.old ∷ value.old ∷ [])

@@ -1,14 +1,19 @@
--- The decimal digits of a number: one digit, one digit more, and how many there are. Rests on specs/Parts.
-use Prim.Native.Nat.{ℕ, zero, suc, ◌+◌, ◌*◌, ◌/◌, ◌%◌, ◌≤◌, ◌<◌}
-use mathlib.Core.Path.{◌≡◌, refl, ◌∙◌, ap}
+-- The decimal digits of a number: one digit, one digit more, that they are the digits that the library prints, also
+-- after a word, and how many there are. Rests on specs/Parts.
+use Prim.Native.Nat.{ℕ, zero, suc, ◌+◌, ◌*◌, ◌/◌, ◌%◌, ◌≤◌, ◌<◌, ◌^◌}
+use mathlib.Core.Path.{◌≡◌, refl, ap, ◌∙◌}
 use mathlib.Core.Bool.{Bool, true, false, cond}
-use mathlib.Core.List.{List, [], ◌∷◌, ◌++◌}
+use mathlib.Core.List.{List, [], ◌∷◌, ◌++◌, append_assoc}
 use native.Mathlib.Omega.{arith}
+use borrow.Author.Rules.{rules}
 use borrow.Author.Tests.{lt-ltb, le-ltb, ltb-true, ltb-false}
 use lib.ListN.{length, length-append}
 use lib.Dec.{ltb}
+use Rattle.std.proofs.lemmas.Fmt.{AppendsLastDigit, decimal_from_appends, length-decimal-le_succ}
+use Rattle.std.specs.Fmt as Std
+use Rattle.types.specs.Values.{Value}
 use Rattle.texts.specs.Text.{LARGEST, SPACE}
-use Rattle.texts.specs.Parts.{digits_of, decimal, one, two}
+use Rattle.texts.specs.Parts.{digits_of, decimal, value_text, one, two, one_value, two_value}
 
 -- any number of steps above n gives the same digits
 enough_step : (n : ℕ) (ds es : List ℕ) (q : Bool) → ltb n 10 ≡ q → (10 ≤ n → ds ≡ es)
@@ -32,6 +37,42 @@ decimal_small n h = rw (lt-ltb n 10 h)
 pub decimal_more : (n : ℕ) → 10 ≤ n → decimal n ≡ decimal (n / 10) ++ ((48 + n % 10) ∷ [])
 unfolding decimal digits_of
 decimal_more n h = rw (le-ltb n 10 h, enough n (suc (n / 10)) (n / 10) (omega arith) (omega arith))
+
+last_digit : AppendsLastDigit digits_of
+unfolding digits_of
+last_digit = search rules
+
+-- what the library prints of a number of 64 bits
+pub decimal_printed : (n : ℕ) → n < 2 ^ 64 → decimal n ≡ Std.decimal n
+unfolding decimal
+decimal_printed n h =
+    decimal_from_appends digits_of last_digit (suc n) n h (omega (arith, length-decimal-le_succ n h))
+
+pub one_printed : (w : List ℕ) (n : ℕ) → n < 2 ^ 64 → one w n ≡ w ++ Std.decimal n
+unfolding one
+one_printed w n h = ap (λ ds. w ++ ds) (decimal_printed n h)
+
+-- a number after another one, or a value
+then_one : (w rest : List ℕ) (n : ℕ) → n < 2 ^ 64 → one w n ++ rest ≡ w ++ (Std.decimal n ++ rest)
+then_one w rest n h = ap (λ ds. ds ++ rest) (one_printed w n h) ∙ append_assoc w (Std.decimal n) rest
+
+pub two_printed : (w : List ℕ) (n m : ℕ) → n < 2 ^ 64 → m < 2 ^ 64
+    → two w n m ≡ w ++ (Std.decimal n ++ (SPACE ∷ Std.decimal m))
+unfolding two
+two_printed w n m h g = rw (decimal_printed m g) (then_one w (SPACE ∷ Std.decimal m) n h)
+
+pub one_value_printed : (w : List ℕ) (n : ℕ) (v : Value) → n < 2 ^ 64
+    → one_value w n v ≡ w ++ (Std.decimal n ++ (SPACE ∷ value_text v))
+unfolding one_value
+one_value_printed w n v h = then_one w (SPACE ∷ value_text v) n h
+
+pub two_value_printed : (w : List ℕ) (n m : ℕ) (v : Value) → n < 2 ^ 64 → m < 2 ^ 64
+    → two_value w n m v ≡ w ++ (Std.decimal n ++ (SPACE ∷ (Std.decimal m ++ (SPACE ∷ value_text v))))
+unfolding two_value
+two_value_printed w n m v h g =
+    ap (λ s. s ++ (SPACE ∷ value_text v)) (two_printed w n m h g)
+    ∙ append_assoc w (Std.decimal n ++ (SPACE ∷ Std.decimal m)) (SPACE ∷ value_text v)
+    ∙ ap (λ s. w ++ s) (append_assoc (Std.decimal n) (SPACE ∷ Std.decimal m) (SPACE ∷ value_text v))
 
 -- how many digits there are
 pub decimal_longer : (n : ℕ) → 10 ≤ n → length (decimal n) ≡ length (decimal (n / 10)) + 1

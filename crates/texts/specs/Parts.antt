@@ -1,7 +1,7 @@
 -- The parts of a line: the decimal digits of a number, a value ("A never written value prints `-`"), and a word with
--- what follows it; and what a function that writes them promises. Rests on Text and the type Value.
-use Rattle.std.specs.Prelude.{ℕ, zero, suc, ◌+◌, ◌/◌, ◌%◌, ◌≡◌, cond, ltb, List, [], ◌∷◌, ◌++◌, length, take}
-use Rattle.std.specs.Prelude.{Some, None}
+-- what follows it. Rests on Text and the type Value.
+use Rattle.std.specs.Prelude.{ℕ, zero, suc, ◌+◌, ◌/◌, ◌%◌, cond, ltb, List, [], ◌∷◌, ◌++◌}
+use Rattle.std.specs.Prelude.{Some, None, ◌≡◌, length, take}
 use Rattle.types.specs.Values.{Value}
 use Rattle.texts.specs.Text.{SPACE, text}
 

@@ -1,17 +1,34 @@
-// Words, numbers and values written into a lent buffer. Each function answers where the bytes that it wrote end, and is
-// proved against specs/. Rests on the crate `types`.
+// How a record's value is printed, and words, numbers and values put into a lent buffer: each function that puts
+// answers where the bytes that it wrote end. Proved against specs/. Rests on the crate `types`.
 #![tactic(auto)]
 
-ghost use Rattle.std.specs.Prelude.{[], ◌∷◌, ◌+◌, ◌≤◌, ◌<◌, length};
+ghost use Rattle.std.specs.Prelude.{Some, [], ◌∷◌, ◌+◌, ◌≤◌, ◌<◌, length};
 ghost use Rattle.texts.specs.Parts.{Appended, decimal, value_text, one as one·of, two as two·of, one_value};
 ghost use Rattle.texts.specs.Parts.{two_value};
 
+use std::fmt;
 use types::Value;
 
 // The byte between fields.
 pub const SPACE: u8 = b' ';
 
+// A record's value, to be printed: one never written prints as `-`.
+#[derive(Clone, Copy)]
+pub struct Printed(pub Value);
+
+impl fmt::Display for Printed {
+    ghost output = { λ v. Some (value_text v.0) };
+
+    fn fmt<W: fmt::Write>(&self, f: &mut fmt::Formatter<W>) -> fmt::Result {
+        match self.0 {
+            None => f.write_str("-"),
+            Some(x) => write!(f, "{x}"),
+        }
+    }
+}
+
 // Puts one byte at a position.
+// Kept: Display beside it may fail, by its contract; what is put into a buffer with room cannot.
 fn put(out: &mut [u8], at: usize, b: u8) -> usize
     requires { at < length out.old }
     ensures { Appended out.old at (b ∷ []) out.new result }
@@ -21,6 +38,7 @@ fn put(out: &mut [u8], at: usize, b: u8) -> usize
 }
 
 // Puts a word at a position.
+// Kept: Display beside it may fail, by its contract; what is put into a buffer with room cannot.
 pub fn put_word(out: &mut [u8], at: usize, word: &[u8]) -> usize
     requires { at + length word.now ≤ length out.old }
     ensures { Appended out.old at word.now out.new result }
@@ -31,6 +49,7 @@ pub fn put_word(out: &mut [u8], at: usize, word: &[u8]) -> usize
 }
 
 // Puts the decimal digits of a number at a position.
+// Kept: Display beside it may fail, by its contract; what is put into a buffer with room cannot.
 fn put_number(out: &mut [u8], at: usize, n: u64) -> usize
     requires { at + length (decimal n) ≤ length out.old }
     ensures { Appended out.old at (decimal n) out.new result }
@@ -43,6 +62,7 @@ fn put_number(out: &mut [u8], at: usize, n: u64) -> usize
 }
 
 // Puts a record's value at a position.
+// Kept: Display beside it may fail, by its contract; what is put into a buffer with room cannot.
 fn put_value(out: &mut [u8], at: usize, v: Value) -> usize
     requires { at + 20 ≤ length out.old }
     ensures { Appended out.old at (value_text v) out.new result }
@@ -54,6 +74,7 @@ fn put_value(out: &mut [u8], at: usize, v: Value) -> usize
 }
 
 // Puts a word and a number at the start. A number has 20 digits at most.
+// Kept: Display beside it may fail, by its contract; what is put into a buffer with room cannot.
 pub fn put_one(out: &mut [u8], word: &[u8], n: u64) -> usize
     requires { length word.now + 20 ≤ length out.old }
     ensures { Appended out.old 0 (one·of word.now n) out.new result }
@@ -63,6 +84,7 @@ pub fn put_one(out: &mut [u8], word: &[u8], n: u64) -> usize
 }
 
 // Puts a word and two numbers at the start.
+// Kept: Display beside it may fail, by its contract; what is put into a buffer with room cannot.
 pub fn put_two(out: &mut [u8], word: &[u8], n: u64, m: u64) -> usize
     requires { length word.now + 41 ≤ length out.old }
     ensures { Appended out.old 0 (two·of word.now n m) out.new result }
@@ -73,6 +95,7 @@ pub fn put_two(out: &mut [u8], word: &[u8], n: u64, m: u64) -> usize
 }
 
 // Puts a word, a number and a value at the start.
+// Kept: Display beside it may fail, by its contract; what is put into a buffer with room cannot.
 pub fn put_one_value(out: &mut [u8], word: &[u8], n: u64, v: Value) -> usize
     requires { length word.now + 41 ≤ length out.old }
     ensures { Appended out.old 0 (one_value word.now n v) out.new result }
@@ -83,6 +106,7 @@ pub fn put_one_value(out: &mut [u8], word: &[u8], n: u64, v: Value) -> usize
 }
 
 // Puts a word, two numbers and a value at the start.
+// Kept: Display beside it may fail, by its contract; what is put into a buffer with room cannot.
 pub fn put_two_value(out: &mut [u8], word: &[u8], n: u64, m: u64, v: Value) -> usize
     requires { length word.now + 62 ≤ length out.old }
     ensures { Appended out.old 0 (two_value word.now n m v) out.new result }

@@ -1,9 +1,7 @@
 -- The number of rows that a loop frees: with the rows still on the chain it makes those that were there before, and so
 -- it is the difference of the record's two lists. Rests on Versions, Locks and OneWord of `changes`.
 use Prim.Native.Nat.{ℕ, suc, ◌+◌, ◌<◌}
-use mir.Val.{bool_byte}
-use mathlib.Core.Path.{◌≡◌, refl, ap, ◌∙◌}
-use mathlib.Core.Bool.{Bool, true, false, cond}
+use mathlib.Core.Path.{◌≡◌, ap, ◌∙◌}
 use mathlib.Core.List.{List}
 use native.Mathlib.Omega.{arith}
 use lib.ListN.{length, length-map}
@@ -21,11 +19,6 @@ use Rattle.trims.specs.Frees.{FreesVersions, FreesLocks}
 use Rattle.changes.proofs.Versions.{versions_at}
 use Rattle.changes.proofs.Locks.{locks_at}
 use Rattle.changes.proofs.OneWord.{rec_there}
-
--- how the code counts a row that goes
-pub counted : (hit : Bool) → bool_byte hit ≡ cond hit 1 0
-counted true = refl
-counted false = refl
 
 -- chain a has lost n rows since w₀
 abbrev pub Lost : Table → Heads → List ℕ → ℕ → List ℕ → ℕ → Type 0

@@ -1,14 +1,11 @@
--- What a change that frees rows promises: what the words become, and how many rows were freed; and a turn of the walk
--- along the locks. Rests on Becomes of `changes`.
-use Rattle.std.specs.Prelude.{ℕ, ◌-◌, ◌≡◌, Bool, List, length, set}
+-- What a change that frees rows promises: what the words become, and how many rows were freed. Rests on Becomes of
+-- `changes`.
+use Rattle.std.specs.Prelude.{ℕ, ◌-◌, ◌≡◌, List, length}
 use Rattle.meaning.specs.Store.{Store, rec_at}
-use Rattle.meaning.specs.Points.{emptied, trimmed}
 use Rattle.types.specs.declared.Lock.{Lock}
 use Rattle.types.specs.declared.Version.{Version}
 use Rattle.types.specs.declared.Counts.{Counts}
-use Rattle.chains.specs.Table.{place}
-use Rattle.tables.specs.Layout.{lock_table, L_LOW}
-use Rattle.tables.specs.Decode.{lock_at, decode_at}
+use Rattle.tables.specs.Decode.{decode_at}
 use Rattle.changes.specs.Becomes.{Becomes, on_versions, on_locks}
 
 -- a change of the list xs by f that frees rows, n of them: as many as the list has fewer
@@ -23,8 +20,3 @@ FreesVersions c w w' r f n = Frees c w' (on_versions (decode_at c w) r f) f (rec
 
 abbrev pub FreesLocks : Counts → List ℕ → List ℕ → ℕ → (List Lock → List Lock) → ℕ → Type 0
 FreesLocks c w w' r f n = Frees c w' (on_locks (decode_at c w) r f) f (rec_at (decode_at c w) r).locks n
-
--- a turn of Purge at lock row i: whether the lock has no point above v, and its low end above v
-pub record TrimsRow (c : Counts) (w w' : List ℕ) (i v : ℕ) (hit : Bool) : Type 0 where
-  pub verdict : hit ≡ emptied v (lock_at c w i)
-  pub stored : w' ≡ set w (place (lock_table c) i L_LOW) (trimmed v (lock_at c w i)).low

@@ -2,22 +2,27 @@
 // equals a function of the decoded store; the callers prove that the words are well formed (`Well`) and that records
 // and points are in range. Rests on the crates `types`, `meaning`, `chains`, `updates`, `tables`, `writes` and
 // `changes`.
+// Kept, words and counts: a struct that holds lent `&mut` words would have each contract say that it keeps them
+// Kept, Well c w: a fact of the words, which a struct over `&mut` words cannot hold while they change
+// Kept, r < c.records: a fact of the counts beside those words
+// Kept, v ≤ LAST: the bound of one number, which the functions of a purge pass down
 #![tactic(auto)]
 
-ghost use Rattle.std.specs.Prelude.{◌≡◌, ◌≤◌, ◌<◌, leb};
-ghost use Rattle.chains.specs.Walk.{IsRow};
+ghost use Rattle.std.specs.Prelude.{◌≡◌, ◌≤◌, ◌<◌, leb, map};
 ghost use Rattle.types.specs.Limits.{LAST};
 ghost use Rattle.meaning.specs.Store.{with_rec, rec_at};
 ghost use Rattle.meaning.specs.Points.{trimmed, trim_to};
 ghost use Rattle.meaning.specs.Lists.{keep};
-ghost use Rattle.tables.specs.Layout.{Fits};
 ghost use Rattle.tables.specs.Decode.{decode_at};
 ghost use Rattle.tables.specs.Words.{Well};
-ghost use Rattle.changes.specs.Becomes.{Becomes, with_floor};
-ghost use Rattle.trims.specs.Frees.{FreesVersions, FreesLocks, TrimsRow};
+ghost use Rattle.changes.specs.Becomes.{Becomes, with_floor, on_locks};
+ghost use Rattle.trims.specs.Frees.{FreesVersions, FreesLocks};
 
-use chains::Cursor;
-use types::{Counts, Lock, SETTLED};
+use chains::{Cursor, Placed};
+use changes::free_rows;
+use tables::{L_LOW, Part, R_FLOOR, Records, Row, Tables};
+use types::{Counts, Lock, SETTLED, Version};
+use writes::set_word;
 
 // The record's floor.
 pub fn set_floor(w: &mut [u64], c: Counts, r: usize, v: u64)
@@ -25,10 +30,10 @@ pub fn set_floor(w: &mut [u64], c: Counts, r: usize, v: u64)
     ensures { Becomes c w.new
         (with_rec (decode_at c w.old) r (with_floor (rec_at (decode_at c w.old) r) v)) }
 {
-    writes::put_floor(w, c, r, v);
+    set_word::<Records>(w, c, r + 1, R_FLOOR, v);
 }
 
-// Settled locks lose their points up to v, and rows left empty go. Rows are counted in the walk that frees them.
+// Settled locks lose their points up to v, and rows left empty go.
 
 // The low end that a lock is left with.
 fn raised_low(l: Lock, v: u64) -> u64
@@ -42,14 +47,24 @@ fn raised_low(l: Lock, v: u64) -> u64
     }
 }
 
-// The low end of lock row i rises; replies whether the row is to go. (A row that goes may hold anything.)
-fn trim_row(w: &mut [u64], c: Counts, i: usize, v: u64) -> bool
-    requires { Fits c w.old × IsRow c.locks i × (v ≤ LAST) }
-    ensures { TrimsRow c w.old w.new i v result }
+// The low ends of record r's locks rise so.
+fn raise_lows(w: &mut [u64], c: Counts, r: usize, v: u64)
+    requires { Well c w.old × (r < c.records) × (v ≤ LAST) }
+    ensures { Becomes c w.new (on_locks (decode_at c w.old) r (map (trimmed v))) }
 {
-    let l = tables::lock_at(w, c, i);
-    writes::put_low(w, c, i, raised_low(l, v));
-    l.owner == SETTLED && l.high <= v
+    let t = Lock::table(c);
+    let h = Lock::heads(c);
+    let mut walk = Cursor::new(t, chains::head_of(w, h, r + 1));
+    while let Some(i) = walk.along(&Placed { words: w, table: t }) {
+        let l = Lock::read(
+            Tables {
+                words: w,
+                counts: c,
+            },
+            i,
+        );
+        set_word::<Lock>(w, c, i, L_LOW, raised_low(l, v));
+    }
 }
 
 // Settled locks of record r lose their points up to v; replies how many rows were freed.
@@ -57,17 +72,8 @@ pub fn trim_locks(w: &mut [u64], c: Counts, r: usize, v: u64) -> u64
     requires { Well c w.old × (r < c.records) × (v ≤ LAST) }
     ensures { FreesLocks c w.old w.new r (trim_to v) result }
 {
-    let t = tables::lock_table(c);
-    let h = tables::lock_heads(c);
-    let mut freed = 0;
-    let mut place = 0;
-    let mut walk = Cursor::new(t, tables::first_lock(w, c, r));
-    while let Some(i) = walk.step(w, t) {
-        let empty = trim_row(w, c, i, v);
-        place = updates::unlink_turn(w, t, h, r + 1, 0, place, i, empty);
-        freed += empty as u64;
-    }
-    freed
+    raise_lows(w, c, r, v);
+    free_rows(w, c, r, |l: Lock| l.owner == SETTLED && l.high <= v)
 }
 
 // Versions.
@@ -77,15 +83,5 @@ pub fn cut_versions(w: &mut [u64], c: Counts, r: usize, v: u64) -> u64
     requires { Well c w.old × (r < c.records) }
     ensures { FreesVersions c w.old w.new r (keep (λ x. leb v x.point)) result }
 {
-    let t = tables::version_table(c);
-    let h = tables::version_heads(c);
-    let mut freed = 0;
-    let mut place = 0;
-    let mut walk = Cursor::new(t, tables::first_version(w, c, r));
-    while let Some(i) = walk.step(w, t) {
-        let below = tables::version_at(w, c, i).point < v;
-        place = updates::unlink_turn(w, t, h, r + 1, 0, place, i, below);
-        freed += below as u64;
-    }
-    freed
+    free_rows(w, c, r, |x: Version| x.point < v)
 }

@@ -25,19 +25,42 @@ pub const MAX_EDITS: usize = 63;
 pub const MAX_ROWS: usize = 4095;
 
 // The states of an edit slot, the modes of a lock, the owner of a settled one.
+// Kept: the number that stands in the words, where others may stand too; `State` is what callers ask for.
 pub const FREE: u64 = 0;
 
+// Kept: the number that stands in the words, where others may stand too; `State` is what callers ask for.
 pub const OPEN: u64 = 1;
 
+// Kept: the number that stands in the words, where others may stand too; `State` is what callers ask for.
 pub const COMMITTED: u64 = 2;
 
+// Kept: the number that stands in the words, where others may stand too; `State` is what callers ask for.
 pub const ABORTED: u64 = 3;
 
+// Kept: the number that stands in the words, where others may stand too; `Mode` is what callers ask for.
 pub const READ: u64 = 1;
 
+// Kept: the number that stands in the words, where others may stand too; `Mode` is what callers ask for.
 pub const WRITE: u64 = 2;
 
+// Kept: the owner that stands in the words of a settled lock, where else a slot's number stands.
 pub const SETTLED: u64 = 0;
+
+// The modes of a lock and the states of an edit slot, as a caller asks for them. In the words each is a number, and in
+// words that nobody checked it may be another one.
+#[derive(Clone, Copy, PartialEq, Eq)]
+pub enum Mode {
+    Read,
+    Write,
+}
+
+#[derive(Clone, Copy, PartialEq, Eq)]
+pub enum State {
+    Free,
+    Open,
+    Committed,
+    Aborted,
+}
 
 // A clock reading. Only `make_point` turns it into a point.
 #[derive(Clone, Copy, PartialEq, Eq)]
@@ -64,6 +87,7 @@ pub type Value = Option<u64>;
 pub struct Version {
     pub point: u64,
     pub value: Value,
+    // Kept: document 01 gives a version a third word; the check asks that it is 0, so it is part of what words mean.
     pub spare: u64,
 }
 
@@ -72,17 +96,18 @@ pub struct Version {
 pub struct Lock {
     pub low: u64,
     pub high: u64,
+    // Kept: the two as numbers, since words that nobody checked may have any; the check asks for those listed.
     pub mode: u64,
     pub owner: u64,
 }
 
-// `from` is the point read + 1, or 0; `value` counts once `written` is set.
+// What an edit did with a record: `from` is the point read + 1, or 0; `value` what it writes, if it does.
 #[derive(Clone, Copy, PartialEq, Eq)]
 pub struct Access {
     pub rec: u64,
+    // Kept: one number, as in document 01: `from <= p` and `p < end` serve an access that read nothing, too.
     pub from: u64,
-    pub written: bool,
-    pub value: u64,
+    pub value: Value,
 }
 
 // The five counts of a store.
@@ -185,6 +210,7 @@ pub struct Seen {
 }
 
 // What a call of any kind gives where it is granted.
+// Kept: a sum of what the nine calls hand out, no Option: `Done` is what Write, Abort and Settle do.
 #[derive(Clone, Copy, PartialEq, Eq)]
 pub enum Granted {
     Done,
@@ -247,6 +273,38 @@ impl From<Handle> for u64 {
     // The number of a handle, for replies.
     fn from(h: Handle) -> u64 {
         h.0
+    }
+}
+
+impl From<Mode> for u64 {
+    ghost use Rattle.std.specs.Prelude.{◌≡◌};
+    ghost use Rattle.types.specs.Kinds.{mode_number};
+
+    ghost from_gives = { λ m word. word ≡ mode_number m };
+
+    // The number of a mode, for the words.
+    fn from(m: Mode) -> u64 {
+        match m {
+            Mode::Read => READ,
+            Mode::Write => WRITE,
+        }
+    }
+}
+
+impl From<State> for u64 {
+    ghost use Rattle.std.specs.Prelude.{◌≡◌};
+    ghost use Rattle.types.specs.Kinds.{state_number};
+
+    ghost from_gives = { λ s word. word ≡ state_number s };
+
+    // The number of a state, for the words.
+    fn from(s: State) -> u64 {
+        match s {
+            State::Free => FREE,
+            State::Open => OPEN,
+            State::Committed => COMMITTED,
+            State::Aborted => ABORTED,
+        }
     }
 }
 

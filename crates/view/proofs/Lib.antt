@@ -1,3 +1,2 @@
--- Laws of the chart reader. Rests on specs/ and on the charts of `history`.
-pub mod Seen
+-- The law of the chart reader. Rests on specs/ and on the charts of `history`.
 pub mod Laws

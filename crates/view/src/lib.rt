@@ -1,51 +1,40 @@
 // The chart reader: a struct that holds the lent store and answers from it. It is made once, with the one check of the
-// words, and asked many times; an ask costs one record's version chain. Nobody outside this file can make a reader
-// whose flag is not the check's verdict. Rests on the crates `types`, `meaning`, `tables`, `soundness` and `calls`.
+// words, and asked many times; an ask costs one record's version chain. Nobody can make a reader whose verdict is not
+// the check's. Rests on the crates `types`, `meaning`, `tables`, `history`, `calls` and `store`.
 #![tactic(auto)]
 
 ghost use Rattle.std.specs.Prelude.{◌≡◌};
 ghost use Rattle.types.specs.Replies.{of_view};
-ghost use Rattle.tables.specs.Words.{lent, sound_words};
-ghost use Rattle.view.specs.Seen.{Viewed, answered};
+ghost use Rattle.store.specs.Promises.{sound_or_refused};
+ghost use Rattle.view.specs.Seen.{Viewed};
 
 use types::{Point, Refusal, Seen};
 
-// A reader of a lent store, and whether the store is sound.
+// A reader of a lent store, and the check's verdict on its words.
 #[derive(Clone, Copy)]
 pub struct Chart<'a> {
     words: &'a [u64],
-    good: bool,
-}
-
-// What View replies on these words, where `good` says whether they are sound.
-fn ask(words: &[u64], good: bool, rec: u64, p: Point) -> Result<Seen, Refusal>
-    ensures { of_view result ≡ answered good rec p.0 words.now }
-{
-    if !good {
-        return Err(Refusal::Unsound);
-    }
-    if !tables::header_ok(words) {
-        return Err(Refusal::Unsound);
-    }
-    calls::view(words, rec, p)
+    checked: Result<(), Refusal>,
+    ghost verdict: { checked ≡ sound_or_refused words.now },
 }
 
 impl<'a> Chart<'a> {
     // A reader of these words.
     pub fn open(words: &'a [u64]) -> Chart<'a>
-        ensures { (result.words ≡ words.entry) × (result.good ≡ sound_words (lent words.now)) }
+        ensures { result.words ≡ words.entry }
     {
         Chart {
             words,
-            good: soundness::check(words),
+            checked: store::check(words),
         }
     }
 
-    // The record's newest value at or below the point.
+    // The record's newest value at or below the point: the call View of the reader's words.
     pub fn at(self, rec: u64, p: Point) -> Result<Seen, Refusal>
-        ensures { of_view result ≡ answered self.entry.good rec p.0 self.entry.words.now }
+        ensures { Viewed rec p.0 self.entry.words.now (of_view result) }
     {
-        ask(self.words, self.good, rec, p)
+        self.checked?;
+        calls::view(self.words, rec, p)
     }
 }
 

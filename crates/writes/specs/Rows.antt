@@ -5,6 +5,9 @@ use Rattle.types.specs.declared.Lock.{Lock}
 use Rattle.types.specs.declared.Access.{Access}
 use Rattle.types.specs.declared.Counts.{Counts}
 use Rattle.tables.specs.Layout
+use Rattle.std.specs.Option.{unwrap_or}
+use Rattle.std.specs.Prelude.{is_some}
+use Rattle.types.specs.Values.{blank}
 
 -- "mode (1 read, 2 write) + 4 × owner slot"
 unfoldable pub lock_tag : Lock → ℕ
@@ -43,6 +46,6 @@ module _ (c : Counts) (w : List ℕ) (i : ℕ) where
       (set (set w (place (Layout.access_table c) i Layout.A_RECORD) a.rec)
       (place (Layout.access_table c) i Layout.A_FROM) a.from)
       (place (Layout.access_table c) i Layout.A_WRITTEN)
-      (written_mark a.written))
+      (written_mark (is_some a.value)))
       (place (Layout.access_table c) i Layout.A_VALUE)
-      a.value
+      (unwrap_or a.value blank)

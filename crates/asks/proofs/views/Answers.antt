@@ -9,13 +9,13 @@ loop-i-init c = view_start _ c.min-n.ensures
 pub view_step-requires : goal.view_step-requires
 view_step-requires c =
     let v = c.loop-i.invariant in
-    (c.check-good.ensures, ask_fits v (omega arith), reply_fits v (omega arith))
+    (ask_fits v (omega arith), reply_fits v (omega arith))
 
 pub loop-i-preserved : goal.loop-i-preserved
 loop-i-preserved c =
     view_again c.loop-i.invariant
     (omega arith)
-    c.view_step.ensures
+    (rw c.open-chart.ensures at c.view_step.ensures)
 
 pub shape_of-replies : goal.shape_of-replies
 shape_of-replies c = c.loop-i.invariant.told.size

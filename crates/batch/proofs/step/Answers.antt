@@ -2,14 +2,14 @@
 use Rattle.batch.proofs.Running.{stepped}
 use Rattle.batch.proofs.step.Goals as goal
 
-pub answer-row-requires : goal.answer-row-requires
-answer-row-requires c = (
+pub answer-reply-requires : goal.answer-reply-requires
+answer-reply-requires c = (
   c.requires.0,
   c.requires.3,
 )
 
 pub returns : goal.returns
 returns c = (
-  stepped c.call_at.ensures c.answer-row.ensures.0 c.put_row.ensures,
-  c.answer-row.ensures.1,
+  stepped c.call_at.ensures c.answer-reply.ensures.0 c.row_of.ensures c.put_row.ensures,
+  c.answer-reply.ensures.1,
 )

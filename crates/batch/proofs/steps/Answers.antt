@@ -1,21 +1,21 @@
 -- `batch::steps` meets its contract: after i turns the first i calls are done and told. Rests on Running.
 use mathlib.Core.Path.{refl}
 use native.Mathlib.Omega.{arith}
-use Rattle.batch.proofs.Running.{call_fits, reply_fits, run_start, run_again, run_done}
+use Rattle.batch.proofs.Running.{call_fits, reply_fits, verdict_now, run_start, run_again, run_done}
 use borrow.Author.Rules.{rules}
 use Rattle.batch.proofs.steps.Goals as goal
 
 pub loop-i-init : goal.loop-i-init
 loop-i-init c = (
-  run_start c.requires.0 c.requires.1,
-  c.requires.2,
+  run_start c.min-n.ensures,
+  c.requires,
   refl,
 )
 
 pub step-requires : goal.step-requires
 step-requires c =
     let r = c.loop-i.invariant.0 in (
-      r.sound,
+      verdict_now r (omega arith) c.check-checked.ensures,
       call_fits r (omega arith),
       reply_fits r
           (omega arith),

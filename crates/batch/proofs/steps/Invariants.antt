@@ -8,5 +8,5 @@ use Rattle.batch.proofs.steps.Given as goal
 
 abbrev pub invariant-loop-i : goal.invariant-loop-i
 invariant-loop-i l =
-    Running l.list l.initial.words l.initial.replies l.good l.n l.i l.words l.replies × Indexed (decode (lent l.words))
+    Running l.list l.initial.words l.initial.replies l.n l.i l.words l.replies × Indexed (decode (lent l.words))
     l.ix × (length l.ix ≡ length l.initial.ix)

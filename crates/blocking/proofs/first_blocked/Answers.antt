@@ -1,26 +1,24 @@
--- `blocking::first_blocked` meets its contract: nobody blocks, a settled lock, a version or the lowest slot.
+-- `blocking::first_blocked` meets its contract: nobody blocks, the point found is frozen, or the lowest slot holds it.
 -- Rests on Judged.
-use Rattle.blocking.proofs.Judged.{judged_nobody, judged_settled, judged_version, judged_held}
+use mathlib.Core.Path.{sym, ◌∙◌}
+use Rattle.blocking.proofs.Judged.{judged_nobody, judged_frozen, judged_held}
 use Rattle.blocking.proofs.first_blocked.Goals as goal
 
-pub returns-then-high-b : goal.returns-then-high-b
-returns-then-high-b c =
-    judged_nobody c.args.c c.args.w.now _ _ _ _ _ c.requires.1 c.requires.2 _ c.nearest-b.ensures
-    c.requires.6 c.if-high-b.true
+pub returns-in_err-b : goal.returns-in_err-b
+returns-in_err-b c =
+    let t = c.args.r.tables in
+    c.from_residual.ensures
+    ∙ judged_nobody t.counts t.words.now _ _ _ _ _ c.args.r.there c.args.p.order c.requires.2
+    (sym c.in_err-b.was ∙ c.nearest.ensures)
 
-pub returns-then-b-eq-SETTLED : goal.returns-then-b-eq-SETTLED
-returns-then-b-eq-SETTLED c =
-    judged_settled c.args.c c.args.w.now _ _ _ _ _ c.requires.1 c.requires.2 _ c.nearest-b.ensures
-    c.requires.6 c.requires.5 c.if-high-b.false c.if-b-eq-SETTLED.true
-
-pub returns-then-version_stands : goal.returns-then-version_stands
-returns-then-version_stands c =
-    judged_version c.args.c c.args.w.now _ _ _ _ _ c.requires.1 c.requires.2 _ c.nearest-b.ensures
-    c.requires.6 c.requires.5 c.if-high-b.false
-    c.version_stands.ensures c.if-version_stands.true
+pub returns-then-is_frozen : goal.returns-then-is_frozen
+returns-then-is_frozen c =
+    let t = c.args.r.tables in
+    judged_frozen t.counts t.words.now _ _ _ _ _ c.args.r.there c.args.p.order c.requires.2 c.requires.0
+    c.requires.1 _ (sym c.in_ok-b.was ∙ c.nearest.ensures) c.is_frozen.ensures c.if-is_frozen.true
 
 pub returns : goal.returns
 returns c =
-    judged_held c.args.c c.args.w.now _ _ _ _ _ c.requires.1 c.requires.2 _ c.nearest-b.ensures
-    c.requires.6 c.requires.5 c.if-high-b.false
-    c.version_stands.ensures c.requires.4 c.if-b-eq-SETTLED.false c.if-version_stands.false
+    let t = c.args.r.tables in
+    judged_held t.counts t.words.now _ _ _ _ _ c.args.r.there c.args.p.order c.requires.2 c.requires.0
+    c.requires.1 _ (sym c.in_ok-b.was ∙ c.nearest.ensures) c.is_frozen.ensures c.if-is_frozen.false

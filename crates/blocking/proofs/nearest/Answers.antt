@@ -1,30 +1,32 @@
 -- The turns of the code are those of nearest. Rests on Extremes.
 use mathlib.Core.Path.{sym, ap, ◌∙◌}
-use borrow.Author.Tests.{lt-ltb, le-ltb}
+use Rattle.types.specs.Kinds.{mode_number}
 use Rattle.tables.specs.Walked.{values_left}
 use Rattle.blocking.specs.Search.{nearest}
 use Rattle.blocking.proofs.Extremes.{turn_stops, turn_goes}
 use Rattle.blocking.proofs.nearest.Goals as goal
 
-pub returns-then-best-l : goal.returns-then-best-l
+pub returns-then-beyond : goal.returns-then-beyond
 unfolding nearest
-returns-then-best-l c =
+returns-then-beyond c =
     let s = c.args in
     turn_stops _ _
-    (ap (nearest s.mode s.k s.low s.high c.loop-l.best) (sym c.in-Some.ensures.steps) ∙ c.loop-l.invariant)
-    (lt-ltb _ _ c.if-best-l.true)
+    (ap (nearest (mode_number s.a.mode) s.a.slot s.p.low s.p.high c.loop-l.best) (sym c.in-Some.ensures.steps)
+    ∙ c.loop-l.invariant)
+    (sym c.beyond.ensures ∙ c.if-beyond.true)
 
 pub loop-l-preserved : goal.loop-l-preserved
 unfolding nearest
 loop-l-preserved c =
     let s = c.args in
-    ap (λ y. nearest s.mode s.k s.low s.high y (values_left c.next.new.self)) c.nearer-best.ensures
-    ∙ turn_goes _ _
-    (ap (nearest s.mode s.k s.low s.high c.loop-l.best) (sym c.in-Some.ensures.steps) ∙ c.loop-l.invariant)
-    (le-ltb _ _ c.if-best-l.false)
+    let walk = nearest (mode_number s.a.mode) s.a.slot s.p.low s.p.high in
+    ap (λ y. walk y (values_left c.next.new.self)) c.nearer-best.ensures
+    ∙ turn_goes _ _ (ap (walk c.loop-l.best) (sym c.in-Some.ensures.steps) ∙ c.loop-l.invariant)
+    (sym c.beyond.ensures ∙ c.if-beyond.false)
 
 pub returns : goal.returns
 unfolding nearest
 returns c =
     let s = c.args in
-    ap (nearest s.mode s.k s.low s.high c.loop-l.best) (sym c.in-None.ensures.steps.0) ∙ c.loop-l.invariant
+    ap (nearest (mode_number s.a.mode) s.a.slot s.p.low s.p.high c.loop-l.best) (sym c.in-None.ensures.steps.0)
+    ∙ c.loop-l.invariant

@@ -23,34 +23,26 @@ returns-then-q-gt-LAST c =
     (record_out _ _ c.record.ensures c.in_ok-r.was).0 _
     c.from-q.ensures c.if-q-gt-LAST.true
 
-pub floor_of-floor-requires : goal.floor_of-floor-requires
-floor_of-floor-requires c = (
-  header_counts _ _ c.requires
-      c.counts_of-c.ensures,
-  (let r = record_out _ _ c.record.ensures c.in_ok-r.was in rw r.1 (row_there _ _ r.0)),
-)
+pub invariant_of-tables : goal.invariant_of-tables
+invariant_of-tables c = record { fits = header_counts _ _ c.requires c.counts_of-c.ensures }
+
+pub invariant_of-x : goal.invariant_of-x
+invariant_of-x c =
+    let r = record_out _ _ c.record.ensures c.in_ok-r.was in record { there = rw r.1 (row_there _ _ r.0) }
 
 pub returns-then-q-floor : goal.returns-then-q-floor
 returns-then-q-floor c =
     viewed_below _ _ c.counts_of-c.ensures _ _
     (record_out _ _ c.record.ensures c.in_ok-r.was).0
     _ c.from-q.ensures _ c.if-q-gt-LAST.false
-    (rw (record_out _ _ c.record.ensures c.in_ok-r.was).1 at c.floor_of-floor.ensures)
+    (rw (record_out _ _ c.record.ensures c.in_ok-r.was).1 at c.floor.ensures)
     c.if-q-floor.true
-
-pub newest_at-v-requires : goal.newest_at-v-requires
-newest_at-v-requires c = (
-  header_counts _ _ c.requires
-      c.counts_of-c.ensures,
-  (let r = record_out _ _ c.record.ensures c.in_ok-r.was in rw r.1 (row_there _ _ r.0)),
-  c.if-q-gt-LAST.false,
-)
 
 pub returns : goal.returns
 returns c =
     viewed _ _ c.counts_of-c.ensures _ _
     (record_out _ _ c.record.ensures c.in_ok-r.was).0 _
     c.from-q.ensures _ c.if-q-gt-LAST.false
-    (rw (record_out _ _ c.record.ensures c.in_ok-r.was).1 at c.floor_of-floor.ensures) _ _
+    (rw (record_out _ _ c.record.ensures c.in_ok-r.was).1 at c.floor.ensures) _ _
     c.if-q-floor.false (rw (record_out _ _ c.record.ensures c.in_ok-r.was).1 at c.newest_at-v.ensures)
     c.from.ensures

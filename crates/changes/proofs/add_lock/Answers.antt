@@ -1,20 +1,24 @@
--- `changes::add_lock` meets its contract. Rests on Locks.
+-- `changes::add_lock` meets its contract. Rests on Locks and on Rooms of `tables`.
 use mathlib.Core.Path.{refl}
+use native.Mathlib.Omega.{arith}
+use Rattle.tables.specs.Layout.{lock_table}
+use Rattle.tables.proofs.Rooms.{free_lock}
 use Rattle.changes.proofs.Locks.{lock_ready_back, lock_row, lock_inserted_fits, add_lock_law}
 use Rattle.changes.proofs.add_lock.Goals as goal
 
-pub insert_lock-i-requires : goal.insert_lock-i-requires
-insert_lock-i-requires c = (
-  c.requires.0.fits,
-  c.requires.1,
-  lock_ready_back c.requires.0 c.requires.1,
-)
+pub insert-requires : goal.insert-requires
+unfolding lock_table
+insert-requires c =
+    (c.requires.0.fits, c.requires.1, lock_ready_back c.requires.0 c.requires.1, omega arith)
+
+pub returns-in_default : goal.returns-in_default
+returns-in_default c = absurd (free_lock c.requires.0 c.requires.4 c.in_default.ensures.head)
 
 pub put_lock-requires : goal.put_lock-requires
 put_lock-requires c =
-    let K = c.insert_lock-i.ensures in (
-      lock_inserted_fits c.requires.0 c.requires.1 K c.requires.4,
-      lock_row c.requires.0 c.requires.1 K c.requires.4,
+    let k = c.in-Some.ensures in (
+      lock_inserted_fits c.requires.0 c.requires.1 k,
+      lock_row c.requires.0 c.requires.1 k,
       c.requires.2,
       c.requires.3,
     )
@@ -22,5 +26,5 @@ put_lock-requires c =
 pub returns : goal.returns
 returns c =
     add_lock_law c.requires.0 c.requires.1
-    c.insert_lock-i.ensures c.requires.4 c.args.l
+    c.in-Some.ensures c.args.l
     c.requires.2 refl c.put_lock.ensures

@@ -1,33 +1,28 @@
--- Answers for `changes::drop_touching`. Rests on Joins and Turns.
-use mathlib.Core.Path.{refl}
-use Rattle.changes.proofs.Turns.{lock_turns_row, lock_turns_ready}
-use Rattle.changes.proofs.Joins.{joins_start, joins_again, joins_end}
-use Rattle.changes.proofs.drop_touching.Goals.{then-hit, else-hit}
+-- `changes::drop_touching` meets its contract. Rests on Joins.
+use mathlib.Core.Path.{sym, ap, ◌∙◌}
+use Rattle.std.proofs.Common.{rules}
+use borrow.Author.Tests.{tests}
+use Rattle.meaning.specs.Store.{Rec}
+use Rattle.meaning.specs.Points.{touches, joined_row}
+use Rattle.tables.proofs.Decoded.{rec_at_lem}
+use Rattle.changes.proofs.Locks.{lock_ready_back}
+use Rattle.changes.proofs.Keeping.{locks_keep}
+use Rattle.changes.proofs.Joins.{touching_gone}
 use Rattle.changes.proofs.drop_touching.Goals as goal
 
-pub loop-i-init : goal.loop-i-init
-loop-i-init c =
-    joins_start _ _ c.requires.0 c.requires.1
-    (rw (c.lock_table-t.ensures, c.first_lock.ensures) at c.new-walk.ensures)
+pub free_rows-requires-clause-ready : goal.free_rows-requires-clause-ready
+free_rows-requires-clause-ready c = (c.requires.0.fits, c.requires.1, lock_ready_back c.requires.0 c.requires.1)
 
-pub lock_at-l-requires : goal.lock_at-l-requires
-lock_at-l-requires c = lock_turns_row c.loop-i.invariant.turns (rw c.lock_table-t.ensures at c.in-Some.ensures)
+pub free_rows-requires-clause-kept : goal.free_rows-requires-clause-kept
+free_rows-requires-clause-kept c = locks_keep c.requires.0.fits
 
-pub unlink_turn-place-requires : goal.unlink_turn-place-requires
-unlink_turn-place-requires c =
-    lock_turns_ready c.loop-i.invariant.turns (rw c.lock_table-t.ensures at c.in-Some.ensures) c.lock_table-t.ensures
-    c.lock_heads-h.ensures
-
-pub loop-i-preserved : goal.loop-i-preserved
-loop-i-preserved c =
-    joins_again c.loop-i.invariant c.lock_table-t.ensures c.lock_heads-h.ensures
-    (rw c.lock_table-t.ensures at c.in-Some.ensures) c.lock_at-l.ensures
-    c.touches-hit.ensures
-    (elim c.if-hit.branch [
-      | then-hit w ↦ rw (w.row-is, w.min.ensures, w.max.ensures, w.if-hit.true) refl
-      | else-hit w ↦ rw (w.row-is, w.if-hit.false) refl
-    ])
-    c.unlink_turn-place.ensures
+pub free_rows-requires-clause-tested : goal.free_rows-requires-clause-tested
+free_rows-requires-clause-tested c = (touches c.args.low c.args.high, λ x b q. search (rules, tests))
 
 pub returns : goal.returns
-returns c = joins_end c.loop-i.invariant (rw c.lock_table-t.ensures at c.in_default.ensures)
+returns c = (
+  touching_gone c.args.low c.args.high c.requires.0 c.requires.1
+      (c.free_rows.ensures (touches c.args.low c.args.high) (λ x b q. search (rules, tests))),
+  c.joined_row-row.ensures
+      ∙ ap (λ (x : Rec). joined_row c.args.low c.args.high x.locks) (sym (rec_at_lem _ _ _ c.requires.1)),
+)

@@ -1,4 +1,5 @@
 -- `commits::commit` meets its contract. Rests on CommitActs, on Acting and Checks of `calls`, on EndActs of `endings`.
+use native.Mathlib.Omega.{arith}
 use Rattle.calls.proofs.Acting.{has_header, ready, indexed_at}
 use Rattle.calls.proofs.Answers.{off, on}
 use Rattle.calls.proofs.Checks.{passed, open_out}
@@ -10,9 +11,8 @@ use Rattle.commits.proofs.commit.Goals as goal
 pub counts_of-c-requires : goal.counts_of-c-requires
 counts_of-c-requires c = has_header _ c.requires.0
 
-pub open_slot-requires : goal.open_slot-requires
-open_slot-requires c =
-    (ready _ c.requires.0 _ c.counts_of-c.ensures).well.fits
+pub invariant_of-tables : goal.invariant_of-tables
+invariant_of-tables c = record { fits = (ready _ c.requires.0 _ c.counts_of-c.ensures).well.fits }
 
 pub returns-in_err-k : goal.returns-in_err-k
 returns-in_err-k c =
@@ -24,6 +24,10 @@ returns-then-not-good_pick c =
     let o = open_out _ _ c.open_slot.ensures c.in_ok-k.was in
     commit_bad_point _ _ c.requires.0 c.counts_of-c.ensures _ _ _ o.0 o.1
     (off c.good_pick.ensures c.if-not-good_pick.true)
+
+pub invariant_of-index : goal.invariant_of-index
+invariant_of-index c =
+    let o = open_out _ _ c.open_slot.ensures c.in_ok-k.was in record { of_slot = omega (arith, o.2) }
 
 pub commit_open-requires : goal.commit_open-requires
 commit_open-requires c =

@@ -8,4 +8,4 @@ end_aborted-requires c =
 
 pub returns : goal.returns
 returns c =
-    none_done c.args.c c.args.w.now c.args.k c.requires.0 c.requires.1 c.args.finish _ c.end_aborted.ensures
+    none_done c.args.c c.args.w.now c.args.index.slot c.requires.0 c.requires.1 c.args.finish _ c.end_aborted.ensures

@@ -7,16 +7,16 @@ use Rattle.endings.proofs.end_aborted.Goals as goal
 pub set_state-requires : goal.set_state-requires
 set_state-requires c = (
   c.requires.0.well,
-  open_row c.args.c c.args.w.now c.args.k c.requires.0 c.requires.1,
+  open_row c.args.c c.args.w.now c.args.index.slot c.requires.0 c.requires.1,
 )
 
 pub finish_slot-requires : goal.finish_slot-requires
 finish_slot-requires c =
-    with_index (aborted_ready c.args.c c.args.w.now c.args.k c.requires.0 c.requires.1 _ c.set_state.ensures)
+    with_index (aborted_ready c.args.c c.args.w.now c.args.index.slot c.requires.0 c.requires.1 _ c.set_state.ensures)
     (ended_indexed _ _ _ ABORTED 0
     c.requires.2 c.set_state.ensures)
 
 pub returns : goal.returns
 returns c =
-    aborted_ends c.args.c c.args.w.now c.args.k c.requires.0 c.requires.1 _ c.set_state.ensures
+    aborted_ends c.args.c c.args.w.now c.args.index.slot c.requires.0 c.requires.1 _ c.set_state.ensures
     c.args.finish _ c.finish_slot.ensures

@@ -4,23 +4,13 @@ use Rattle.index.proofs.Says.{turn_within}
 use Rattle.endings.proofs.FreeLoop.{free_start_lem, free_again, free_end}
 use Rattle.endings.proofs.free_locks.Goals as goal
 
-pub turns-i-end-requires : goal.turns-i-end-requires
-turns-i-end-requires c =
-    omega (arith, c.requires.1.high, c.requires.0.fits.ranged.edits_high)
-
 pub loop-i-init : goal.loop-i-init
 loop-i-init c =
     free_start_lem _ _ _ _ _ c.requires.0 c.requires.1 c.requires.2 c.turns-i-end.ensures
 
 pub turn-requires : goal.turn-requires
-turn-requires c = (
-  omega (
-    arith,
-    c.requires.1.high,
-    c.requires.0.fits.ranged.edits_high,
-  ),
-  turn_within _ _ c.args.c.records _ (omega (arith, c.loop-i-test.true, c.loop-i.invariant.count)),
-)
+turn-requires c =
+    turn_within _ _ c.args.c.records _ (omega (arith, c.loop-i-test.true, c.loop-i.invariant.count))
 
 pub free_turn-requires : goal.free_turn-requires
 free_turn-requires c = (

@@ -5,4 +5,5 @@ use Rattle.endings.proofs.FreeLoop.{Freeing}
 use Rattle.endings.proofs.free_locks.Given as goal
 
 abbrev pub invariant-loop-i : goal.invariant-loop-i
-invariant-loop-i l = Freeing l.k l.c l.ix (freed_all l.k (decode_at l.c l.initial.w)) l.w l.i-end l.i
+invariant-loop-i l =
+    Freeing l.index.slot l.c l.index.numbers.now (freed_all l.index.slot (decode_at l.c l.initial.w)) l.w l.i-end l.i

@@ -2,21 +2,12 @@
 use Rattle.calls.proofs.Answers.{on}
 use native.Mathlib.Omega.{arith}
 use Rattle.endings.proofs.FreeLoop.{freed_past, freed_silent, freed_one}
+use mathlib.Core.Path.{refl}
+use Rattle.endings.proofs.free_turn.Goals.{else-r-c-via-then-r-c+else-not-silent, else-r-c-via-else-r-c}
 use Rattle.endings.proofs.free_turn.Goals as goal
 
 pub silent-requires : goal.silent-requires
-silent-requires c = (
-  omega (
-    arith,
-    c.requires.1.high,
-    c.requires.0.fits.ranged.edits_high,
-  ),
-  omega (
-    arith,
-    c.if-r-c.true,
-    c.requires.0.fits.ranged.records_high,
-  ),
-)
+silent-requires c = omega (arith, c.if-r-c.true, c.requires.0.fits.ranged.records_high)
 
 pub drop_owner-requires : goal.drop_owner-requires
 drop_owner-requires c = (
@@ -34,12 +25,11 @@ shape_of-w c =
 
 pub returns-then-not-silent : goal.returns-then-not-silent
 returns-then-not-silent c =
-    freed_one _ _ _ _ c.requires.0 c.requires.1 _ c.requires.2 _ _ c.if-r-c.true c.word.ensures c.drop_owner.ensures
-
-pub returns-else-not-silent : goal.returns-else-not-silent
-returns-else-not-silent c =
-    freed_silent _ _ _ _ c.requires.0 c.requires.1 _ c.requires.2 (on c.silent.ensures c.if-not-silent.false)
+    freed_one _ _ _ _ c.requires.0 c.requires.1 _ c.requires.2 _ _ c.if-r-c.true refl c.drop_owner.ensures
 
 pub returns-else-r-c : goal.returns-else-r-c
-returns-else-r-c c =
-    freed_past _ _ _ _ c.requires.0 c.requires.1 _ c.requires.2 c.if-r-c.false
+returns-else-r-c c = elim c.else-r-c.branch [
+  | else-r-c-via-then-r-c+else-not-silent w ↦
+      freed_silent _ _ _ _ c.requires.0 c.requires.1 _ c.requires.2 (on w.silent.ensures w.if-not-silent.false)
+  | else-r-c-via-else-r-c w ↦ freed_past _ _ _ _ c.requires.0 c.requires.1 _ c.requires.2 w.if-r-c.false
+]

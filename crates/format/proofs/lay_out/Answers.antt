@@ -17,19 +17,19 @@ write_header-requires c =
 
 pub link_rows-requires : goal.link_rows-requires
 link_rows-requires c =
-    rw c.version_table.ensures
+    rw c.table.ensures
     (versions_lie_lem _ _ (c.write_header.auto.w
     ∙ c.fill.ensures.len ∙ c.requires.1))
 
 pub link_rows-requires-2 : goal.link_rows-requires-2
 link_rows-requires-2 c =
-    rw c.lock_table.ensures
+    rw c.table-2.ensures
     (locks_lie_lem _ _ (c.link_rows.auto.w ∙ c.write_header.auto.w
     ∙ c.fill.ensures.len ∙ c.requires.1))
 
 pub link_rows-requires-3 : goal.link_rows-requires-3
 link_rows-requires-3 c =
-    rw c.access_table.ensures
+    rw c.table-3.ensures
     (accesses_lie _ _ (c.link_rows-2.auto.w
     ∙ c.link_rows.auto.w
     ∙ c.write_header.auto.w
@@ -40,11 +40,11 @@ unfolding formatted_words
 returns c =
     rw (
       c.link_rows-3.ensures,
-      c.access_table.ensures,
+      c.table-3.ensures,
       c.link_rows-2.ensures,
-      c.lock_table.ensures,
+      c.table-2.ensures,
       c.link_rows.ensures,
-      c.version_table.ensures,
+      c.table.ensures,
       c.write_header.ensures,
       c.fill.ensures.after (λ y e. e),
       blank_words_lem c.args.c _ c.requires.1,

@@ -6,15 +6,12 @@ use Rattle.index.proofs.access_row.Goals as goal
 
 pub returns-then-silent : goal.returns-then-silent
 returns-then-silent c =
-    no_row _ _ _ _ c.requires.1 (c.requires.3.quiet _ _ c.requires.1.low (omega (
+    no_row _ _ _ _ c.args.s.there (c.requires.1.quiet _ _ c.args.s.there.low (omega (
       arith,
-      c.requires.0.ranged.edits_high,
-      c.requires.1.high,
+      c.args.s.tables.fits.ranged.edits_high,
+      c.args.s.there.high,
     )) (omega (
       arith,
-      c.requires.0.ranged.records_high,
-      c.requires.2,
-    )) (sym (rw c.wide.ensures at c.silent.ensures) ∙ c.if-silent.true))
-
-pub returns : goal.returns
-returns c = c.access_row.ensures
+      c.args.s.tables.fits.ranged.records_high,
+      c.requires.0,
+    )) (sym c.silent.ensures ∙ c.if-silent.true))

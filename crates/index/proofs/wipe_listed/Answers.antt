@@ -9,15 +9,13 @@ pub loop-i-init : goal.loop-i-init
 loop-i-init c = wipe_start _ _
 
 pub turn-r-requires : goal.turn-r-requires
-turn-r-requires c = (
-  c.requires.1,
-  turn_within _ _ MARKS _ (omega (
-    arith,
-    c.loop-i-test.true,
-    c.turns-i-end.ensures,
-    wipe_turns _ _ _ _ c.requires.0 c.requires.1 c.loop-i.invariant MARKS,
-  )),
-)
+turn-r-requires c =
+    turn_within _ _ MARKS _ (omega (
+      arith,
+      c.loop-i-test.true,
+      c.turns-turns.ensures,
+      wipe_turns _ _ _ _ c.requires.0 c.requires.1 c.loop-i.invariant MARKS,
+    ))
 
 pub unmark-requires : goal.unmark-requires
 unmark-requires c = (c.loop-i.invariant.size ∙ c.requires.0, c.requires.1)
@@ -30,4 +28,4 @@ pub shape_of-ix : goal.shape_of-ix
 shape_of-ix c = c.loop-i.invariant.size
 
 pub returns : goal.returns
-returns c = wipe_end _ _ _ _ _ c.loop-i.invariant (omega (arith, c.turns-i-end.ensures))
+returns c = wipe_end _ _ _ _ _ c.loop-i.invariant (omega (arith, c.turns-turns.ensures))

@@ -1,31 +1,37 @@
--- `locking::later_grant` meets its contract: the run from the first free point, or the judgement of low. Rests on
+-- `locking::later_grant` meets its contract: the run from the first free point, or the judgement of the first. Rests on
 -- Granting and Acting of `calls`.
-use native.Mathlib.Omega.{arith}
+use mathlib.Core.Path.{sym, ◌∙◌}
+use Rattle.meaning.proofs.JudgeLocking.{proper}
+use Rattle.tables.specs.Views.{store_in}
 use Rattle.calls.proofs.Acting.{all_rise}
-use Rattle.calls.proofs.Granting.{search_needs, later_judged, later_taken, later_above}
+use Rattle.calls.proofs.Granting.{search_needs, later_judged, later_inside, later_taken}
 use Rattle.locking.proofs.later_grant.Goals as goal
 
-pub first_free-from-requires : goal.first_free-from-requires
-first_free-from-requires c =
-    (c.requires.0.well.fits, c.requires.1, c.requires.3, c.requires.4, all_rise _ _ c.requires.0 _ c.requires.1)
+pub first_free-requires : goal.first_free-requires
+first_free-requires c = all_rise _ _ c.requires.0 _ c.args.r.there
 
-pub returns-then-high-from : goal.returns-then-high-from
-returns-then-high-from c =
-    later_judged c.args.c c.args.w.now _ _ _ _ c.requires.1 _ c.first_free-from.ensures _ c.requires.6
-    c.if-high-from.true
+pub invariant_of-rest : goal.invariant_of-rest
+invariant_of-rest c =
+    let t = c.args.r.tables in
+    record {
+      order =
+          later_inside t.counts t.words.now c.args.k c.args.r.number c.args.p.low c.args.p.high c.args.r.there _
+          (sym c.in-Some.is ∙ c.first_free.ensures);
+      last = c.args.p.last;
+    }
 
-pub first_blocked-next-requires : goal.first_blocked-next-requires
-first_blocked-next-requires c =
-    search_needs c.requires.0 c.requires.1 c.if-high-from.false c.requires.4 c.requires.5
+pub run-requires : goal.run-requires
+run-requires c = search_needs c.requires.0 c.args.r.there c.requires.1
 
-pub overflow_sub-result : goal.overflow_sub-result
-overflow_sub-result c =
-    let l =
-    later_above c.args.c c.args.w.now _ _ _ _ c.requires.1 _ c.first_free-from.ensures
-    c.if-high-from.false _ c.first_blocked-next.ensures c.requires.2 c.requires.3 in
-    omega arith
+pub returns-in-None : goal.returns-in-None
+returns-in-None c =
+    let t = c.args.r.tables in
+    later_judged t.counts t.words.now c.args.k c.args.r.number c.args.p.low c.args.p.high c.args.r.there _ c.requires.2
+    (sym c.in-None.is ∙ c.first_free.ensures)
 
-pub returns : goal.returns
-returns c =
-    later_taken c.args.c c.args.w.now _ _ _ _ c.requires.1 _ c.first_free-from.ensures
-    c.if-high-from.false _ c.first_blocked-next.ensures
+pub returns-in-Some : goal.returns-in-Some
+returns-in-Some c =
+    let t = c.args.r.tables in
+    c.run.ensures
+    ∙ later_taken t.counts t.words.now c.args.k c.args.r.number c.args.p.low c.args.p.high c.args.r.there _
+    (sym c.in-Some.is ∙ c.first_free.ensures) (proper (store_in t) c.requires.0.store c.args.r.number)

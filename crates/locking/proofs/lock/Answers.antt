@@ -6,14 +6,13 @@ use Rattle.calls.proofs.Checks.{passed, open_out, record_out, record_refused}
 use Rattle.calls.proofs.Handles.{row_there}
 use Rattle.locking.proofs.Locking.{locked_closed, locked_no_record, locked_crossed}
 use Rattle.locking.proofs.Locking.{locked_too_large, locked_below_lem, lock_acts}
-use native.Mathlib.Omega.{arith}
 use Rattle.locking.proofs.lock.Goals as goal
 
 pub counts_of-c-requires : goal.counts_of-c-requires
 counts_of-c-requires c = has_header _ c.requires
 
-pub open_slot-requires : goal.open_slot-requires
-open_slot-requires c = (ready _ c.requires _ c.counts_of-c.ensures).well.fits
+pub invariant_of-tables : goal.invariant_of-tables
+invariant_of-tables c = record { fits = (ready _ c.requires _ c.counts_of-c.ensures).well.fits }
 
 pub returns-in_err-k : goal.returns-in_err-k
 returns-in_err-k c =
@@ -48,16 +47,12 @@ returns-then-to-gt-LAST c =
     _ _ c.from-from.ensures c.from-to.ensures
     c.if-to-from.false c.if-to-gt-LAST.true
 
-pub floor_of-requires : goal.floor_of-requires
-floor_of-requires c =
-    let o = open_out _ _ c.open_slot.ensures c.in_ok-k.was in
-    let r = record_out _ _ c.record.ensures c.in_ok-r.was in (
-      (ready _ c.requires _ c.counts_of-c.ensures).well.fits,
-      rw r.1 (row_there _ _ r.0),
-    )
+pub invariant_of-x : goal.invariant_of-x
+invariant_of-x c =
+    let r = record_out _ _ c.record.ensures c.in_ok-r.was in record { there = rw r.1 (row_there _ _ r.0) }
 
-pub returns-then-from-floor_of : goal.returns-then-from-floor_of
-returns-then-from-floor_of c =
+pub returns-then-from-floor : goal.returns-then-from-floor
+returns-then-from-floor c =
     let o = open_out _ _ c.open_slot.ensures c.in_ok-k.was in
     let r = record_out _ _ c.record.ensures c.in_ok-r.was in
     locked_below_lem _ _ c.requires c.counts_of-c.ensures _ _ _ _ _
@@ -66,7 +61,7 @@ returns-then-from-floor_of c =
     r.0 _ _
     c.from-from.ensures
     c.from-to.ensures c.if-to-from.false
-    c.if-to-gt-LAST.false _ (rw r.1 at c.floor_of.ensures) c.if-from-floor_of.true
+    c.if-to-gt-LAST.false _ (rw r.1 at c.floor.ensures) c.if-from-floor.true
 
 pub lock_wanted-requires : goal.lock_wanted-requires
 lock_wanted-requires c =
@@ -75,9 +70,6 @@ lock_wanted-requires c =
       ready _ c.requires _ c.counts_of-c.ensures,
       rw o.2 (slot_row _ _ _ o.0),
       rw r.1 (row_there _ _ r.0),
-      omega (arith, c.if-from-floor_of.false),
-      c.if-to-from.false,
-      c.if-to-gt-LAST.false,
     )
 
 pub returns : goal.returns
@@ -92,6 +84,6 @@ returns c =
     c.from-to.ensures
     c.if-to-from.false
     c.if-to-gt-LAST.false _
-    (rw r.1 at c.floor_of.ensures)
-    c.if-from-floor_of.false _ _ _ o.2
+    (rw r.1 at c.floor.ensures)
+    c.if-from-floor.false _ _ _ o.2
     (rw r.1 at c.lock_wanted.ensures)

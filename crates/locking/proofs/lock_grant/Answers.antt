@@ -1,42 +1,26 @@
 -- `locking::lock_grant` meets its contract: all points or none, or the run from the first free point. Rests on
 -- Granting.
-use native.Mathlib.Omega.{arith}
-use Rattle.calls.proofs.Granting.{search_needs, lock_all_taken, lock_all_judged, lock_part_low}
+use mathlib.Core.Path.{sym, ◌∙◌}
+use Rattle.tables.specs.Views.{store_in}
+use Rattle.calls.proofs.Granting.{search_needs, run_locks, run_takes}
 use Rattle.locking.proofs.lock_grant.Goals as goal
 
-pub first_blocked-b-requires : goal.first_blocked-b-requires
-first_blocked-b-requires c =
-    search_needs c.requires.0 c.requires.1 c.requires.3 c.requires.4 c.requires.5
-
-pub overflow_sub-result : goal.overflow_sub-result
-overflow_sub-result c = omega (arith, c.if-low-b.true)
+pub run-requires : goal.run-requires
+run-requires c = search_needs c.requires.0 c.args.r.there c.requires.1
 
 pub later_grant-requires : goal.later_grant-requires
-later_grant-requires c = (
-  c.requires.0,
-  c.requires.1,
-  c.requires.2,
-  c.requires.3,
-  c.requires.4,
-  c.requires.5,
-  c.first_blocked-b.ensures,
-)
+later_grant-requires c = (c.requires.0, c.requires.1, rw c.in-Part.is at (sym c.in-Err.is ∙ c.run.ensures))
 
-pub returns-then-high-b : goal.returns-then-high-b
-returns-then-high-b c =
+pub returns-in-Ok : goal.returns-in-Ok
+returns-in-Ok c =
+    run_takes (store_in c.args.r.tables) c.args.k c.args.r.number c.args.p.low c.args.p.high c.args.extent _ _
+    c.args.p.order (sym c.in-Ok.is ∙ c.run.ensures)
+
+pub returns-in-All : goal.returns-in-All
+returns-in-All c =
     rw c.in-All.is
-    (lock_all_taken _ _ _ _ _ _ c.first_blocked-b.ensures c.if-high-b.true)
+    ((rw c.in-All.is at (sym c.in-Err.is ∙ c.run.ensures))
+    ∙ run_locks (store_in c.args.r.tables) c.args.k c.args.r.number c.args.p.low c.args.p.high)
 
-pub returns-else-high-b : goal.returns-else-high-b
-returns-else-high-b c =
-    rw c.in-All.is
-    (lock_all_judged _ _ _ _ _ _ c.first_blocked-b.ensures c.if-high-b.false)
-
-pub returns-then-low-b : goal.returns-then-low-b
-returns-then-low-b c =
-    rw c.in-Part.is
-    (lock_part_low _ _ _ _ _ _ c.first_blocked-b.ensures c.requires.3
-    c.if-low-b.true)
-
-pub returns-else-low-b : goal.returns-else-low-b
-returns-else-low-b c = rw c.in-Part.is c.later_grant.ensures
+pub returns-in-Part : goal.returns-in-Part
+returns-in-Part c = rw c.in-Part.is c.later_grant.ensures

@@ -6,8 +6,7 @@ use native.Mathlib.Omega.{arith}
 use Rattle.locking.proofs.lock_wanted.Goals as goal
 
 pub lock_grant-requires : goal.lock_grant-requires
-lock_grant-requires c =
-    (c.requires.0, c.requires.2, c.requires.3, c.requires.4, c.requires.5, c.requires.1.low)
+lock_grant-requires c = (c.requires.0, c.requires.1.low)
 
 pub judge-requires : goal.judge-requires
 judge-requires c = (
@@ -37,7 +36,7 @@ add_lock-requires c = (
 pub returns-in-Err : goal.returns-in-Err
 returns-in-Err c =
     wanted_blocked _ _ c.requires.0 _ _ _ _ _ _ c.lock_grant.ensures _
-    c.in-Err.is _ _ c.requires.4 c.judge.ensures
+    c.in-Err.is _ _ c.judge.ensures
 
 pub returns-else-not-lock_room : goal.returns-else-not-lock_room
 returns-else-not-lock_room c =

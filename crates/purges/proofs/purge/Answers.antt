@@ -23,15 +23,17 @@ returns-then-p-gt-LAST c =
     _ refl (record_out _ _ c.record.ensures c.in_ok-r.was).0 _ c.from-p.result
     c.from-p.ensures c.if-p-gt-LAST.true
 
-pub newest_at-v-requires : goal.newest_at-v-requires
-newest_at-v-requires c = (
-  (ready _ c.requires _ c.counts_of-c.ensures).well.fits,
-  purge_row _ _ c.requires c.counts_of-c.ensures
-      c.args.rec _ refl (record_out _ _ c.record.ensures c.in_ok-r.was).0 _
-      c.from-p.result c.from-p.ensures
-      c.if-p-gt-LAST.false _ (record_out _ _ c.record.ensures c.in_ok-r.was).1,
-  c.if-p-gt-LAST.false,
-)
+pub invariant_of-tables : goal.invariant_of-tables
+invariant_of-tables c = record { fits = (ready _ c.requires _ c.counts_of-c.ensures).well.fits }
+
+pub invariant_of-newest_at : goal.invariant_of-newest_at
+invariant_of-newest_at c =
+    record {
+      there = purge_row _ _ c.requires c.counts_of-c.ensures
+          c.args.rec _ refl (record_out _ _ c.record.ensures c.in_ok-r.was).0 _
+          c.from-p.result c.from-p.ensures
+          c.if-p-gt-LAST.false _ (record_out _ _ c.record.ensures c.in_ok-r.was).1;
+    }
 
 pub purge_to-requires : goal.purge_to-requires
 purge_to-requires c =

@@ -2,19 +2,12 @@
 use Rattle.purges.proofs.PurgeActs.{at_floor, locked, unlocked}
 use Rattle.purges.proofs.purge_to.Goals as goal
 
-pub floor_of-floor-requires : goal.floor_of-floor-requires
-floor_of-floor-requires c = (c.requires.0.fits, c.requires.1)
-
 pub returns-then-v-floor : goal.returns-then-v-floor
 returns-then-v-floor c =
     at_floor c.args.c c.args.w.now
     c.args.r c.args.v
     c.requires.0 c.requires.1
-    c.floor_of-floor.result c.floor_of-floor.ensures c.if-v-floor.true
-
-pub locked_below-requires : goal.locked_below-requires
-locked_below-requires c =
-    (c.requires.0.fits, c.requires.1)
+    c.floor.result c.floor.ensures c.if-v-floor.true
 
 pub returns-then-locked_below : goal.returns-then-locked_below
 returns-then-locked_below c =
@@ -24,7 +17,7 @@ returns-then-locked_below c =
     c.args.v
     c.requires.0
     c.requires.1
-    c.floor_of-floor.result c.floor_of-floor.ensures
+    c.floor.result c.floor.ensures
     c.if-v-floor.false c.locked_below.result c.locked_below.ensures
     c.if-locked_below.true
 
@@ -38,8 +31,8 @@ purge_record-requires c = (
 pub returns : goal.returns
 returns c =
     unlocked c.args.c c.args.w.now c.args.r c.args.v c.requires.0 c.requires.1
-    c.floor_of-floor.result
-    c.floor_of-floor.ensures
+    c.floor.result
+    c.floor.ensures
     c.if-v-floor.false
     c.locked_below.result
     c.locked_below.ensures c.if-locked_below.false _

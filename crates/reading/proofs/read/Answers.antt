@@ -11,9 +11,8 @@ use Rattle.reading.proofs.read.Goals as goal
 pub counts_of-c-requires : goal.counts_of-c-requires
 counts_of-c-requires c = has_header _ c.requires.0
 
-pub open_slot-requires : goal.open_slot-requires
-open_slot-requires c =
-    (ready _ c.requires.0 _ c.counts_of-c.ensures).well.fits
+pub invariant_of-tables : goal.invariant_of-tables
+invariant_of-tables c = record { fits = (ready _ c.requires.0 _ c.counts_of-c.ensures).well.fits }
 
 pub returns-in_err-k : goal.returns-in_err-k
 returns-in_err-k c =

@@ -1,24 +1,23 @@
--- `slot_clauses::is_present` meets its contract. Rests on Reading.
-use Rattle.tables.specs.Decode.{record_at}
-use Rattle.clauses.proofs.Reading.{present_found, present_later, present_first}
+-- `slot_clauses::is_present` meets its contract. Rests on Reading and Steps of `clauses`.
+use mathlib.Core.Path.{refl, ◌∙◌}
+use borrow.Author.Tests.{eq-eqb, ne_eqb}
+use Rattle.tables.specs.Views.{rec_in}
+use Rattle.clauses.proofs.Reading.{present_is}
+use Rattle.clauses.proofs.Steps.{and_no, and_on, or_yes, or_on}
 use Rattle.slot_clauses.proofs.is_present.Goals as goal
 
-pub returns-then-has_version : goal.returns-then-has_version
-returns-then-has_version c =
-    present_found (record_at c.args.c c.args.w.now
-    c.args.r)
-    c.args.from c.has_version.ensures c.if-has_version.true
+pub returns-then-version_stands : goal.returns-then-version_stands
+returns-then-version_stands c =
+    c.if-version_stands.true ∙ or_yes _ c.if-version_stands.true
+    ∙ present_is (rec_in c.args.r) c.args.p c.version_stands.ensures refl
 
-pub returns-then-from-ne1 : goal.returns-then-from-ne1
-returns-then-from-ne1 c =
-    present_later (record_at c.args.c
-    c.args.w.now c.args.r)
-    c.args.from c.has_version.ensures c.if-has_version.false
-    c.if-from-ne1.true
+pub returns-then-p-eq0 : goal.returns-then-p-eq0
+returns-then-p-eq0 c =
+    or_on c.if-version_stands.false (and_on (eq-eqb c.args.p 0 c.if-p-eq0.true) refl)
+    ∙ present_is (rec_in c.args.r) c.args.p c.version_stands.ensures c.floor.ensures
 
-pub returns : goal.returns
-returns c =
-    present_first (record_at c.args.c
-    c.args.w.now c.args.r)
-    c.args.from c.has_version.ensures
-    c.if-has_version.false c.if-from-ne1.false c.floor_of.ensures
+pub returns-else-p-eq0 : goal.returns-else-p-eq0
+returns-else-p-eq0 c =
+    let n = ne_eqb c.args.p 0 c.if-p-eq0.false in
+    n ∙ or_on c.if-version_stands.false (and_no _ n)
+    ∙ present_is (rec_in c.args.r) c.args.p c.version_stands.ensures refl

@@ -5,7 +5,7 @@ use Rattle.slots.proofs.empty_accesses.Goals as goal
 
 pub empty_after-requires : goal.empty_after-requires
 empty_after-requires c =
-    rw (c.access_table.ensures, c.access_heads.ensures) (
+    rw (c.table.ensures, c.heads.ensures) (
       access_ready_back c.requires.0 c.requires.1,
       start_place _ _ _ _,
     )
@@ -16,5 +16,5 @@ returns c =
     c.requires.1
     (emptied_changed c.requires.0
     c.requires.1 _
-    (rw (c.access_table.ensures, c.access_heads.ensures) at
+    (rw (c.table.ensures, c.heads.ensures) at
     c.empty_after.ensures))

@@ -5,16 +5,13 @@ use Rattle.types.specs.Numbers.{next_generation}
 use Rattle.changes.proofs.OneWord.{generation_is, open_slot_law}
 use Rattle.slots.proofs.open_slot.Goals as goal
 
-pub generation_of-g-requires : goal.generation_of-g-requires
-generation_of-g-requires c = (c.requires.0.fits, c.requires.1)
-
 pub overflow_cast-g : goal.overflow_cast-g
 overflow_cast-g c =
     omega (
       arith,
       c.requires.2,
       generation_is c.requires.0 c.requires.1
-          c.generation_of-g.ensures,
+          c.generation-g.ensures,
     )
 
 pub set_state-requires : goal.set_state-requires
@@ -26,5 +23,5 @@ returns c =
     open_slot_law _ c.requires.0 c.requires.1
     (c.next_generation-next.ensures
     ∙ ap next_generation
-    (generation_is c.requires.0 c.requires.1 c.generation_of-g.ensures))
+    (generation_is c.requires.0 c.requires.1 c.generation-g.ensures))
     c.requires.3 c.set_generation.ensures c.set_state.ensures

@@ -6,22 +6,20 @@ use Rattle.calls.proofs.Checks.{passed}
 use Rattle.store.proofs.Slots.{no_slot, a_slot}
 use Rattle.store.proofs.would_begin.Goals as goal
 
-pub counts_of-c-requires : goal.counts_of-c-requires
-counts_of-c-requires c = has_header _ (checked_sound _ c.check.ensures c.in_ok-check.was)
+pub counts_of-requires : goal.counts_of-requires
+counts_of-requires c = has_header _ (checked_sound _ c.check.ensures c.in_ok-check.was)
 
-pub free_slot-k-requires : goal.free_slot-k-requires
-free_slot-k-requires c =
-    (ready _ (checked_sound _ c.check.ensures c.in_ok-check.was) _ c.counts_of-c.ensures).well.fits
+pub invariant_of-tables : goal.invariant_of-tables
+invariant_of-tables c =
+    record { fits = (ready _ (checked_sound _ c.check.ensures c.in_ok-check.was) _ c.counts_of.ensures).well.fits }
 
-pub returns-then-c-k : goal.returns-then-c-k
-returns-then-c-k c =
-    no_slot _ _ (checked_sound _ c.check.ensures c.in_ok-check.was) c.counts_of-c.ensures _
-    c.free_slot-k.ensures c.if-c-k.true
+pub returns-in-Some : goal.returns-in-Some
+returns-in-Some c =
+    a_slot _ _ (checked_sound _ c.check.ensures c.in_ok-check.was) c.counts_of.ensures c.free_slot.ensures c.in-Some.is
 
-pub returns : goal.returns
-returns c =
-    a_slot _ _ (checked_sound _ c.check.ensures c.in_ok-check.was) c.counts_of-c.ensures _
-    c.free_slot-k.ensures c.if-c-k.false
+pub returns-in-None : goal.returns-in-None
+returns-in-None c =
+    no_slot _ _ (checked_sound _ c.check.ensures c.in_ok-check.was) c.counts_of.ensures c.free_slot.ensures c.in-None.is
 
 pub returns-in_err-check : goal.returns-in_err-check
 returns-in_err-check c =

@@ -1,27 +1,23 @@
--- Answers for `trims::trim_locks`. Rests on Trims.
-use mathlib.Core.Path.{refl}
-use Rattle.trims.proofs.Trims.{trims_start}
-use Rattle.trims.proofs.Trims.{trims_row, trims_ready, trims_again, trim_locks_law}
+-- `trims::trim_locks` meets its contract. Rests on Trims, and on Locks and Keeping of `changes`.
+use borrow.Author.Tests.{tests}
+use Rattle.std.proofs.Common.{rules}
+use Rattle.meaning.specs.Points.{emptied}
+use Rattle.changes.proofs.Locks.{lock_ready_back}
+use Rattle.changes.proofs.Keeping.{locks_keep}
+use Rattle.trims.proofs.Trims.{trim_locks_law}
 use Rattle.trims.proofs.trim_locks.Goals as goal
 
-pub loop-i-init : goal.loop-i-init
-loop-i-init c =
-    trims_start _ c.requires.0 c.requires.1
-    (rw (c.lock_table-t.ensures, c.first_lock.ensures) at c.new-walk.ensures)
+pub free_rows-requires-clause-ready : goal.free_rows-requires-clause-ready
+free_rows-requires-clause-ready c =
+    let W = c.raise_lows.ensures.well in (W.fits, c.requires.1, lock_ready_back W c.requires.1)
 
-pub trim_row-empty-requires : goal.trim_row-empty-requires
-trim_row-empty-requires c =
-    let q = trims_row c.loop-i.invariant (rw c.lock_table-t.ensures at c.in-Some.ensures) in (q.0, q.1, c.requires.2)
+pub free_rows-requires-clause-kept : goal.free_rows-requires-clause-kept
+free_rows-requires-clause-kept c = locks_keep c.raise_lows.ensures.well.fits
 
-pub unlink_turn-place-requires : goal.unlink_turn-place-requires
-unlink_turn-place-requires c =
-    trims_ready c.loop-i.invariant (rw c.lock_table-t.ensures at c.in-Some.ensures) c.trim_row-empty.ensures
-    c.lock_table-t.ensures c.lock_heads-h.ensures
-
-pub loop-i-preserved : goal.loop-i-preserved
-loop-i-preserved c =
-    trims_again c.loop-i.invariant (rw c.lock_table-t.ensures at c.in-Some.ensures) c.trim_row-empty.ensures
-    c.lock_table-t.ensures c.lock_heads-h.ensures c.unlink_turn-place.ensures refl
+pub free_rows-requires-clause-tested : goal.free_rows-requires-clause-tested
+free_rows-requires-clause-tested c = (emptied c.args.v, λ x b q. search (rules, tests))
 
 pub returns : goal.returns
-returns c = trim_locks_law c.loop-i.invariant (rw c.lock_table-t.ensures at c.in_default.ensures)
+returns c =
+    trim_locks_law _ c.args.v c.requires.1 c.raise_lows.ensures
+    (c.free_rows.ensures (emptied c.args.v) (λ x b q. search (rules, tests)))

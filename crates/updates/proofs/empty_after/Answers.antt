@@ -8,7 +8,7 @@ pub next_after-requires : goal.next_after-requires
 next_after-requires c = (
   c.requires.0.laid,
   c.requires.0.a_in,
-  place_in c.args.t c.args.h c.args.w.now c.requires.0.parted c.requires.0.a_in c.requires.1.split,
+  place_in c.args.p.of.table c.args.p.of.heads c.args.w.now c.requires.0.parted c.requires.0.a_in c.requires.1.split,
 )
 
 pub loop-i-init : goal.loop-i-init

@@ -7,8 +7,8 @@ use Rattle.updates.proofs.empty_after.Given as goal
 
 abbrev pub invariant-loop-i : goal.invariant-loop-i
 invariant-loop-i l =
-    (ks ys : List ℕ) → Split l.t l.h l.initial.w l.a l.p ks ys → TurnInv l.t l.h every_row l.initial.w l.a l.b ks
-    ys l.w l.p l.walk
+    (ks ys : List ℕ) → Split l.p.of.table l.p.of.heads l.initial.w l.p.a l.place ks ys
+    → TurnInv l.p.of.table l.p.of.heads every_row l.initial.w l.p.a l.p.b ks ys l.w l.place l.walk
 
 abbrev pub decreases-loop-i : goal.decreases-loop-i
 decreases-loop-i l = l.walk.left

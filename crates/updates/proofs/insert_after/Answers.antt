@@ -1,15 +1,12 @@
 -- `updates::insert_after` meets its contract. Rests on Steps (insert-law).
 use native.Mathlib.Omega.{arith}
-use Rattle.chains.proofs.Cells.{lies}
 use Rattle.chains.proofs.Steps.{insert_ready, insert_law}
 use Rattle.updates.proofs.insert_after.Goals as goal
 
-pub next_of-head-requires : goal.next_of-head-requires
-next_of-head-requires c = (
-  lies c.requires.0.laid,
-  (insert_ready c.requires.0 c.requires.1 c.requires.2
-      c.requires.3).1,
-)
+pub link-head-requires : goal.link-head-requires
+link-head-requires c =
+    (insert_ready c.requires.0 c.requires.1 c.requires.2
+    c.requires.3).1
 
 pub next_after-next-requires : goal.next_after-next-requires
 next_after-next-requires c = (
@@ -32,5 +29,5 @@ relink-requires c =
 pub returns : goal.returns
 returns c =
     insert_law c.requires.0 c.requires.1 c.requires.2 c.requires.3
-    c.next_of-head.ensures
+    c.link-head.ensures
     c.next_after-next.ensures c.relink.ensures

@@ -1,6 +1,5 @@
 -- `updates::move_first` meets its contract: the first row stands after place 0. Rests on Steps (move-law).
 use mathlib.Core.Path.{refl, sym, ◌∙◌}
-use native.Mathlib.Omega.{arith}
 use Rattle.chains.proofs.Cells.{heads_lie}
 use Rattle.chains.proofs.Steps.{first_follows, move_law}
 use Rattle.updates.proofs.move_first.Goals as goal
@@ -9,11 +8,7 @@ pub head_of-r-requires : goal.head_of-r-requires
 head_of-r-requires c = (heads_lie c.requires.laid, c.requires.a_in)
 
 pub returns-then-r-eq0 : goal.returns-then-r-eq0
-returns-then-r-eq0 c = record {
-  head = sym c.if-r-eq0.true ∙ c.head_of-r.ensures;
-  empty = λ _. refl;
-  done = λ k. absurd (omega arith);
-}
+returns-then-r-eq0 c = record { head = sym c.head_of-r.ensures ∙ c.if-r-eq0.true; same = refl }
 
 pub unlink-requires : goal.unlink-requires
 unlink-requires c = (

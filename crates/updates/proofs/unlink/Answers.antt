@@ -1,11 +1,10 @@
 -- `updates::unlink` meets its contract. Rests on Steps (unlink-law).
-use Rattle.chains.proofs.Cells.{lies, heads_lie}
+use Rattle.chains.proofs.Cells.{heads_lie}
 use Rattle.chains.proofs.Steps.{follows_row, unlink_ready, unlink_law}
 use Rattle.updates.proofs.unlink.Goals as goal
 
-pub next_of-next-requires : goal.next_of-next-requires
-next_of-next-requires c =
-    (lies c.requires.0.laid, follows_row c.requires.0 c.requires.1)
+pub link-next-requires : goal.link-next-requires
+link-next-requires c = follows_row c.requires.0 c.requires.1
 
 pub head_of-head-requires : goal.head_of-head-requires
 head_of-head-requires c =
@@ -18,5 +17,5 @@ relink-requires c =
 
 pub returns : goal.returns
 returns c =
-    unlink_law c.requires.0 c.requires.1 c.next_of-next.ensures
+    unlink_law c.requires.0 c.requires.1 c.link-next.ensures
     c.head_of-head.ensures c.relink.ensures

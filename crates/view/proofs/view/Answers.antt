@@ -1,6 +1,5 @@
--- `view::view` meets its contract: the reader that `open` returns is asked once. Rests on Seen.
-use Rattle.view.proofs.Seen.{by_reader}
+-- `view::view` meets its contract: the reader that `open` returns is asked once. Assumes nothing.
 use Rattle.view.proofs.view.Goals as goal
 
 pub returns : goal.returns
-returns c = by_reader _ _ _ _ _ _ c.open.ensures c.at.ensures
+returns c = rw c.open.ensures at c.at.ensures

@@ -1,7 +1,9 @@
 -- `writes::put_access` meets its contract. Rests on Places of `tables`.
-use mathlib.Core.Path.{refl}
+use mir.Val.{bool_byte}
+use mathlib.Core.Path.{◌≡◌, refl}
+use mathlib.Core.Bool.{Bool, true, false}
 use native.Mathlib.Omega.{arith}
-use Rattle.writes.specs.Rows.{access_stored}
+use Rattle.writes.specs.Rows.{written_mark, access_stored}
 use Rattle.tables.specs.Layout.{access_table}
 use Rattle.tables.proofs.Places
 use Rattle.writes.proofs.put_access.Goals as goal
@@ -38,6 +40,12 @@ set_word-requires-4 c = (
   omega arith,
 )
 
+-- a flag as the code stores it
+counted : (b : Bool) → bool_byte b ≡ written_mark b
+unfolding written_mark
+counted true = refl
+counted false = refl
+
 pub returns : goal.returns
 unfolding access_stored
 returns c =
@@ -46,5 +54,7 @@ returns c =
       c.set_word-3.ensures,
       c.set_word-2.ensures,
       c.set_word.ensures,
-      c.written_mark-mark.ensures,
+      counted c.is_some.result,
+      c.is_some.ensures,
+      c.unwrap_or.ensures,
     ) refl

@@ -47,5 +47,4 @@ returns c =
       c.set_word-2.ensures,
       c.set_word.ensures,
       c.lock_tag-tag.ensures,
-      c.word.ensures,
     ) refl

@@ -2,9 +2,6 @@
 use Rattle.codes.proofs.Telling.{answered}
 use Rattle.exports.proofs.in_session.zohetiwa_in_abort.Goals as goal
 
-pub abort-reply-requires : goal.abort-reply-requires
-abort-reply-requires c = c.requires
-
 pub returns : goal.returns
 returns c =
     answered c.done.ensures (rw (

@@ -1,14 +1,6 @@
--- `zohetiwa_in_commit_at` meets its contract: the reply is that of the call, and it is told. Assumes nothing.
-use Rattle.codes.proofs.Telling.{answered, named_at}
+-- `zohetiwa_in_commit_at` meets its contract: it commits at the point named. Assumes nothing.
+use Rattle.codes.proofs.Telling.{named_at}
 use Rattle.exports.proofs.in_session.zohetiwa_in_commit_at.Goals as goal
 
-pub commit-reply-requires : goal.commit-reply-requires
-commit-reply-requires c = c.requires
-
 pub returns : goal.returns
-returns c =
-    answered c.commit.ensures (rw (
-      c.from-h.ensures,
-      named_at c.from.ensures,
-      c.finish.ensures,
-    ) at c.commit-reply.ensures)
+returns c = rw (named_at c.from.ensures) at c.commit.ensures

@@ -2,9 +2,6 @@
 use Rattle.codes.proofs.Telling.{answered}
 use Rattle.exports.proofs.in_session.zohetiwa_in_lock.Goals as goal
 
-pub lock-reply-requires : goal.lock-reply-requires
-lock-reply-requires c = c.requires
-
 pub returns : goal.returns
 returns c =
     answered c.lock.ensures (rw (

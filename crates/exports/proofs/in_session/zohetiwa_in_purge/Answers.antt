@@ -2,9 +2,6 @@
 use Rattle.codes.proofs.Telling.{answered}
 use Rattle.exports.proofs.in_session.zohetiwa_in_purge.Goals as goal
 
-pub purge-reply-requires : goal.purge-reply-requires
-purge-reply-requires c = c.requires
-
 pub returns : goal.returns
 returns c =
     answered c.purge.ensures (rw c.from.ensures at c.purge-reply.ensures)

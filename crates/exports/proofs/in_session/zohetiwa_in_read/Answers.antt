@@ -2,9 +2,6 @@
 use Rattle.codes.proofs.Telling.{answered}
 use Rattle.exports.proofs.in_session.zohetiwa_in_read.Goals as goal
 
-pub read-reply-requires : goal.read-reply-requires
-read-reply-requires c = c.requires
-
 pub returns : goal.returns
 returns c =
     answered c.read.ensures (rw (

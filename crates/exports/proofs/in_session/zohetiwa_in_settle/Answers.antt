@@ -2,9 +2,6 @@
 use Rattle.codes.proofs.Telling.{answered}
 use Rattle.exports.proofs.in_session.zohetiwa_in_settle.Goals as goal
 
-pub settle-reply-requires : goal.settle-reply-requires
-settle-reply-requires c = c.requires
-
 pub returns : goal.returns
 returns c =
     answered c.done.ensures (rw c.from.ensures at

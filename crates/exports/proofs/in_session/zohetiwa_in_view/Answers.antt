@@ -2,9 +2,6 @@
 use Rattle.codes.proofs.Telling.{answered}
 use Rattle.exports.proofs.in_session.zohetiwa_in_view.Goals as goal
 
-pub view-reply-requires : goal.view-reply-requires
-view-reply-requires c = c.requires
-
 pub returns : goal.returns
 returns c =
     answered c.view.ensures (rw c.from.ensures at c.view-reply.ensures)

@@ -2,9 +2,6 @@
 use Rattle.codes.proofs.Telling.{answered}
 use Rattle.exports.proofs.in_session.zohetiwa_in_write.Goals as goal
 
-pub write-reply-requires : goal.write-reply-requires
-write-reply-requires c = c.requires
-
 pub returns : goal.returns
 returns c =
     answered c.done.ensures (rw c.from.ensures at

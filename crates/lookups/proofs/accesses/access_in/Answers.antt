@@ -1,20 +1,15 @@
 -- `lookups::accesses::access_in` meets its contract: the entry of the row, or none. Rests on Found.
 use mathlib.Core.Path.{◌∙◌}
-use native.Mathlib.Omega.{arith}
-use Rattle.lookups.proofs.Found.{access_none, access_found}
+use Rattle.tables.specs.Layout.{access_table}
+use Rattle.lookups.proofs.Found.{access_none, access_found, access_is_row}
 use Rattle.lookups.proofs.accesses.access_in.Goals as goal
 
-pub returns-then-i-eq0 : goal.returns-then-i-eq0
-returns-then-i-eq0 c k e =
-    access_none c.args.c c.args.w.now k c.args.r e
-    c.if-i-eq0.true
+pub read-requires : goal.read-requires
+unfolding access_table
+read-requires c = access_is_row _ _ _ c.args.r (rw c.in-Some.is at c.requires)
 
-pub access_at-requires : goal.access_at-requires
-access_at-requires c =
-    (c.requires.0, record { low = omega (arith, c.if-i-eq0.false); high = c.requires.1 })
+pub returns-in-Some : goal.returns-in-Some
+returns-in-Some c = c.read.ensures ∙ access_found _ _ _ c.args.r (rw c.in-Some.is at c.requires)
 
-pub returns : goal.returns
-returns c k e =
-    c.access_at.ensures
-    ∙ access_found c.args.c c.args.w.now k
-    c.args.r e c.if-i-eq0.false
+pub returns-in-None : goal.returns-in-None
+returns-in-None c = access_none _ _ _ c.args.r (rw c.in-None.is at c.requires)

@@ -2,5 +2,5 @@
 use Rattle.lookups.proofs.Slots.{Passed}
 use Rattle.lookups.proofs.edits.free_slot.Given as goal
 
-abbrev pub invariant-loop-k : goal.invariant-loop-k
-invariant-loop-k l = Passed l.c l.w l.k
+abbrev pub invariant-loop-number : goal.invariant-loop-number
+invariant-loop-number l = Passed l.t.counts l.t.words.now l.number

@@ -1,26 +1,9 @@
 -- `lookups::edits::is_open` meets its contract. Rests on Slots.
-use Rattle.lookups.proofs.Slots.{used_row, open_no, open_is}
+use Rattle.lookups.proofs.Slots.{open_none, open_some}
 use Rattle.lookups.proofs.edits.is_open.Goals as goal
 
-pub returns-then-not-slot_used : goal.returns-then-not-slot_used
-returns-then-not-slot_used c =
-    open_no c.args.c c.args.w.now
-    c.args.h.0 c.slot-k.result
-    c.slot-k.ensures c.slot_used.ensures (c.if-not-slot_used.true)
+pub returns-in-Some : goal.returns-in-Some
+returns-in-Some c = open_some c.args.t c.args.h.0 c.in-Some.s c.in-Some.ensures c.state.ensures
 
-pub state_of-requires : goal.state_of-requires
-state_of-requires c = (
-  c.requires,
-  rw c.wide.ensures
-      (used_row c.args.c
-      c.args.w.now c.slot-k.result
-      c.slot_used.ensures (c.if-not-slot_used.false)),
-)
-
-pub returns : goal.returns
-returns c =
-    open_is c.args.c
-    c.args.w.now
-    c.args.h.0 c.slot-k.result
-    c.slot-k.ensures c.slot_used.ensures
-    (c.if-not-slot_used.false) c.wide.ensures c.state_of.ensures
+pub returns-in-None : goal.returns-in-None
+returns-in-None c = open_none c.args.t c.args.h.0 c.in-None.ensures

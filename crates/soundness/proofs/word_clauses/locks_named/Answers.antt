@@ -1,20 +1,17 @@
--- `soundness::word_clauses::locks_named` meets its contract: one record after the other. Rests on Counting.
-use Rattle.std.proofs.Common.{rules, arith, ℕ, ◌≡◌, Bool, true, false, List, refl}
-use Rattle.std.proofs.lemmas.Iterator.{cases_from_all, YieldsList-from_range}
+-- `soundness::word_clauses::locks_named` meets its contract: one record after the other. Rests on nothing.
+use mathlib.Core.Path.{ap, ◌∙◌}
+use Rattle.std.proofs.Common.{rules, ℕ, ◌≡◌, Bool}
 use Rattle.chains.specs.Lists.{all_of}
-use Rattle.types.specs.declared.Counts.{Counts}
+use Rattle.tables.specs.declared.views.Tables.{Tables}
 use Rattle.tables.specs.Decode.{lock_rows}
 use Rattle.tables.specs.Words.{names_record, locks_named}
-use Rattle.clauses.proofs.Counting.{all_ranged}
 use Rattle.soundness.proofs.word_clauses.locks_named.Goals as goal
 
-abbrev named : Counts → List ℕ → ℕ → Bool
-named c w r = all_of (names_record c w r) (lock_rows c w r)
+abbrev named : Tables → ℕ → Bool
+named t r = all_of (names_record t.counts t.words.now r) (lock_rows t.counts t.words.now r)
 
 pub returns : goal.returns
 unfolding locks_named
 returns c =
-    all_ranged (named c.args.c c.args.w.now) c.args.c.records c.all.result
-    (cases_from_all _ _ _ (λ r. named c.args.c c.args.w.now r ≡ true) (λ r. named c.args.c c.args.w.now r ≡ false)
-    c.all.ensures.ran (YieldsList-from_range 0 c.args.c.records c.args.c.records refl (omega arith))
-    (λ r q k. search rules) (λ r q k. search rules))
+    c.all_records.ensures (named c.args.t) (λ r b e k.
+    let d : b ≡ named r.tables r.number = search rules in d ∙ ap (λ t. named t r.number) e)

@@ -1,0 +1,6 @@
+-- `chains::partition::Check::step` meets its contract: no step, or one. Rests on Checks.
+use Rattle.chains.proofs.Checks.{step_met}
+use Rattle.chains.proofs.partition.Check.step.Goals as goal
+
+pub returns : goal.returns
+returns c = step_met c.requires c.in-Some.ensures c.if-self-i.false

@@ -1,8 +1,0 @@
-use borrow.Author.Rules.{rules}
-use Rattle.chains.specs.Table.{chain, front}
-use Rattle.chains.specs.Walker.{fields_left}
-use Rattle.chains.proofs.walk.Fields.new.Goals as goal
-
-pub returns : goal.returns
-unfolding chain front fields_left
-returns c = search rules

@@ -1,0 +1,2 @@
+-- Laws of the script program: how a line is collected. Rests on specs/.
+pub mod Collecting
