@@ -1,9 +1,12 @@
 #!/usr/bin/env python3
-"""Prints the tables at the end of docs/DESIGN-PASS.md: public signatures, clauses and definitions that differ from
-those of an older checkout, old and new side by side. Rests on the kit's contracts.py.
+"""Prints the tables at the end of docs/DESIGN-PASS.md: public signatures, clauses, definitions, constants, and theorems
+that the documents name, where they differ from those of an older checkout, old and new side by side. Rests on the kit's
+contracts.py; theorems it compares itself.
 
 usage: python3 tools/design_changes.py OLD      in the repository; OLD is a checkout of the commit to compare with
        python3 tools/design_changes.py OLD --write   puts them into the page, in place of those that stand there"""
+import glob
+import itertools
 import json
 import re
 import subprocess
@@ -42,13 +45,45 @@ def clauses(found):
     return "; ".join((label + " " if label else "") + text for label, text in found)
 
 
+def statements(root):
+    """What the public lemmas of proofs/ state, but for the answers of functions."""
+    found = {}
+    for path in glob.glob(f"{root}/crates/*/proofs/**/*.antt", recursive=True):
+        if path.endswith(("Answers.antt", "Invariants.antt")):
+            continue
+        crate = path.split("/crates/")[1].split("/")[0]
+        lines = open(path, encoding="utf-8").read().split("\n")
+        for i, line in enumerate(lines):
+            m = re.match(r"pub ([^\s:]+) : (.*)", line)
+            if m:
+                more = itertools.takewhile(lambda t: t.startswith("  "), lines[i + 1:])
+                found[crate, m[1]] = " ".join(" ".join([m[2], *more]).split())
+    return found
+
+
+def theorems(old):
+    """Those whose names stand in README or docs/ of the older checkout, and that state something else now. A lemma of
+    another crate that has the name of something that the documents speak of is among them if its statement changed; one
+    that went stands on the page."""
+    words = set()
+    for path in [f"{old}/README.md", *glob.glob(f"{old}/docs/*.md")]:
+        for text in re.findall(r"`([^`\n]+)`", open(path, encoding="utf-8").read()):
+            words.update(re.split(r"[^\w·-]+", text))
+    then, now = statements(old), statements(".")
+    return [
+        [cell(".".join(key)), cell(text), cell(now[key])]
+        for key, text in then.items() if key[1] in words and key in now and now[key] != text
+    ]
+
+
 def main():
     old = sys.argv[1]
-    said = subprocess.run(
+    found = subprocess.run(
         ["python3", "/opt/rattle/port/contracts.py", old, ".", "--json"], capture_output=True, text=True, check=True
     )
-    d = json.loads(said.stdout)
-    out = [MARK, "", f"By `python3 tools/design_changes.py` and a checkout of the commit above.", ""]
+    d = json.loads(found.stdout)
+    said = "By `python3 tools/design_changes.py` and a checkout of the commit above, where no type had an invariant."
+    out = [MARK, "", said, ""]
     rows = [
         [named(place), cell(a), cell(b)] for place, a, b in d["signatures changed"] if is_public(old, place)
     ]
@@ -62,13 +97,14 @@ def main():
         n = len(halves) // 2
         rows.append([named(place), cell("; ".join(halves[:n])), cell("; ".join(halves[n:]))])
     out += [f"### Clauses of public functions: {len(rows)}", ""] + table(["Function", "Old", "New"], rows) + [""]
-    defs = d["definitions"]["changed"]
-    rows = []
-    for row in defs:
-        name = "/specs ".join(row[0]) if isinstance(row[0], list) else str(row[0])
-        texts = [t if isinstance(t, str) else " ".join(map(str, t)) for t in row[1:]]
-        rows.append([cell(name), cell(texts[0]), cell(texts[1])])
-    out += [f"### Definitions: {len(rows)}", ""] + table(["Definition", "Old", "New"], rows)
+    rows = [[cell(f"{c}.{n}"), cell(" ".join(a)), cell(" ".join(b))] for c, n, a, b in d["definitions"]["changed"]]
+    out += [f"### Definitions: {len(rows)}", ""] + table(["Definition", "Old", "New"], rows) + [""]
+    # the older checkout has no ghost item but for iterators, so these are constants
+    items = d["ghost items and constants"]["changed"]
+    rows = [[cell(f"{c}::{n}"), cell(a[0]), cell(b[0])] for c, kind, n, a, b in items]
+    out += [f"### Constants: {len(rows)}", ""] + table(["Constant", "Old", "New"], rows) + [""]
+    rows = theorems(old)
+    out += [f"### Theorems that the documents name: {len(rows)}", ""] + table(["Theorem", "Old", "New"], rows)
     text = "\n".join(out) + "\n"
     if "--write" not in sys.argv:
         print(text, end="")

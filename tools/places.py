@@ -16,12 +16,11 @@ that no item has any more: a function that was only given another name needs tha
 The text is read by patterns, with comments, `ghost` lines and what stands in texts and byte characters blanked. An
 item is a `fn`, `struct`, `enum` or `const`; it ends at the `}` that is as far in as its first line (rt fmt sees to
 that). A place is kept if a comment with `Kept:` stands on its line or right above it, or in it where it is a type; a
-place in a function's body needs the comment there. A comment `Kept, WORDS: REASON` in a file's head, before its first
-item, keeps the places of point 5 in that file whose kind and text have these words. A place is a declaration or a
-loop, not each use of it. One place
-may count under more than one point, and once for each kind. Where no pattern tells a place from others, its name stands
-in a list below; where a pattern can say so, it counts only while it has the old form. A name is crate::item, or
-crate::file::item outside lib.rt and main.rt; a method's name is without its type.
+place in a function's body needs the comment there. Where many functions of a file keep the same, its head gives the
+reason once (`Kept, WORDS: REASON`), and the comment beside each names WORDS and says so. A place is a declaration or a
+loop, not each use of it. One place may count under more than one point, and once for each kind. Where no pattern tells
+a place from others, its name stands in a list below; where a pattern can say so, it counts only while it has the old
+form. A name is crate::item, or crate::file::item outside lib.rt and main.rt; a method's name is without its type.
 
 Point 1, own enums, flags, numbers for kinds or refusals
   enum      an enum with a variant `Refused(..)` or `Judged(..)` or a bare variant of BARE; not those of REAL_ENUMS
@@ -81,8 +80,6 @@ BARE = "Never Missing Malformed Broken Emptied Empty Free Done NoPoint".split()
 
 # Real enums: more than a value or none, and not a value or a refusal.
 REAL_ENUMS = {
-    "types::State": "the states of a slot",
-    "types::Mode": "the modes of a lock",
     "types::Extent": "two flags of a call",
     "types::Pick": "three choices of a point",
     "types::Finish": "two flags of a call",
@@ -97,6 +94,7 @@ KIND_CONSTS = ("FREE OPEN COMMITTED ABORTED READ WRITE SETTLED NEW OWN AGAIN EMP
 KIND_CONST_CRATES = {"types", "telling", "sessions", "index"}
 KIND_FIELDS = {
     "Lock.mode": "1 read, 2 write",
+    "Asker.mode": "1 read, 2 write",
     "Lock.owner": "a slot, or 0 once settled",
     "Access.from": "the point read + 1, or 0",
     "Blocked.point": "high + 1 for none",
@@ -286,6 +284,7 @@ FAMILIES = [
     ("the call Format", "format::format store::format"),
     # lines and texts
     ("a flag of a line", "fields::extent fields::finish"),
+    ("a flag of a field", "fields::extent_in fields::finish_in"),
     ("a line of a record and a point", "lines::parsing::purge lines::parsing::view"),
     ("a text and numbers", "texts::put_one texts::put_two texts::put_one_value texts::put_two_value"),
     ("the first bytes written", "script::output::flush script::output::finish"),
@@ -305,7 +304,8 @@ FAMILIES = [
     ("commit on a store or on no word", "desks::desk_calls::commit desks::commit_empty"),
     ("a word before a call", "desks::first desks::second"),
     # programs
-    ("a line of a script, done and printed", "desks::desk_calls::step generations::step refusals::step"),
+    ("a line of a script, done and printed", "desks::desk_calls::step generations::step generations::run "
+     "refusals::step refusals::run"),
     ("the reply of `perform`", "generations::performed refusals::performed"),
     ("one of two texts", "desks::desk_calls::print_moved refusals::print_moved churn::print_verdict "
      "generations::print_verdict damage::print_verdict"),
@@ -336,7 +336,7 @@ STEPS = [
     ("a step for each access of a slot", "commits::save_versions endings::leave_rows "
      "record_clauses::lock_marks::mark_slot"),
     ("rows of a chain freed and counted", "trims::trim_locks trims::cut_versions"),
-    ("rows of a chain freed", "updates::unlink_if changes::drop_owner"),
+    ("rows of a chain freed", "updates::unlink_if changes::drop_owner changes::freed::free_rows"),
     ("whether all records or slots pass", "record_clauses::all_pass record_clauses::records_sound_with "
      "slot_clauses::slots_sound_with soundness::word_clauses::locks_named soundness::word_clauses::marks_listed"),
     ("whether an edit is known or open", "lookups::edits::known lookups::edits::is_open"),
@@ -383,7 +383,7 @@ CONVERT = {n: "" for n in (
     "replies::line_of_settle value_replies::line_of_begin value_replies::line_of_lock value_replies::line_of_read "
     "value_replies::line_of_commit value_replies::line_of_purge value_replies::line_of_view "
     "rendering::line_of_answer fields::digit fields::number fields::extent fields::finish fields::pick "
-    "fields::named view::paired"
+    "fields::number_in fields::extent_in fields::finish_in fields::pick_in fields::named view::paired"
 ).split()}
 PRINT = {n: "" for n in (
     "texts::put texts::put_word texts::put_number texts::put_value texts::put_one texts::put_two texts::put_one_value "
@@ -418,7 +418,7 @@ TOGETHER = [
     ("script's words, line and out", r"words: .*", r"line: .*", r"out: .*"),
     ("words and tally", r"words: &mut \[u64; 128\]", r"tally: .*"),
     ("runtime and words", r"rt: .*", r"words: &mut \[u64.*\]"),
-    ("runtime and state", r"rt: .*", r"(state|w): \[u64.*\]"),
+    ("runtime and state", r"rt: .*", r"(state|w): &?\[u64.*\]"),
     ("runtime and session", r"rt: .*", r"s: Session"),
     ("lent numbers of a read", r"kind: &mut u64", r"tr: &mut u64"),
     ("lent numbers of a view", r"point: &mut u64", r"written: &mut u64"),
@@ -531,7 +531,8 @@ def blanked(text):
     text = re.sub(r'"([^"\\\n]|\\.)*"', lambda m: '"' + " " * (len(m[0]) - 2) + '"', text)
     text = re.sub(r"b'(\\.|[^'\\])'", "b' '", text)
     text = re.sub(r"//[^\n]*", "", text)
-    return re.sub(r"^\s*ghost [^;]*;", lambda m: "\n" * m[0].count("\n"), text, flags=re.M)
+    # a struct's ghost field ends with its line, any other ghost line with `;`
+    return re.sub(r"^\s*ghost (?:\w+: \{[^;\n]*\},(?=\n)|[^;]*;)", lambda m: "\n" * m[0].count("\n"), text, flags=re.M)
 
 
 def split_at(text, mark):
@@ -634,13 +635,6 @@ def named(items, names, kind):
 
 def is_kept(p, texts):
     lines = texts[p.path].split("\n")
-    if p.kind in ("together", "fact"):
-        for t in lines:
-            if re.match(r"(pub )?(fn|struct|enum|const|trait|impl|extern|type)\b", t):
-                break
-            m = re.match(r"// Kept, ([^:]+): \S", t)
-            if m and m[1] in f"{p.kind} {p.what}":
-                return True
     at = p.line - 1
     end = at
     if re.match(r"\s*(pub(\([^)]*\))? )?(struct|enum) .*\{$", lines[at]):
@@ -666,7 +660,8 @@ def point_1(items):
                 m = re.search(r"(\w+): (\w+)$", f)
                 if m and m[2] == "bool":
                     yield place(i, "flag", f"{i.name}.{m[1]}")
-                elif m and m[2] == "u64" and f"{short}.{m[1]}" in KIND_FIELDS:
+                elif m and m[2] == "u64" and f"{short}.{m[1]}" in KIND_FIELDS and (
+                        short != "Blocked" or any(f.endswith("by: u64") for f in i.fields)):  # else a real point
                     yield place(i, "kind", f"{i.name}.{m[1]} ({KIND_FIELDS[f'{short}.{m[1]}']})")
         if i.what == "const" and short in KIND_CONSTS and i.crate in KIND_CONST_CRATES:
             yield place(i, "kind", f"const {i.name}")
@@ -685,8 +680,8 @@ def point_1(items):
         extern = i.what == "extern" and i.name not in COUNTING_EXPORTS
         if (extern or i.name in REFUSAL_NUMBERS) and i.result == "u64":
             yield place(i, "refusal", f"{i.name} answers a number")
-        if i.crate not in ("types", "codes"):
-            for n, line in lines_with(i, r"\brefusal_number\("):
+        if i.crate not in ("types", "codes", "fields", "lines"):  # a field of a line has a number too
+            for n, line in lines_with(i, r"\brefusal_number\(|\.number\(\)"):
                 yield place(i, "refusal", f"{i.name}: a refusal by its number", n)
         optional = any("Option<" in p for p in i.params)  # the caller says what there is not
         if i.name in SENTINELS and not optional and not re.match(r"(io::Result<)?(Option|Result)\b", i.result):
@@ -700,7 +695,7 @@ def point_1(items):
     guards = collections.defaultdict(list)
     for i in items:
         if is_fn(i):
-            for n, line in lines_with(i, r"return \w+::Refused\(Refusal::\w+\)"):
+            for n, line in lines_with(i, r"return (?:\w+::Refused|Err)\(Refusal::\w+\)"):
                 guards[re.search(r"Refusal::(\w+)", line)[1]].append((i, n))
     for r, there in guards.items():
         if len({i.name for i, _ in there}) >= LEAST:
@@ -745,7 +740,7 @@ def point_3(items):
         calls = []  # of each statement: what it is bound to and what it calls
         for line in flat.split("\n"):
             if line.strip():
-                m = re.match(r"\s*(?:let (?:mut )?(\w+) = )?([\w:]+)\(.*\)\??;?$", line)
+                m = re.match(r"\s*(?:let (?:mut )?(\w+) = )?([\w:.]+)\(.*\)\??;?$", line)
                 calls.append((m[1], m[2]) if m else None)
         for step, least in ((1, 5), (2, 10)):
             run, best = step, 0
@@ -794,7 +789,10 @@ def facts_of(i):
             if end == len(text) and inner:
                 todo.append(inner)
                 continue
-            yield re.sub(r"\.(now|old|entry)\b", "", text)
+            text = re.sub(r"\.(now|old|entry)\b", "", text)
+            # a fact of a part of a struct is the fact of the part
+            text = re.sub(r"\b(?:\w+\.)+(?=(?:counts|words|table|heads|stride|count|owners|records|edits)\b)", "", text)
+            yield re.sub(r"\bwords\b", "w", re.sub(r"\bcounts\b", "c", text))
 
 
 def point_5(items):

@@ -5,16 +5,15 @@ use native.Mathlib.Omega.{arith}
 use mathlib.Core.Path.{◌≡◌, refl, sym, ap, subst, ◌∙◌}
 use mathlib.Core.Bool.{Bool, true, false, cond, ◌&&◌, false≢true}
 use mathlib.Core.List.{List, [], ◌++◌}
-use lib.ListN.{length, take, drop, length-append, length-drop}
+use lib.ListN.{length, take, drop, length-append, length-drop, take-append-drop}
 use lib.Dec.{leb, eqb}
 use lib.Seq.{length-take-le, take_at}
-use borrow.Author.Tests.{leb-true, eq-eqb}
-use Rattle.std.specs.Prelude.{Result, Ok, Err, is_ok}
+use borrow.Author.Rules.{rules}
+use borrow.Author.Tests.{leb-true, eq-eqb, ne_eqb}
 use Rattle.meaning.specs.Calls.{act}
 use Rattle.meaning.specs.Records.{good_counts}
 use Rattle.types.specs.Replies.{Reply, refused, refusing, ok, of_refusal}
 use Rattle.types.specs.declared.Refusal.{Refusal}
-use Rattle.types.specs.declared.Refusal.TheVariants.{BadFormat}
 use Rattle.types.specs.declared.Call.{Call}
 use Rattle.types.specs.declared.Counts.{Counts}
 use Rattle.tables.specs.Layout.{size_of, header_ok, counts_of}
@@ -71,64 +70,77 @@ pub call_answers : (c : Call) (w p : List ℕ) (used : ℕ) {r : Reply} {l : Lin
 call_answers c w p used {r} {l} h e d s =
     subst (λ (x : List ℕ). Says (called c) (take used w) l x) (sym (front p w used h e)) (call_says c d s)
 
--- the words that Format is lent, and what it does with them
-abbrev ok_or_0 : Result ℕ Refusal → ℕ
-ok_or_0 (Ok n) = n
-ok_or_0 (Err r) = 0
+-- Format is lent no more words than there are
+within : (b : Bool) (n room : ℕ) → (b ≡ true → n ≤ room) → cond b n 0 ≤ room
+within true n room h = h refl
+within false n room h = search rules
 
-abbrev err_or_bad : Result ℕ Refusal → Refusal
-err_or_bad (Ok n) = BadFormat
-err_or_bad (Err r) = r
+spoilt : (a b : Bool) → b ≡ false → (a && b) ≡ false
+spoilt true b h = h
+spoilt false b h = refl
 
-found_by : (k : ℕ) {n : ℕ} (b : Bool) → Ok n ≡ cond b (Ok k) (Err BadFormat) → (b ≡ true) × (n ≡ k)
-found_by k true e = (refl, ap ok_or_0 e)
-found_by k false e = absurd (false≢true (sym (ap is_ok e)))
+pub words_inside : (room : ℕ) (c : Counts) {n : ℕ} → n ≡ words_for room c → n ≤ room
+unfolding words_for room_for
+words_inside room c {n} e =
+    subst (λ (k : ℕ). k ≤ room) (sym e)
+    (within (room_for room c) (size_of c) room
+    (λ h. leb-true (size_of c) room (and_right (good_counts c) (leb (size_of c) room) h)))
 
-missed_by : (k : ℕ) {r : Refusal} (b : Bool) → Err r ≡ cond b (Ok k) (Err BadFormat) → (b ≡ false) × (r ≡ BadFormat)
-missed_by k true e = absurd (false≢true (ap is_ok e))
-missed_by k false e = (refl, ap err_or_bad e)
-
+-- whether Format takes the words that it is lent
 module _ (c : Counts) (room : ℕ) where
   good : room_for room c ≡ true → good_counts c ≡ true
   unfolding room_for
   good h = and_left (good_counts c) (leb (size_of c) room) h
 
-  fits : room_for room c ≡ true → size_of c ≤ room
-  unfolding room_for
-  fits h = leb-true (size_of c) room (and_right (good_counts c) (leb (size_of c) room) h)
+  all_lent : room_for room c ≡ true → words_for room c ≡ size_of c
+  unfolding words_for
+  all_lent h = ap (λ b. cond b (size_of c) 0) h
+
+  none_lent : room_for room c ≡ false → words_for room c ≡ 0
+  unfolding words_for
+  none_lent h = ap (λ b. cond b (size_of c) 0) h
 
   taken : room_for room c ≡ true → format_fits c (size_of c) ≡ true
   unfolding format_fits
   taken h = ap (λ b. b && eqb (size_of c) (size_of c)) (good h) ∙ eq-eqb (size_of c) (size_of c) refl
 
-  found : {n : ℕ} → Ok n ≡ words_for room c → (room_for room c ≡ true) × (n ≡ size_of c)
-  unfolding words_for
-  found e = found_by (size_of c) (room_for room c) e
+  not_taken : format_fits c 0 ≡ false
+  unfolding format_fits size_of
+  not_taken = spoilt (good_counts c) (eqb 0 (size_of c)) (ne_eqb 0 (size_of c) (λ e. omega (arith, e)))
 
-pub no_words : (c : Counts) (w : List ℕ) {r : Refusal} → Err r ≡ words_for (length w) c → Refused c w w r
-unfolding words_for
-no_words c w e =
-    let m = missed_by (size_of c) (room_for (length w) c) e in record { no_room = m.0; refusal = m.1; same = refl }
+-- Format done, and Format refused, by what it promises
+module _ (c : Counts) (w p : List ℕ) (n : ℕ) {r : Reply} (e : n ≡ words_for (length w) c)
+    (s : length (p ++ drop n w) ≡ length w) (f : Formats c (take n w) p r) where
+  lent_words : length (take n w) ≡ n
+  lent_words = length-take-le n w (words_inside (length w) c e)
 
-module _ (c : Counts) (w : List ℕ) (n : ℕ) (e : Ok n ≡ words_for (length w) c) where
-  pub words_inside : n ≤ length w
-  words_inside = let f = found c (length w) e in omega (arith, f.1, fits c (length w) f.0)
+  done : room_for (length w) c ≡ true → (r ≡ ok) × (p ≡ formatted_words c)
+  done b = f.done (ap (format_fits c) (lent_words ∙ e ∙ all_lent c (length w) b) ∙ taken c (length w) b)
 
-  done : {p : List ℕ} {r : Reply} → Formats c (take n w) p r → (r ≡ ok) × (p ≡ formatted_words c)
-  done f =
-      let g = found c (length w) e in
-      f.done (ap (format_fits c) (length-take-le n w words_inside ∙ g.1) ∙ taken c (length w) g.0)
+  undone : room_for (length w) c ≡ false → (r ≡ refusing 16 []) × (p ≡ take n w)
+  undone b = f.refused (ap (format_fits c) (lent_words ∙ e ∙ none_lent c (length w) b) ∙ not_taken c (length w))
 
-  pub laid_out : (p : List ℕ) {r : Reply} → length (p ++ drop n w) ≡ length w → Formats c (take n w) p r
-      → LaidOut c w (p ++ drop n w) n
-  laid_out p s f = record {
-    room = (found c (length w) e).0;
-    inside = subst (λ (k : ℕ). n ≤ k) (sym s) words_inside;
-    store = front p w n words_inside s ∙ (done f).1;
-  }
+  pub laid_out : r ≡ ok → LaidOut c w (p ++ drop n w) n
+  laid_out q = go (room_for (length w) c) refl
+    where
+      go : (b : Bool) → room_for (length w) c ≡ b → LaidOut c w (p ++ drop n w) n
+      go true b = record {
+        room = b;
+        inside = subst (λ (k : ℕ). n ≤ k) (sym s) (words_inside (length w) c e);
+        store = front p w n (words_inside (length w) c e) s ∙ (done b).1;
+      }
+      go false b = absurd (false≢true (ap refused (sym q ∙ (undone b).0)))
 
-  pub never_refused : {X : Type 0} {p : List ℕ} {r : Reply} → Formats c (take n w) p r → refused r ≡ true → X
-  never_refused f q = absurd (false≢true (sym (ap refused (done f).0) ∙ q))
+  pub not_laid_out : {x : Refusal} → r ≡ of_refusal x → Refused c w (p ++ drop n w) x
+  not_laid_out {x} q = go (room_for (length w) c) refl
+    where
+      go : (b : Bool) → room_for (length w) c ≡ b → Refused c w (p ++ drop n w) x
+      go true b = absurd (false≢true (ap refused (sym (done b).0 ∙ q)))
+      go false b = record {
+        no_room = b;
+        refusal = sym q ∙ (undone b).0;
+        same = ap (λ (y : List ℕ). y ++ drop n w) (undone b).1 ∙ take-append-drop n w;
+      }
 
 -- a line by what it is
 pub laid_out_answers : (c : Counts) {w w' : List ℕ} {n used : ℕ} → LaidOut c w w' n
@@ -157,7 +169,7 @@ refused_answers c {w} {w'} {used} {r} {l} u d o =
       says =
           subst (λ (b : Bool). Says (formatted c b) (take used w) l (take used w')) (sym d.no_room)
           (record {
-            line = λ m st. o ∙ ap (λ x. line_of (of_refusal x)) d.refusal;
+            line = λ m st. o ∙ ap line_of d.refusal;
             leaves = λ m st. subst (λ (y : List ℕ). Stands m (take used y)) (sym d.same) st;
           });
     }

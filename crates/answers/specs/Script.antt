@@ -8,7 +8,7 @@ use Rattle.types.specs.declared.Call.{Call}
 use Rattle.types.specs.declared.Counts.{Counts}
 use Rattle.tables.specs.Words.{lent, decode, sound_words}
 use Rattle.types.specs.declared.Refusal.{Refusal}
-use Rattle.types.specs.declared.Refusal.TheVariants.{BadFormat}
+use Rattle.types.specs.Replies.{of_refusal, refusing}
 use Rattle.format.specs.Format.{formatted_words}
 use Rattle.format_room.specs.Room.{room_for}
 use Rattle.replies.specs.Lines.{line_of}
@@ -66,5 +66,5 @@ pub record LaidOut (c : Counts) (words words' : List ℕ) (n : ℕ) : Type 0 whe
 -- Format is refused, and leaves every word
 pub record Refused (c : Counts) (words words' : List ℕ) (r : Refusal) : Type 0 where
   pub no_room : room_for (length words) c ≡ false
-  pub refusal : r ≡ BadFormat
+  pub refusal : of_refusal r ≡ refusing 16 []
   pub same : words' ≡ words

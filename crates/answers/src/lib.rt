@@ -16,7 +16,8 @@ use store::perform;
 use types::{Counts, Refusal};
 
 // The line to print, and how many words are in use after it.
-// Kept: a store that lends its words would hide from the caller what they are once it is given up.
+// Kept: the words are the caller's slice; a struct over them would have each contract promise that it stays
+// (Rattle's docs/BORROWS.md).
 #[derive(Clone, Copy)]
 pub struct Answered {
     pub line: Line,
@@ -28,13 +29,14 @@ pub struct Answered {
 fn lay_out(words: &mut [u64], c: Counts) -> Result<usize, Refusal>
     ensures { MatchResult result (LaidOut c words.old words.new) (Refused c words.old words.new) }
 {
-    let n = words_for(c, words.len())?;
+    let n = words_for(c, words.len());
     format::format(&mut words[..n], c)?;
     Ok(n)
 }
 
 // What a line prints, and how many words are in use after it: as many as before, if it lays out no store.
-// Kept: the words stay the caller's, who knows after the call what each of them is.
+// Kept: the words stay the caller's, who knows after the call what each of them is; and the cases of Format decide
+// how many are in use, too: with `replies::line_of_done` its result would be taken apart twice.
 pub fn answer(words: &mut [u64], used: usize, line: &[u8]) -> Answered
     requires { used ≤ length words.old }
     ensures { Answers (said (length words.old) (parsed line.now)) words.old used result.line

@@ -1,6 +1,6 @@
 // Many views after one check of the words: a lent list of asks and a lent area for their replies. An ask is a row of
 // ASK_WORDS words, a record and a point; its reply a row of VIEW_WORDS words. Rests on the crates `types`, `meaning`,
-// `tables`, `codes`, `encoding` and `view`.
+// `tables`, `encoding` and `view`.
 #![tactic(auto)]
 
 ghost use Rattle.std.specs.Prelude.{◌+◌, ◌*◌, ◌≤◌, ◌≡◌, length};
@@ -9,27 +9,24 @@ ghost use Rattle.types.specs.Replies.{of_view};
 ghost use Rattle.encoding.specs.Encoding.{row_of};
 ghost use Rattle.asks.specs.Views.{ASK_WORDS, VIEW_NUMBERS, VIEW_WORDS, asked_at, Views};
 
-use codes::{bits, mark, refusal};
 use encoding::put_row;
-use types::{Point, Refusal, Seen};
+use types::{Granted, Point, Refusal, Seen};
 use view::Chart;
 
 const ASK_WORDS: usize = 2;
 
 const VIEW_WORDS: usize = 4;
 
-// The row of a reply: its code, and its numbers or as many zeros.
+// The row of a reply: the first words of the row that `encoding` gives it, which has no number after these.
 fn row_of(r: Result<Seen, Refusal>) -> [u64; VIEW_WORDS]
     ensures { result ≡ row_of VIEW_NUMBERS (of_view r) }
 {
-    match r {
-        Ok(s) => [0, u64::from(s.point), mark(s.value), bits(s.value)],
-        Err(no) => [refusal(no), 0, 0, 0],
-    }
+    let [code, p, mark, bits, _, _] = encoding::row_of(r.map(Granted::At));
+    [code, p, mark, bits]
 }
 
 // Ask i of the list, and its reply in row i.
-// Kept: list and replies are two arrays of the C interface.
+// Kept: list and replies are two arrays of the C interface, of which this is passed both.
 fn view_step(chart: Chart<'_>, list: &[u64], i: usize, replies: &mut [u64])
     requires { ((i + 1) * ASK_WORDS ≤ length list.now)
         × ((i + 1) * VIEW_WORDS ≤ length replies.old) }

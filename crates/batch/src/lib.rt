@@ -19,7 +19,8 @@ use opened::perform;
 use types::{Call, Granted, Refusal};
 
 // The call on words by the check's verdict on them.
-// Kept: words and index are two `&mut`; each function over a struct of both would say that its fields keep their names.
+// Kept: words and index are lent to be changed; over a struct of both each contract would promise that they stay
+// (Rattle's docs/BORROWS.md).
 fn answer(
     words: &mut [u64],
     checked: Result<(), Refusal>,
@@ -35,7 +36,7 @@ fn answer(
 }
 
 // Call i of the list, and its reply in row i.
-// Kept: as `answer`; list and replies are two arrays of the C interface.
+// Kept: as `answer`; list and replies are two arrays of the C interface, of which this is passed both.
 fn step(
     words: &mut [u64],
     checked: Result<(), Refusal>,
@@ -58,7 +59,7 @@ fn step(
 }
 
 // The calls of the list with an index, and their replies.
-// Kept: as `step`; a loop shared with `asks` would have its contract say by a closure's `step` what the body leaves.
+// Kept: as `step`; a loop shared with `asks` takes an FnMut, of which each caller would state what a turn leaves.
 fn steps(words: &mut [u64], list: &[u64], replies: &mut [u64], ix: &mut [u16]) -> usize
     requires { Indexed (decode (lent words.old)) ix.old }
     ensures { Runs list.now

@@ -4,7 +4,6 @@
 use Rattle.std.specs.Prelude.{ℕ, suc, ◌<◌, min, max, ◌≡◌, Bool, true, false, cond, ◌&&◌, ◌||◌, List, [], ◌∷◌, leb, ltb}
 use Rattle.std.specs.Prelude.{Option, None, Some, Result, Ok, Err}
 use Rattle.std.specs.Bool.{then_some}
-use Rattle.types.specs.Kinds.{mode_number}
 use Rattle.types.specs.Limits.{SLOTS}
 use Rattle.meaning.specs.Lists.{keep, pairwise}
 use Rattle.meaning.specs.Points.{is_write, is_owned, meets, blocks, first_blocked, frozen, holder, no_later}
@@ -36,7 +35,7 @@ Rising r = Rises r.tables.counts r.tables.words.now r.number
 -- the locks of a slot, or those of others that are in the way of an asker
 unfoldable pub counts : Which → Lock → Bool
 counts (Own k) l = is_owned k l
-counts (Against a) l = blocks (mode_number a.mode) a.slot l
+counts (Against a) l = blocks a.mode a.slot l
 
 unfoldable pub counted : Which → List Lock → List Lock
 counted which ls = keep (counts which) ls

@@ -4,10 +4,13 @@
 // `lookups`. A caller proves that the record's locks rise (`Rising`), so the functions have `requires`; those that look
 // for a blocked point also ask that they are spans (`Proper`).
 // Kept, Rising r: a fact of one record, from `Ready`; a struct of both would be made at each call to say one word less.
+// Kept, Proper: as `Rising r`; `first_free` does without it.
+// Kept, 1 ≤ a.slot: `first_free` and the functions of an `Asker` take any slot; a field with the bound would ask more.
+// Kept, record, asker and points: each takes those that it reads; a struct of the three would be made at each call, to
+// be opened at each step of a walk, which reads one or two of them.
 #![tactic(auto)]
 
 ghost use Rattle.std.specs.Prelude.{◌≡◌, ◌≤◌, ◌||◌, eqb};
-ghost use Rattle.types.specs.Kinds.{mode_number};
 ghost use Rattle.types.specs.Limits.{LAST, SETTLED};
 ghost use Rattle.meaning.specs.Lists.{any};
 ghost use Rattle.meaning.specs.Points.{meets, first_free};
@@ -52,7 +55,9 @@ pub struct Blocked {
 }
 
 // The first point of a lock among those searched, with the lock's owner, 0 for settled and 64 for any that is no slot.
-#[derive(Clone, Copy)]
+// The nearer one is less; of those as near, the one of the lower owner.
+// Kept: the owner is a number, since the lowest is sought: settled comes before every slot, and what is no slot last.
+#[derive(Clone, Copy, PartialEq, Eq, PartialOrd, Ord)]
 struct Start {
     point: u64,
     owner: u64,
@@ -74,6 +79,7 @@ impl Which {
 }
 
 // One lock of the walk for a free point: where it counts and the end lies in it, the end goes to just after it.
+// Kept: record, asker and points; the head of this file says why.
 #[tactic(auto, unfolding(crate::specs::Search::further))]
 fn further(which: Which, p: Points, end: u64, l: Lock) -> u64
     ensures { result ≡ further which p.high end l }
@@ -93,6 +99,7 @@ fn stops(p: Points, end: u64, l: Lock) -> bool
 // The least of the points under none of them. One walk: all points before `end` are under them. The locks rise, so
 // where one starts beyond the end nothing covers the end, counted or not: it is free.
 // Kept: the order of the locks only lets the walk stop early, for nothing is looked up by a lock's low point.
+// Kept: Rising r, record, asker and points; the head of this file says why.
 pub fn first_free(r: Record<'_>, which: Which, p: Points) -> Option<u64>
     requires { Rising r }
     ensures { result ≡ upto p.high (first_free (counted which (rec_in r.entry).locks) p.low p.high) }
@@ -113,30 +120,17 @@ fn meets(p: Points, l: Lock) -> bool
     l.low <= p.high && p.low <= l.high
 }
 
-// The nearer of the best so far and the next; of those as near, the one of the lowest owner.
+// The less of the best so far and the next.
 fn joined(best: Option<Start>, next: Start) -> Start
     ensures { result ≡ joined best next }
 {
-    match best {
-        None => next,
-        Some(b) => {
-            if b.point < next.point {
-                return b;
-            }
-            if next.point < b.point {
-                return next;
-            }
-            if b.owner < next.owner {
-                return b;
-            }
-            next
-        }
-    }
+    best.map_or(next, |b| b.min(next))
 }
 
+// Kept: record, asker and points; the head of this file says why.
 #[tactic(auto, unfolding(crate::specs::Search::nearer))]
 fn nearer(a: Asker, p: Points, best: Option<Start>, l: Lock) -> Option<Start>
-    ensures { result ≡ nearer (mode_number a.mode) a.slot p.low p.high best l }
+    ensures { result ≡ nearer a.mode a.slot p.low p.high best l }
 {
     if a.blocked_by(l) && meets(p, l) {
         let next = Start {
@@ -158,8 +152,9 @@ fn beyond(best: Option<Start>, l: Lock) -> bool
 // The first point under a lock that blocks the asker, with the lowest owner of those that start there. The locks rise,
 // so from one that starts beyond the point found on, none is nearer or as near.
 // Kept: the order of the locks only lets the walk stop early, for nothing is looked up by a lock's low point.
+// Kept: record, asker and points; the head of this file says why.
 fn nearest(r: Record<'_>, a: Asker, p: Points) -> Option<Start>
-    ensures { result ≡ nearest (mode_number a.mode) a.slot p.low p.high None (rec_in r.entry).locks }
+    ensures { result ≡ nearest a.mode a.slot p.low p.high None (rec_in r.entry).locks }
 {
     let mut best: Option<Start> = None;
     for l in r.locks() {
@@ -181,30 +176,31 @@ fn is_frozen(r: Record<'_>, b: Start) -> bool
 // The least of the points that is blocked, with its judgement. One walk of the locks: a settled lock has the lowest
 // owner, so it is the one that is named. Versions are looked at only where there is none.
 // Kept: the point goes over from one struct to the other, its owner becomes a judgement: one field alone is copied.
+// Kept: Rising r, Proper, 1 ≤ a.slot, record, asker and points; the head of this file says why.
 pub fn first_blocked(r: Record<'_>, a: Asker, p: Points) -> Option<Blocked>
     requires { (1 ≤ a.slot) × Proper (rec_at (store_in r.tables) r.number) × Rising r }
-    ensures { result ≡ first_judged (store_in r.entry.tables) r.entry.number (mode_number a.mode) a.slot
+    ensures { result ≡ first_judged (store_in r.entry.tables) r.entry.number a.mode a.slot
         p.low p.high }
 {
     let b = nearest(r, a, p)?;
-    if is_frozen(r, b) {
-        return Some(Blocked {
-            point: b.point,
-            judgement: Judgement::Frozen,
-        });
-    }
+    let judgement = if is_frozen(r, b) {
+        Judgement::Frozen
+    } else {
+        Judgement::Held(b.owner)
+    };
     Some(Blocked {
         point: b.point,
-        judgement: Judgement::Held(b.owner),
+        judgement,
     })
 }
 
 // The run of points from the first one on that the asker may have: all of them or none, or a part, those before the
 // first that is blocked; else why the first that is blocked cannot be had.
-// Kept: what the caller wants, all or a part, is read here once; as a closure it would be the same two arms.
+// Kept: the caller's word, two arms; Lock alone goes on after a refused part (locking::lock_grant).
+// Kept: Rising r, Proper, 1 ≤ a.slot, record, asker and points; the head of this file says why.
 pub fn run(r: Record<'_>, a: Asker, p: Points, extent: Extent) -> Result<(u64, u64), Blocked>
     requires { (1 ≤ a.slot) × Proper (rec_at (store_in r.tables) r.number) × Rising r }
-    ensures { result ≡ run_grant extent (store_in r.entry.tables) r.entry.number (mode_number a.mode) a.slot
+    ensures { result ≡ run_grant extent (store_in r.entry.tables) r.entry.number a.mode a.slot
         p.low p.high }
 {
     match first_blocked(r, a, p) {

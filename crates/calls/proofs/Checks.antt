@@ -4,36 +4,39 @@ use Rattle.std.specs.Prelude.{Result, Ok, Err, Option, Some, None}
 use Rattle.std.specs.Option.{ok_or}
 use Rattle.std.specs.Result.{IsErrAnd}
 use Rattle.std.proofs.lemmas.Result.{err_from_is_err_and}
-use Prim.Native.Nat.{ℕ}
+use Prim.Native.Nat.{ℕ, ◌≤◌, ◌<◌}
 use mathlib.Core.Path.{◌≡◌, refl, sym, ap, subst, ◌∙◌}
-use mathlib.Core.Bool.{Bool, true, false, cond}
+use mathlib.Core.Bool.{Bool, true, false, ◌&&◌, cond}
 use native.Mathlib.Omega.{arith}
 use lib.Dec.{ltb, leb}
 use lib.ListN.{length}
+use borrow.Author.Tests.{leb-true, leb-false, le-leb, lt-leb, le-ltb, lt-ltb, ltb-true, ltb-false}
+use Rattle.types.specs.Limits.{LAST}
 use Rattle.types.specs.Numbers.{slot_of}
 use Rattle.types.specs.Replies.{of_refusal}
 use Rattle.types.specs.declared.Refusal.{Refusal}
-use Rattle.types.specs.declared.Refusal.TheVariants.{NoEdit, EditEnded, NoRecord, NoSlot}
+use Rattle.types.specs.declared.Refusal.TheVariants.{NoEdit, EditEnded, NoRecord, NoSlot, BadPoint, BelowFloor}
 use Rattle.meaning.specs.Store.{Store}
 use Rattle.meaning.specs.Edits.{free_slot}
 use Rattle.lookups.specs.Slots.{first_free}
 use Rattle.meaning.specs.Outcomes.{Outcome, replies, Verdict, unless, knows, is_open, for_open}
-use Rattle.calls.specs.Checks.{record_in, known_slot, open_slot}
+use Rattle.calls.specs.Checks.{record_in, point_from, above_floor, known_slot, open_slot}
+use Rattle.meaning.proofs.Lists.{and_left, and_right}
 use Rattle.calls.proofs.Verdicts.{no_edit_lem, edit_ended}
 
 -- an error that `?` passes on is the one that was found
-pub passed : {A : Type 0} (q : Result A Refusal) {x : Refusal} → IsErrAnd q (λ y. y ≡ x) → q ≡ Err x
+pub passed : {A B : Type 0} (q : Result A B) {x : B} → IsErrAnd q (λ y. y ≡ x) → q ≡ Err x
 passed q h = let p = err_from_is_err_and q h in p.1 ∙ ap Err p.2
 
 pub ok_not_err : {A : Type 0} {x : A} {e : Refusal} → ◌≡◌ {A = Result A Refusal} (Ok x) (Err e) → ⊥
 ok_not_err e = let z : ◌≡◌ {A = ℕ} 0 1 = cc in omega arith
 
 -- one test: what it finds, or its refusal y
-by_test : (b : Bool) (k x : ℕ) (y : Refusal) → cond b (Ok k) (Err y) ≡ Ok x → (b ≡ true) × (x ≡ k)
+by_test : {A : Type 0} (b : Bool) (k x : A) (y : Refusal) → cond b (Ok k) (Err y) ≡ Ok x → (b ≡ true) × (x ≡ k)
 by_test true k x y e = (refl, cc)
 by_test false k x y e = absurd (ok_not_err (sym e))
 
-no_test : (b : Bool) (k : ℕ) (x y : Refusal) → cond b (Ok k) (Err y) ≡ Err x → (b ≡ false) × (x ≡ y)
+no_test : {A : Type 0} (b : Bool) (k : A) (x y : Refusal) → cond b (Ok k) (Err y) ≡ Err x → (b ≡ false) × (x ≡ y)
 no_test true k x y e = absurd (ok_not_err e)
 no_test false k x y e = (refl, cc)
 
@@ -73,6 +76,62 @@ module _ (n r : ℕ) {q : Result ℕ Refusal} (m : q ≡ record_in n r) where
   pub record_refused : {x : Refusal} → q ≡ Err x → (ltb r n ≡ false) × (x ≡ NoRecord)
   unfolding record_in
   record_refused e = no_test (ltb r n) r _ NoRecord (sym m ∙ e)
+
+-- a point
+
+module _ (low p : ℕ) where
+  pub point_low : p < low → Err BadPoint ≡ point_from low p
+  unfolding point_from
+  point_low l = rw (lt-leb low p l) refl
+
+  pub point_high : low ≤ p → LAST < p → Err BadPoint ≡ point_from low p
+  unfolding point_from
+  point_high m l = rw (le-leb low p m, lt-leb p LAST l) refl
+
+  pub point_there : low ≤ p → p ≤ LAST → Ok p ≡ point_from low p
+  unfolding point_from
+  point_there m l = rw (le-leb low p m, le-leb p LAST l) refl
+
+module _ (low p : ℕ) {q : Result ℕ Refusal} (m : q ≡ point_from low p) where
+  pub point_out : {x : ℕ} → q ≡ Ok x → (low ≤ p) × (p ≤ LAST) × (x ≡ p)
+  unfolding point_from
+  point_out {x} e =
+      let t = by_test (leb low p && leb p LAST) p x BadPoint (sym m ∙ e) in (
+        leb-true low p (and_left (leb low p) (leb p LAST) t.0),
+        leb-true p LAST (and_right (leb low p) (leb p LAST) t.0),
+        t.1,
+      )
+
+  pub point_refused : {x : Refusal} → q ≡ Err x → (leb low p && leb p LAST ≡ false) × (x ≡ BadPoint)
+  unfolding point_from
+  point_refused e = no_test (leb low p && leb p LAST) p _ BadPoint (sym m ∙ e)
+
+-- where every number up to LAST is good
+module _ (p : ℕ) {q : Result ℕ Refusal} (m : q ≡ point_from 0 p) where
+  pub point_past : {x : Refusal} → q ≡ Err x → (LAST < p) × (x ≡ BadPoint)
+  point_past e =
+      let t = point_refused 0 p m e in (leb-false p LAST (rw (le-leb 0 p (omega arith)) at t.0), t.1)
+
+-- a point above the floor
+
+module _ (floor p : ℕ) where
+  pub floor_not : p ≤ floor → Err BelowFloor ≡ above_floor floor p
+  unfolding above_floor
+  floor_not l = rw (le-ltb floor p l) refl
+
+  pub floor_above : floor < p → Ok tt ≡ above_floor floor p
+  unfolding above_floor
+  floor_above l = rw (lt-ltb floor p l) refl
+
+module _ (floor p : ℕ) {q : Result (Unit {0}) Refusal} (m : q ≡ above_floor floor p) where
+  pub floor_out : {x : Unit {0}} → q ≡ Ok x → floor < p
+  unfolding above_floor
+  floor_out {x} e = ltb-true floor p (by_test (ltb floor p) tt x BelowFloor (sym m ∙ e)).0
+
+  pub floor_refused : {x : Refusal} → q ≡ Err x → (p ≤ floor) × (x ≡ BelowFloor)
+  unfolding above_floor
+  floor_refused {x} e =
+      let t = no_test (ltb floor p) tt x BelowFloor (sym m ∙ e) in (ltb-false floor p t.0, t.1)
 
 -- a slot
 

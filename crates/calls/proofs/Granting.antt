@@ -24,7 +24,6 @@ use Rattle.meaning.proofs.Tests.{blockers_out}
 use Rattle.tables.specs.Decode.{record_at, decode_at}
 use Rattle.tables.proofs.Decoded.{rec_at_lem}
 use Rattle.blocking.specs.declared.Blocked.{Blocked}
-use Rattle.types.specs.declared.Mode.TheVariants.{Write}
 use Rattle.blocking.specs.declared.Which.TheVariants.{Against}
 use Rattle.blocking.specs.Search.{Grant, Rises, counts, counted, upto, judged, run_grant}
 use Rattle.blocking.proofs.Answered.{upto_some, upto_none}
@@ -111,7 +110,7 @@ module _ (c : Counts) (w : List ℕ) (k r low high : ℕ) (l : r < c.records) wh
   s = decode_at c w
 
   abbrev free : ℕ
-  free = first_free (counted (Against (record { mode = Write; slot = k })) (record_at c w r).locks) low high
+  free = first_free (counted (Against (record { mode = WRITE; slot = k })) (record_at c w r).locks) low high
 
   from_is : free ≡ first_open WRITE k (rec_at s r) low high
   unfolding counted counts blockers

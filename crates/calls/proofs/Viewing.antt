@@ -1,5 +1,5 @@
 -- What View has answered at each of its returns. Rests on Exits and Handles.
-use Prim.Native.Nat.{ℕ, ◌≤◌, ◌<◌}
+use Prim.Native.Nat.{ℕ, ◌+◌, ◌≤◌, ◌<◌}
 use mathlib.Core.Path.{◌≡◌, sym, ap, ◌∙◌}
 use mathlib.Core.Bool.{true, false}
 use mathlib.Core.List.{List, []}
@@ -52,24 +52,24 @@ module _ (c : Counts) (w : List ℕ) (e : c ≡ counts_of w) (r p : ℕ) where
     floor_is : (record_at c w r).floor ≡ (rec_at (decode_at c w) r).floor
     floor_is = ap (λ (x : Rec). x.floor) (sym (rec_at_lem c w r (ltb-true r c.records f)))
 
-    module _ (q : ℕ) (same : q ≡ p) where
-      pub viewed_bad_point : LAST < q → refusing 6 [] ≡ (viewing r p (decode (lent w))).reply
-      viewed_bad_point l = seen (view_bad_point (decode_at c w) r p there (lt-leb p LAST (omega arith)))
+    pub viewed_bad_point : LAST < p → refusing 6 [] ≡ (viewing r p (decode (lent w))).reply
+    viewed_bad_point l = seen (view_bad_point (decode_at c w) r p there (lt-leb p LAST l))
 
-      module _ (floor : ℕ) (last : q ≤ LAST) (g : floor ≡ (record_at c w r).floor) where
-        pub viewed_below : q < floor → refusing 7 [] ≡ (viewing r p (decode (lent w))).reply
-        viewed_below m =
-            let i = floor_is in
-            seen (view_below (decode_at c w) r p there (le-leb p LAST (omega arith))
-            (lt-leb (rec_at (decode_at c w) r).floor p (omega arith)))
+    module _ (q : ℕ) (same : q ≡ p) (last : p ≤ LAST) where
+      pub viewed_below : q + 1 ≤ (record_at c w r).floor → refusing 7 [] ≡ (viewing r p (decode (lent w))).reply
+      viewed_below m =
+          let i = floor_is in
+          seen (view_below (decode_at c w) r p there (le-leb p LAST last)
+          (lt-leb (rec_at (decode_at c w) r).floor p (omega arith)))
 
-        pub viewed : (v : Version) (t : ℕ) → floor ≤ q → v ≡ newest_at (record_at c w r).versions q → t ≡ v.point
-            → at t v.value ≡ (viewing r p (decode (lent w))).reply
-        viewed v t m n o =
-            let i = floor_is in
-            let x = rec_at_lem c w r (ltb-true r c.records f) in
-            let n' : v ≡ newest_at (rec_at (decode_at c w) r).versions p = cc in
-            ap (λ (y : ℕ). at y v.value) o
-            ∙ ap (λ (y : Version). at y.point y.value) n'
-            ∙ seen (view_done (decode_at c w) r p there (le-leb p LAST (omega arith))
-            (le-leb (rec_at (decode_at c w) r).floor p (omega arith)))
+      pub viewed : (v : Version) (t : ℕ) → (record_at c w r).floor < q + 1
+          → v ≡ newest_at (record_at c w r).versions q → t ≡ v.point
+          → at t v.value ≡ (viewing r p (decode (lent w))).reply
+      viewed v t m n o =
+          let i = floor_is in
+          let x = rec_at_lem c w r (ltb-true r c.records f) in
+          let n' : v ≡ newest_at (rec_at (decode_at c w) r).versions p = cc in
+          ap (λ (y : ℕ). at y v.value) o
+          ∙ ap (λ (y : Version). at y.point y.value) n'
+          ∙ seen (view_done (decode_at c w) r p there (le-leb p LAST last)
+          (le-leb (rec_at (decode_at c w) r).floor p (omega arith)))

@@ -29,7 +29,7 @@ use Rattle.calls.proofs.Acting.{ready, makes_refused, makes_done, makes_as, acts
 use Rattle.calls.proofs.Handles.{has_record_is}
 use Rattle.calls.proofs.Exits.{write_closed, write_no_record, write_passes, write_no_room}
 use Rattle.calls.proofs.Exits.{write_done}
-use Rattle.std.specs.Prelude.{Some, None}
+use Rattle.std.specs.Prelude.{Some}
 
 module _ (c : Counts) (w : List ℕ) (hs : sound_words (lent w) ≡ true) (e : c ≡ counts_of w) (h r : ℕ) (v : Val) where
   refuses : (x : Refusal) → writing h r v (decode_at c w) ≡ replies (decode_at c w) (of_refusal x)

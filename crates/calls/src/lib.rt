@@ -2,10 +2,15 @@
 // words. Rests on the crates `types`, `meaning`, `chains`, `tables`, `changes`, `slots`, `lookups`, `blocking` and
 // `index`. They are for callers who prove the words sound (`requires sound_words`), once for many calls: no call here
 // looks at more than the chains it touches. The crate `store` has the same calls for everybody, with the check first.
-// Kept, words and counts: lent to be changed; over a struct of both each would promise, too, that they stay (BORROWS).
-// Kept, Ready c w: `Well` and more, of words before a change.
-// Kept, IsRow c.edits k: of words that change; a `Slot` borrows them, so it ends at the first change.
-// Kept, sound_words: what a caller proves once for many calls, of words that each call changes.
+// Kept, words and counts: lent to be changed; over a struct of both each would promise, too, that they stay (Rattle's
+// docs/BORROWS.md).
+// Kept, Ready c w: `Well` and more, of words before a change; a ghost field would say it of the words after it.
+// Kept, Ready of tables: as a field of `Tables` it would be asked for by the check of words, too, which makes `Tables`
+// before it has found them sound; a struct beside it would hold the same two again.
+// Kept, IsRow c.edits k: no words in it; a struct of counts and number would be made anew at each call, and where a
+// slot goes with a record, two would have to be said to have the same counts.
+// Kept, r < c.records: no words in it, for the same reason.
+// Kept, sound words: what a caller proves once for many calls, of words that each call changes.
 // Kept, Indexed: between words that change and an index, which C callers lend one beside the other.
 // Kept, words and index: two memories that C callers lend, one of them to be changed.
 // Kept, handle and record: the parameters of the call in document 01.
@@ -22,13 +27,13 @@ ghost use Rattle.types.specs.Replies.{number, details, of_begin, of_done, of_vie
 ghost use Rattle.meaning.specs.Store.{edit_at};
 ghost use Rattle.tables.specs.Decode.{decode_at};
 ghost use Rattle.tables.specs.Layout.{header_ok};
-ghost use Rattle.tables.specs.Views.{store_in};
+ghost use Rattle.tables.specs.Views.{rec_in, store_in};
 ghost use Rattle.tables.specs.Words.{lent, decode, sound_words};
 ghost use Rattle.calls.specs.Contract.{Acts, Ready, Makes};
 ghost use Rattle.index.specs.Index.{Indexed};
 ghost use Rattle.calls.specs.Grants.{refusal_by, Small};
 ghost use Rattle.calls.specs.Parts.{write_open};
-ghost use Rattle.calls.specs.Checks.{record_in, known_slot, open_slot};
+ghost use Rattle.calls.specs.Checks.{record_in, point_from, above_floor, known_slot, open_slot};
 
 use blocking::{Blocked, Judgement};
 use tables::{Record, Slot, Tables};
@@ -45,6 +50,27 @@ pub fn record(c: Counts, r: u64) -> Result<usize, Refusal>
         return Err(Refusal::NoRecord);
     }
     Ok(r)
+}
+
+// The number of a point from `least` to LAST: 6 where it is another.
+pub fn point(least: u64, p: Point) -> Result<u64, Refusal>
+    ensures { result ≡ point_from least p.0 }
+{
+    let q = u64::from(p);
+    if q < least || LAST < q {
+        return Err(Refusal::BadPoint);
+    }
+    Ok(q)
+}
+
+// That point p lies above the record's floor: 7 where it does not.
+pub fn above_floor(x: Record<'_>, p: u64) -> Result<(), Refusal>
+    ensures { result ≡ above_floor (rec_in x.entry).floor p }
+{
+    if p <= x.floor() {
+        return Err(Refusal::BelowFloor);
+    }
+    Ok(())
 }
 
 // The slot of the edit that the handle names: 2 where it names none.
@@ -86,6 +112,7 @@ pub fn handle_at(t: Tables<'_>, k: usize) -> Handle
 }
 
 // Why a blocked point cannot be had: it is frozen, or held by a slot.
+// Kept: Ready of tables; the head of this file says why.
 pub fn judge(t: Tables<'_>, b: Blocked) -> Refusal
     requires { Ready t.counts t.words.now × Small b.judgement }
     ensures { refuse (number result) (details result) ≡ refusal_by (store_in t.entry) b.judgement }
@@ -97,6 +124,7 @@ pub fn judge(t: Tables<'_>, b: Blocked) -> Refusal
 }
 
 // The call Begin.
+// Kept: sound words; the head of this file says why.
 pub fn begin(w: &mut [u64]) -> Result<Handle, Refusal>
     requires { sound_words (lent w.old) ≡ true }
     ensures { Acts beginning (lent w.old) (lent w.new) (of_begin result) }
@@ -116,6 +144,8 @@ pub fn begin(w: &mut [u64]) -> Result<Handle, Refusal>
 }
 
 // Write, once the edit is open and the record there: one access row for a record new to the edit.
+// Kept: words and counts, words and index, index and slot, IsRow c.edits k, r < c.records, Ready c w, Indexed; the head
+// of this file says why.
 fn write_open(
     w: &mut [u64],
     c: Counts,
@@ -139,13 +169,14 @@ fn write_open(
     let a = Access {
         rec,
         value: Some(pending),
-        ..lookups::access_in(slot, rec, i)
+        ..lookups::access_in(tables, rec, i)
     };
     slots::set_access(w, c, k, i, a);
     Ok(())
 }
 
 // The call Write.
+// Kept: words and index, handle and record, Indexed, sound words; the head of this file says why.
 pub fn write(w: &mut [u64], h: Handle, rec: u64, value: u64, ix: &[u16]) -> Result<(), Refusal>
     requires { (sound_words (lent w.old) ≡ true) × Indexed (decode (lent w.old)) ix.now }
     ensures { Acts (writing h.0 rec value) (lent w.old) (lent w.new) (of_done result) }
@@ -168,18 +199,14 @@ pub fn view(w: &[u64], rec: u64, p: Point) -> Result<Seen, Refusal>
 {
     let c = tables::counts_of(w);
     let r = record(c, rec)?;
-    let q = u64::from(p);
-    if LAST < q {
-        return Err(Refusal::BadPoint);
-    }
+    let q = point(0, p)?;
     let tables = Tables {
         words: w,
         counts: c,
     };
     let x = Record { tables, number: r };
-    if q < x.floor() {
-        return Err(Refusal::BelowFloor);
-    }
+    // the floor itself can be viewed
+    above_floor(x, q + 1)?;
     let v = lookups::newest_at(x, q);
     Ok(Seen {
         point: Point::from(v.point),

@@ -5,21 +5,16 @@ use mathlib.Core.Bool.{Bool, true, false}
 use mathlib.Core.List.{List}
 use lib.ListN.{get_or, set}
 use Rattle.chains.specs.declared.Linked.{Linked}
-use Rattle.chains.specs.declared.Cursor.{Cursor}
 use Rattle.chains.specs.declared.partition.Check.{Check}
 use Rattle.chains.specs.Cursor.{Met}
-use Rattle.chains.specs.Partition.{CanCheck, CanMark, Begun}
+use Rattle.chains.specs.Partition.{Marks, CanCheck, Begun}
 use Rattle.chains.specs.Checked.{Starts, Advances, Steps}
-use Rattle.chains.proofs.Parts.{mark_start, mark_met, mark_on, can_on, can_start, begun}
+use Rattle.chains.proofs.Parts.{mark_start, mark_met, mark_on, begun}
 
-pub advances : (s : Check) → CanMark s.of.table s.of.words.now s.walk.left s.marks → Advances s s
-advances s k = record { stays = refl; advanced = mark_start _ _ _ k.marks }
+pub advances : (s : Check) → Marks s.marks → Advances s s
+advances s k = record { stays = refl; advanced = mark_start _ _ _ k }
 
 module _ {s₀ s : Check} (i : Advances s₀ s) where
-  pub can_step : CanMark s₀.of.table s₀.of.words.now s₀.walk.left s₀.marks
-      → CanMark s.of.table s.of.words.now s.walk.left s.marks
-  can_step k = rw i.stays (can_on i.advanced k)
-
   pub advances_on : {s' : Check} {moved : Bool} → Steps s s' moved → Advances s₀ s'
   advances_on j = record {
     stays = j.advances.stays ∙ i.stays;
@@ -28,9 +23,6 @@ module _ {s₀ s : Check} (i : Advances s₀ s) where
 
 -- from its start on, a table can be checked, and its walk has begun
 module _ {c : Linked} {w : List ℕ} {s₀ : Check} (i : Starts c w s₀) (k : CanCheck c.table c.heads w) where
-  pub starts_ready : CanMark s₀.of.table s₀.of.words.now s₀.walk.left s₀.marks
-  starts_ready = rw (i.table, i.words) (can_start k i.walk i.clear)
-
   pub starts_begun : {s : Check} → Advances s₀ s
       → CanCheck s.of.table c.heads s.of.words.now × Begun s.of.table c.heads s.of.words.now s.marks s.walk
   starts_begun {s} a =
@@ -38,10 +30,9 @@ module _ {c : Linked} {w : List ℕ} {s₀ : Check} (i : Starts c w s₀) (k : C
       (k, begun i.walk i.clear (rw (i.table, i.words) at a.advanced))
 
 -- a step that marks row i
-pub step_met : {s : Check} {i : ℕ} {next : Cursor} → CanMark s.of.table s.of.words.now s.walk.left s.marks
-    → Met s.of.table s.of.words.now s.walk i next → get_or s.marks i false ≡ false
-    → Steps s (record { of = s.of; walk = next; marks = set s.marks i true }) true
-step_met k m e = record {
-  advances = record { stays = refl; advanced = mark_met (mark_start _ _ _ k.marks) k.few m e };
+pub step_met : (s s' : Check) {i : ℕ} → Marks s.marks → Met s.of.table s.of.words.now s.walk i s'.walk
+    → get_or s.marks i false ≡ false → s'.of ≡ s.of → s'.marks ≡ set s.marks i true → Steps s s' true
+step_met s s' k m e o q = record {
+  advances = record { stays = o; advanced = rw q (mark_met (mark_start _ _ _ k) s.few m e) };
   counted = m.counted;
 }

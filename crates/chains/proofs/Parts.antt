@@ -20,7 +20,7 @@ use Rattle.chains.specs.Cursor.{Met, Halted}
 use Rattle.chains.specs.Walk.{more, rows, ends}
 use Rattle.chains.specs.Table.{Laid, link, chain, ended, front, head_of, rows_of, ended_of}
 use Rattle.chains.specs.Partition.{MARKS, on_chains, partition, Marks, mark, Clear, Unmarked, Marked}
-use Rattle.chains.specs.Partition.{CanCheck, CanMark, Advanced, free_start, Begun}
+use Rattle.chains.specs.Partition.{CanCheck, Advanced, free_start, Begun}
 use Rattle.chains.proofs.Bounded.{bool_false, all_suc, all_at, sum_front, sum_full}
 use Rattle.chains.proofs.Occurs.{occ_nil, occ_same, occ_other, occ_here}
 use Rattle.chains.proofs.Walks.{more_out, step, stop, rows_length}
@@ -145,18 +145,10 @@ module _ (t : Table) (w : List ℕ) {m₀ : List Bool} {s₀ : Cursor} {m : List
           room_left = omega (arith, left, v.long, v.fuel, ap length y.row);
         }
 
--- a walk taken up again where it stopped: it can go on, the steps of both parts are steps of one walk, and what marking
+-- a walk taken up again where it stopped: the steps of both parts are steps of one walk, and what marking
 -- the rest of the chain finds out is so of the whole
 module _ {t : Table} {w : List ℕ} {m₀ : List Bool} {s₀ : Cursor} {m : List Bool} {s : Cursor}
     (i : Advanced t w m₀ s₀ m s) where
-  pub can_on : CanMark t w s₀.left m₀ → CanMark t w s.left m
-  can_on k = record {
-    lies = k.lies;
-    few = k.few;
-    room_within = omega (arith, k.room_within, i.fuel);
-    marks = i.marks;
-  }
-
   pub mark_on : {m' : List Bool} {s' : Cursor} → Advanced t w m s m' s' → Advanced t w m₀ s₀ m' s'
   mark_on j = record {
     fuel = omega (arith, i.fuel, j.fuel);
@@ -184,19 +176,9 @@ module _ {t : Table} {w : List ℕ} {m₀ : List Bool} {s₀ : Cursor} {m : List
         room_left = omega (arith, y.room_left, i.long);
       }
 
--- a table can be checked, and its free chain be marked from the head on
+-- a table can be checked, and the walk of its free chain begins at the head
 pub can_check : {t : Table} {h : Heads} {w : List ℕ} → Laid t h w → t.count < MARKS → CanCheck t h w
 can_check l b = record { lies = lies l; heads_lie = heads_lie l; few = b }
-
-pub can_start : {t : Table} {h : Heads} {w : List ℕ} {m : List Bool} {s : Cursor} → CanCheck t h w
-    → s ≡ free_start t h w → Clear m
-    → CanMark t w s.left m
-can_start k e c = record {
-  lies = k.lies;
-  few = k.few;
-  room_within = omega (arith, ap (λ s. s.left) e);
-  marks = c.size;
-}
 
 pub begun : {t : Table} {h : Heads} {w : List ℕ} {m₀ : List Bool} {s₀ : Cursor} {m : List Bool} {s : Cursor}
     → s₀ ≡ free_start t h w

@@ -66,16 +66,9 @@ pub record CanCheck (t : Table) (h : Heads) (w : List ℕ) : Type 0 where
   pub heads_lie : HeadsLie h w
   pub few : t.count < MARKS
 
--- a chain of it can be marked within the room
-pub record CanMark (t : Table) (w : List ℕ) (room : ℕ) (m : List Bool) : Type 0 where
-  pub lies : Lies t w
-  pub few : t.count < MARKS
-  pub room_within : room ≤ t.count
-  pub marks : Marks m
-
 -- A walk that marks has come from s₀ to s, some rows further or none: the rows ahead of s and the new marks are
 -- together what was ahead of s₀. Nothing is said of where it stopped or why, so that what is found out of the rest of
--- the chain is so of the whole (proofs/Parts, `mark_rest`)
+-- the chain is so of the whole (proofs/Parts, `rest_marked`)
 pub record Advanced (t : Table) (w : List ℕ) (m₀ : List Bool) (s₀ : Cursor) (m : List Bool)
     (s : Cursor) : Type 0 where
   pub fuel : s.left ≤ s₀.left

@@ -9,6 +9,11 @@
 //
 // This file has the types and the access to single words; `placed` reads tables and walks chains, `partition` checks
 // them. The crate `updates` changes them.
+// Kept, rows by numbers: rows linked by their numbers in lent words are the form of document 01, and there is no heap
+// Kept, Lies and HeadsLie: facts of the words, which a struct over `&mut` words cannot hold while they change
+// Kept, IsRow and places: a row's number is read from a link word; a struct for it would hold one fact of a number
+// Kept, k ≤ owners: the number of a chain comes from its caller's counts, which are not here
+// Kept, o < stride: an offset is a constant of the layout, and that a row is wider is seen where it is named
 #![tactic(auto)]
 
 mod order;
@@ -66,7 +71,7 @@ pub struct Linked {
 
 // Rows' words.
 
-// Kept: what place and put share; a struct for a row number would hold one fact of a number that is read from a link
+// Kept: rows by numbers, IsRow and places, o < stride; the head of this file says why. `put` and Placed::word share it.
 fn at(t: Table, i: usize, o: usize, n: usize) -> usize
     requires { (t.base + t.count * t.stride ≤ n) × IsRow t.count i × (o < t.stride) }
     ensures { (result ≡ place t i o) × (result < n) }
@@ -74,7 +79,7 @@ fn at(t: Table, i: usize, o: usize, n: usize) -> usize
     t.base + (i - 1) * t.stride + o
 }
 
-// Kept: a struct with the facts of lent words cannot hold them as `&mut` while they change
+// Kept: rows by numbers, Lies and HeadsLie, IsRow and places, o < stride; the head of this file says why.
 pub fn put(w: &mut [u64], t: Table, i: usize, o: usize, v: usize)
     requires { Lies t w.old × IsRow t.count i × (o < t.stride) }
     ensures { w.new ≡ set w.old (place t i o) v }
@@ -85,7 +90,7 @@ pub fn put(w: &mut [u64], t: Table, i: usize, o: usize, v: usize)
 
 // Head words.
 
-// Kept: what head_of and set_head share; the number of a chain comes from its caller's counts, which are not here
+// Kept: rows by numbers, k ≤ owners; the head of this file says why. `head_of` and `set_head` share it.
 fn head_at(h: Heads, k: usize, n: usize) -> usize
     requires { (h.free < n) × (h.first + h.owners * h.step ≤ n) × (0 < h.step) × (k ≤ h.owners) }
     ensures { (result ≡ head_cell h k) × (result < n) }
@@ -98,6 +103,7 @@ fn head_at(h: Heads, k: usize, n: usize) -> usize
 }
 
 // Kept: the answer is the word of document 01, where 0 is for an empty chain, and the words may be lent as `&mut`
+// Kept: rows by numbers, Lies and HeadsLie, k ≤ owners; the head of this file says why.
 pub fn head_of(w: &[u64], h: Heads, k: usize) -> usize
     requires { HeadsLie h w.now × (k ≤ h.owners) }
     ensures { result ≡ head_of h w.now k }
@@ -106,7 +112,7 @@ pub fn head_of(w: &[u64], h: Heads, k: usize) -> usize
     w[a] as usize
 }
 
-// Kept: a struct with the facts of lent words cannot hold them as `&mut` while they change
+// Kept: rows by numbers, Lies and HeadsLie, k ≤ owners; the head of this file says why.
 pub fn set_head(w: &mut [u64], h: Heads, k: usize, v: usize)
     requires { HeadsLie h w.old × (k ≤ h.owners) }
     ensures { w.new ≡ set w.old (head_cell h k) v }
@@ -118,6 +124,7 @@ pub fn set_head(w: &mut [u64], h: Heads, k: usize, v: usize)
 // Places. A place on a chain is a row of it, or 0 for its start.
 
 // Kept: the answer is the word of document 01, where 0 ends a chain; it is stored in another link word
+// Kept: rows by numbers, Lies and HeadsLie, IsRow and places, k ≤ owners; the head of this file says why.
 pub fn next_after(w: &[u64], c: Linked, a: usize, p: usize) -> usize
     requires { Laid c.table c.heads w.now × (a ≤ c.heads.owners) × (p ≤ c.table.count) }
     ensures { result ≡ get_or w.now (after_cell c.table c.heads a p) 0 }
@@ -130,7 +137,7 @@ pub fn next_after(w: &[u64], c: Linked, a: usize, p: usize) -> usize
     }
 }
 
-// Kept: rows linked by their numbers in the lent `&mut` words are the form of document 01, and there is no heap
+// Kept: rows by numbers, Lies and HeadsLie, IsRow and places, k ≤ owners; the head of this file says why.
 pub fn set_after(w: &mut [u64], c: Linked, a: usize, p: usize, v: usize)
     requires { Laid c.table c.heads w.old × (a ≤ c.heads.owners) × (p ≤ c.table.count) }
     ensures { w.new ≡ set w.old (after_cell c.table c.heads a p) v }
@@ -140,15 +147,6 @@ pub fn set_after(w: &mut [u64], c: Linked, a: usize, p: usize, v: usize)
     } else {
         put(w, c.table, p, c.table.off, v);
     }
-}
-
-// Whether a walk that may still meet `left` of n rows goes on at i.
-// Kept: the bounds of a walk along links that any words may hold
-#[tactic(auto, unfolding(crate::specs::Walk::more, crate::specs::Walk::among))]
-fn more(n: usize, left: usize, i: usize) -> bool
-    ensures { result ≡ more n left i }
-{
-    1 <= left && 1 <= i && i <= n
 }
 
 impl Cursor {
@@ -163,25 +161,25 @@ impl Cursor {
         }
     }
 
-    // Kept: rows linked by their numbers in the lent words are the form of document 01, and there is no heap
+    // Whether the walk goes on, in a table of so many rows.
+    #[tactic(auto, unfolding(crate::specs::Walk::more, crate::specs::Walk::among))]
+    fn goes_on(self, count: usize) -> bool
+        ensures { result ≡ more count self.left self.row }
+    {
+        1 <= self.left && 1 <= self.row && self.row <= count
+    }
+
     // The next row of the walk, which then stands after it; none at the end of the chain or with no row left.
+    // Kept: rows linked by their numbers in the lent words are the form of document 01, and there is no heap
     pub fn along(&mut self, t: &Placed) -> Option<usize>
         ensures { Stepped t.now.table t.now.words.now self.old result self.new }
     {
         let i = self.row;
-        if !more(t.table.count, self.left, i) {
+        if !self.goes_on(t.table.count) {
             return None;
         }
         self.row = t.link(i);
         self.left -= 1;
         Some(i)
-    }
-
-    // The same step, for callers that are not ported yet.
-    pub fn step(&mut self, w: &[u64], t: Table) -> Option<usize>
-        requires { Lies t w.now }
-        ensures { Stepped t w.now self.old result self.new }
-    {
-        self.along(&Placed { words: w, table: t })
     }
 }

@@ -3,9 +3,9 @@
 // each row and one for each chain. The three free chains, the long ones of tables with room, are walked in one loop:
 // the next step of a walk waits for a link word from memory, and three walks wait for theirs at the same time. Rests on
 // lib.rt and placed.rt.
-ghost use Rattle.std.specs.Prelude.{◌≡◌, ◌&&◌};
-ghost use Rattle.chains.specs.Partition.{MARKS, partition, CanCheck, CanMark, MarkedChain, Begun};
-ghost use Rattle.chains.specs.Checked.{Starts, Advances, Steps};
+// Kept, CanCheck: of words and counts that a caller has; a Check holds of it what its steps use, `Lies` and `few`
+ghost use Rattle.std.specs.Prelude.{◌≡◌, ◌<◌, ◌&&◌};
+ghost use Rattle.chains.specs.Partition.{MARKS, partition, CanCheck, MarkedChain, Begun};
 
 use crate::{Cursor, Heads, Linked, Placed, head_of};
 
@@ -13,16 +13,22 @@ use crate::{Cursor, Heads, Linked, Placed, head_of};
 pub const MARKS: usize = 4096;
 
 // A table that is checked: the walk along its free chain, and which rows were met.
+// Kept: marks stand beside the rows, whose words are lent and which a check does not change; memory is fixed
 #[derive(Drop)]
 struct Check<'a> {
     of: Placed<'a>,
     walk: Cursor,
     marks: [bool; MARKS],
+    ghost few: { of.table.count < MARKS },
 }
 
 impl<'a> Check<'a> {
+    ghost use Rattle.std.specs.Prelude.{◌≡◌};
+    ghost use Rattle.chains.specs.Checked.{Starts, Advances, Steps};
+
     // No row is marked, and the walk stands before its first step.
     // Kept: rows linked by their numbers in the lent words are the form of document 01, and there is no heap
+    // Kept: CanCheck; the head of this file says why.
     fn new(w: &'a [u64], c: Linked) -> Check<'a>
         requires { CanCheck c.table c.heads w.now }
         ensures { Starts c w.now result }
@@ -38,7 +44,6 @@ impl<'a> Check<'a> {
     // One step of the walk; replies whether one was made. Where none can be, at the end of the chain, at a row that is
     // marked already or with no room left, the walk stays; `mark_chain` from there finds out which it is.
     fn step(&mut self) -> bool
-        requires { CanMark self.old.of.table self.old.of.words.now self.old.walk.left self.old.marks }
         ensures { Steps self.old self.new result }
     {
         let mut next = self.walk;
@@ -53,11 +58,10 @@ impl<'a> Check<'a> {
         true
     }
 
-    // Kept: rows linked by their numbers in the lent words are the form of document 01, and there is no heap
     // Marks the rows that a walk has still to meet, up to the chain's end. Replies what it leaves of the walk's room;
     // none if a row is marked already or the chain does not end within the room.
+    // Kept: rows linked by their numbers in the lent words are the form of document 01, and there is no heap
     fn mark_chain(&mut self, mut walk: Cursor) -> Option<usize>
-        requires { CanMark self.old.of.table self.old.of.words.now walk.left self.old.marks }
         ensures { MarkedChain self.old.of.table self.old.of.words.now self.old.marks self.new.marks walk.row walk.left
             result
             × (self.new.of ≡ self.old.of) }
@@ -75,9 +79,10 @@ impl<'a> Check<'a> {
         Some(walk.left)
     }
 
-    // Kept: rows linked by their numbers in the lent words are the form of document 01, and there is no heap
     // Marks the free chain from the walk on, as far as it is not marked yet, and then one owner's chain after the
     // other; every row was met if the whole room is used.
+    // Kept: rows linked by their numbers in the lent words are the form of document 01, and there is no heap
+    // Kept: CanCheck; the head of this file says why.
     fn parted(&mut self, h: Heads) -> bool
         requires { CanCheck self.old.of.table h self.old.of.words.now
             × Begun self.old.of.table h self.old.of.words.now self.old.marks self.old.walk }
@@ -101,22 +106,20 @@ impl<'a> Check<'a> {
         }
         room == 0
     }
+
+    // Steps of three walks, one of each in turn, until a turn in which none went on. Where they stop is not promised:
+    // `parted` judges the chain from there, and any order of steps would do.
+    fn step_together(a: &mut Check, b: &mut Check, c: &mut Check)
+        ensures { Advances a.old a.new × Advances b.old b.new × Advances c.old c.new }
+    {
+        // Kept: nothing is counted; the loop goes on until a turn of three steps moves no walk
+        while a.step() | b.step() | c.step() {}
+    }
 }
 
-// Steps of three walks, one of each in turn, until a turn in which none went on. Where they stop is not promised:
-// `parted` judges the chain from there, and any order of steps would do.
-fn step_together(a: &mut Check, b: &mut Check, c: &mut Check)
-    requires { CanMark a.old.of.table a.old.of.words.now a.old.walk.left a.old.marks
-        × CanMark b.old.of.table b.old.of.words.now b.old.walk.left b.old.marks
-        × CanMark c.old.of.table c.old.of.words.now c.old.walk.left c.old.marks }
-    ensures { Advances a.old a.new × Advances b.old b.new × Advances c.old c.new }
-{
-    // Kept: nothing is counted; the loop goes on until a turn of three steps moves no walk
-    while a.step() | b.step() | c.step() {}
-}
-
-// Kept: rows linked by their numbers in the lent words are the form of document 01, and there is no heap
 // Whether in each of the three tables every chain ends and every row is on exactly one, once.
+// Kept: rows linked by their numbers in the lent words are the form of document 01, and there is no heap
+// Kept: CanCheck; the head of this file says why.
 pub fn partitions_ok(w: &[u64], a: Linked, b: Linked, c: Linked) -> bool
     requires { CanCheck a.table a.heads w.now × CanCheck b.table b.heads w.now × CanCheck c.table c.heads w.now }
     ensures { result
@@ -126,6 +129,6 @@ pub fn partitions_ok(w: &[u64], a: Linked, b: Linked, c: Linked) -> bool
     let mut x = Check::new(w, a);
     let mut y = Check::new(w, b);
     let mut z = Check::new(w, c);
-    step_together(&mut x, &mut y, &mut z);
+    Check::step_together(&mut x, &mut y, &mut z);
     x.parted(a.heads) && y.parted(b.heads) && z.parted(c.heads)
 }

@@ -25,6 +25,7 @@ impl<'a> Placed<'a> {
 
     // Word o of row i.
     // Kept: an offset is a constant of the layout, and that it is below the width of a row is seen where it is named
+    // Kept: a row's number is read from a link word; a struct for it would hold one fact of a number
     pub fn word(&self, i: usize, o: usize) -> usize
         requires { IsRow self.now.table.count i × (o < self.now.table.stride) }
         ensures { result ≡ field self.now.table self.now.words.now i o }
@@ -35,6 +36,7 @@ impl<'a> Placed<'a> {
 
     // The row after row i.
     // Kept: the answer is the word of document 01, where 0 ends a chain; it is stored in another link word
+    // Kept: as at `word`, the number of a row was read from a link word.
     pub fn link(&self, i: usize) -> usize
         requires { IsRow self.now.table.count i }
         ensures { result ≡ link self.now.table self.now.words.now i }
@@ -67,6 +69,7 @@ impl<'a> Placed<'a> {
     }
 
     // The first row of the chain with v in its word o.
+    // Kept: an offset is a constant of the layout, and that it is below the width of a row is seen where it is named
     pub fn first_with(&self, o: usize, v: usize, head: usize) -> Option<usize>
         requires { o < self.now.table.stride }
         ensures { result
@@ -89,6 +92,7 @@ impl<'a> Placed<'a> {
 
     // The place after the front of rows whose word o comes before q.
     // Kept: linked rows can only be searched from the start, which is place 0 in the words of document 01
+    // Kept: an offset is a constant of the layout, and that it is below the width of a row is seen where it is named
     pub fn find_place<O: Order>(&self, o: usize, q: usize, head: usize) -> usize
         requires { o < self.now.table.stride }
         ensures { result

@@ -2,7 +2,7 @@
 // each row. Rests on lib.rt and placed.rt.
 ghost use Rattle.std.specs.Prelude.{◌<◌};
 
-use crate::{Cursor, Placed, Table};
+use crate::{Cursor, Placed};
 
 #[derive(Drop)]
 pub struct Walk<'a> {
@@ -49,33 +49,5 @@ impl<'a> Iterator for Fields<'a> {
     fn next(&mut self) -> Option<(usize, usize)> {
         let i = self.cursor.along(&self.of)?;
         Some((i, self.of.word(i, self.off)))
-    }
-}
-
-// For callers that are not ported yet.
-
-impl<'a> Walk<'a> {
-    ghost use Rattle.std.specs.Prelude.{◌≡◌};
-    ghost use Rattle.chains.specs.Table.{Lies, chain};
-    ghost use Rattle.chains.specs.Walker.{rows_left};
-
-    pub fn new(w: &'a [u64], t: Table, head: usize) -> Walk<'a>
-        requires { Lies t w.now }
-        ensures { rows_left result ≡ chain t w.now head }
-    {
-        Placed { words: w, table: t }.rows(head)
-    }
-}
-
-impl<'a> Fields<'a> {
-    ghost use Rattle.std.specs.Prelude.{◌≡◌};
-    ghost use Rattle.chains.specs.Table.{Lies, chain};
-    ghost use Rattle.chains.specs.Walker.{with_word, fields_left};
-
-    pub fn new(w: &'a [u64], t: Table, o: usize, head: usize) -> Fields<'a>
-        requires { Lies t w.now × (o < t.stride) }
-        ensures { fields_left result ≡ with_word t w.now o (chain t w.now head) }
-    {
-        Placed { words: w, table: t }.fields(o, head)
     }
 }

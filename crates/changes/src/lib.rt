@@ -4,10 +4,12 @@
 // on the crates `types`, `meaning`, `locks`, `chains`, `updates`, `tables` and `writes`.
 // Kept, words and counts: a struct that holds lent `&mut` words would have each contract say that it keeps them
 // Kept, Well c w: a fact of the words, which a struct over `&mut` words cannot hold while they change
-// Kept, r < c.records: a fact of the counts beside those words
-// Kept, low and high: the two ends that the functions of `locks` and of the meaning take
-// Kept, l.: facts of a lock row that other callers read from the words
-// Kept, locks_used: how many locks the words hold, which changes with them
+// Kept, r < c.records: no words in it; a struct of counts and number would be made anew at each call, and where a slot
+// goes with a record, two would have to be said to have the same counts.
+// Kept, low and high: the two ends of the points that a settle leaves; a struct of them would be made once, in
+// `leave_settled`, and opened at each comparison.
+// Kept, the mode and owner of l: a Lock is also what any words hold, so its type cannot hold them.
+// Kept, the locks used: how many locks the words hold, which changes with them
 #![tactic(auto)]
 
 mod freed;
@@ -34,6 +36,8 @@ use types::{Counts, Lock, READ, SETTLED, Version};
 // Locks.
 
 // A lock more on record r, where its low point belongs.
+// Kept: words and counts, Well c w, r < c.records, the mode and owner of l, the locks used; the head of this file
+// says why.
 pub fn add_lock(w: &mut [u64], c: Counts, r: usize, l: Lock)
     requires { Well c w.old × (r < c.records) × (l.mode < MODES) × (l.owner ≤ MAX_EDITS)
         × (locks_used (decode_at c w.old) < c.locks) }
@@ -46,6 +50,8 @@ pub fn add_lock(w: &mut [u64], c: Counts, r: usize, l: Lock)
 }
 
 // The locks of owner k on record r go.
+// Kept: `free_rows` is the generic function, and the line shows the test.
+// Kept: words and counts, Well c w, r < c.records; the head of this file says why.
 pub fn drop_owner(w: &mut [u64], c: Counts, r: usize, k: u64)
     requires { Well c w.old × (r < c.records) }
     ensures { Becomes c w.new (on_locks (decode_at c w.old) r (drop_owner k)) }
@@ -56,6 +62,7 @@ pub fn drop_owner(w: &mut [u64], c: Counts, r: usize, k: u64)
 // Settled locks.
 
 // The row with the points of l and those between too, if l touches low..high.
+// Kept: low and high; the head of this file says why.
 fn taken_in(low: u64, high: u64, row: Lock, l: Lock) -> Lock
     ensures { result ≡ widened row (touches low high l) l }
 {
@@ -71,6 +78,7 @@ fn taken_in(low: u64, high: u64, row: Lock, l: Lock) -> Lock
 }
 
 // The row that low..high and the settled reads which it overlaps or adjoins are together.
+// Kept: low and high; the head of this file says why.
 fn joined_row(r: Record<'_>, low: u64, high: u64) -> Lock
     ensures { result ≡ joined_row low high (rec_in r.entry).locks }
 {
@@ -85,6 +93,7 @@ fn joined_row(r: Record<'_>, low: u64, high: u64) -> Lock
 
 // The settled reads of record r that overlap or adjoin low..high go. Replies the row that they and low..high are
 // together.
+// Kept: words and counts, low and high, Well c w, r < c.records; the head of this file says why.
 fn drop_touching(w: &mut [u64], c: Counts, r: usize, low: u64, high: u64) -> Lock
     requires { Well c w.old × (r < c.records) }
     ensures { Beside c w.old w.new
@@ -101,6 +110,7 @@ fn drop_touching(w: &mut [u64], c: Counts, r: usize, low: u64, high: u64) -> Loc
 }
 
 // A settled read on low..high of record r: one row with those that it overlaps or adjoins.
+// Kept: words and counts, low and high, Well c w, the locks used, r < c.records; the head of this file says why.
 fn leave_read(w: &mut [u64], c: Counts, r: usize, low: u64, high: u64)
     requires { Well c w.old × (r < c.records) × (locks_used (decode_at c w.old) < c.locks) }
     ensures { Beside c w.old w.new (on_locks (decode_at c w.old) r (join_read low high)) }
@@ -110,7 +120,8 @@ fn leave_read(w: &mut [u64], c: Counts, r: usize, low: u64, high: u64)
 }
 
 // A settled lock more on record r; a read is joined with those that it overlaps or adjoins.
-// Kept: the mode is stored as it is, in the word of document 01, and the rule joins reads alone
+// Kept: it is public and took any mode of a lock before; both callers pass a constant, and the rule joins reads alone.
+// Kept: words and counts, low and high, Well c w, the locks used, r < c.records; the head of this file says why.
 pub fn leave_settled(w: &mut [u64], c: Counts, r: usize, mode: u64, low: u64, high: u64)
     requires { Well c w.old × (r < c.records) × (mode < MODES) × (locks_used (decode_at c w.old) < c.locks) }
     ensures { Beside c w.old w.new
@@ -137,6 +148,7 @@ pub fn leave_settled(w: &mut [u64], c: Counts, r: usize, mode: u64, low: u64, hi
 
 // A version more on record r, where its point belongs.
 // Kept: its place is found as that of a lock, by `writes::insert`; the words that are then stored are others
+// Kept: words and counts, Well c w, r < c.records; the head of this file says why.
 pub fn add_version(w: &mut [u64], c: Counts, r: usize, point: u64, value: u64)
     requires { Well c w.old × (r < c.records) × (1 ≤ point) × (versions_used (decode_at c w.old) < c.versions) }
     ensures { Beside c w.old w.new

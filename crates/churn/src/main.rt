@@ -32,6 +32,7 @@ impl Tally {
     // Counts the reply of a call.
     fn count(&mut self, call: Call, reply: Result<Granted, Refusal>) {
         let count = match (call, reply) {
+            // Kept: the counts are printed by these numbers; by names each would be a field and two arms more.
             (_, Err(r)) => &mut self.refused[r.number() as usize],
             (_, Ok(Granted::Edit(_))) => &mut self.begun,
             (_, Ok(Granted::Locked(_))) => &mut self.locked,
@@ -237,6 +238,7 @@ impl Churn {
         }
         self.tally.print(rt)?;
         let sound = soundness::check(&self.words);
+        // Kept: `generations` says it in these words too; a function of both would be as long as this line.
         println!(rt; "{}", if sound { "sound" } else { "not sound" })
     }
 }

@@ -1,14 +1,15 @@
 -- The loops that mark lock rows, and the rows ahead of a loop, which are rows of its chain. Rests on Marking, on Slots
 -- and on Walks of `chains`.
-use Prim.Native.Nat.{ℕ, zero, suc, ◌+◌, ◌≤◌, ◌<◌}
+use Prim.Native.Nat.{ℕ, zero, suc, ◌+◌, ◌-◌, ◌≤◌, ◌<◌}
 use mathlib.Core.Path.{◌≡◌, refl, sym, ap, ◌∙◌}
-use mathlib.Core.Bool.{Bool, true, false}
+use mathlib.Core.Bool.{Bool, true, false, ◌||◌}
 use mathlib.Core.List.{List, [], ◌∷◌, map}
 use native.Mathlib.Omega.{arith}
 use native.Mathlib.Decide.{ℕ_discrete}
 use native.Mathlib.Numerals.{add-one}
-use lib.ListN.{get_or, set, replicate}
-use borrow.Author.Tests.{lt-ltb, le-ltb}
+use lib.ListN.{length, get_or, set, replicate}
+use borrow.Author.Tests.{lt-ltb, le-ltb, eq-eqb, ne_eqb}
+use Rattle.std.proofs.lemmas.List.{set-get_or}
 use Rattle.chains.specs.Lists.{occ}
 use Rattle.chains.specs.declared.Table.{Table}
 use Rattle.chains.specs.Walk.{among, IsRow, rows}
@@ -22,6 +23,8 @@ use Rattle.meaning.specs.Sound.{reads_present}
 use Rattle.meaning.specs.Sound.{reads_locked, point_common, free_idle, sound_edit}
 use Rattle.types.specs.declared.Access.{Access}
 use Rattle.types.specs.declared.Counts.{Counts}
+use Rattle.types.specs.declared.Lock.{Lock}
+use Rattle.meaning.specs.Lists.{any}
 use Rattle.meaning.proofs.Lists.{every_at}
 use Rattle.tables.specs.Layout.{Fits, lock_table, lock_heads}
 use Rattle.tables.specs.Decode.{lock_at, record_at, slot_at, records_of, locks_of, lock_rows}
@@ -78,6 +81,17 @@ module _ {all rs rest : List ℕ} {i : ℕ} (v : Ahead all rs) (e : rs ≡ i ∷
   pub ahead_on : Ahead all rest
   ahead_on = record { within = λ x o. v.within x (omega (arith, ap (occ x) e, occ_there x i rest)) }
 
+-- what stands at a place of the rows is one of them
+pub row_among : (rs : List ℕ) (k x d : ℕ) → k < length rs → x ≡ get_or rs k d → 1 ≤ occ x rs
+row_among [] k x d l e = absurd (omega arith)
+row_among (r ∷ rs) zero x d l e = rw e (occ_here r rs)
+row_among (r ∷ rs) (suc k) x d l e = omega (arith, occ_there x r rs, row_among rs k x d (omega arith) e)
+
+-- a test of the locks in some rows is one of the rows
+pub any_locks : (p : Lock → Bool) (g : ℕ → Lock) (rs : List ℕ) → any (λ i. p (g i)) rs ≡ any p (map g rs)
+any_locks p g [] = refl
+any_locks p g (r ∷ rs) = ap (λ b. p (g r) || b) (any_locks p g rs)
+
 module _ (c : Counts) (w : List ℕ) (k : ℕ) (m : List Bool) where
   -- one lock row
   own_cons : (h : ℕ) (x : Bool) (rs : List ℕ) → x ≡ own_mark c w k (get_or m h false) h
@@ -90,9 +104,18 @@ module _ (c : Counts) (w : List ℕ) (k : ℕ) (m : List Bool) where
   own_nil = refl
 
   module _ {rs : List ℕ} {answer : List Bool} (i : mark_own c w k m rs ≡ answer) where
-    pub own_on_lem : {h : ℕ} {x : Bool} {rest : List ℕ} → rs ≡ h ∷ rest → x ≡ own_mark c w k (get_or m h false) h
+    own_on : {h : ℕ} {x : Bool} {rest : List ℕ} → rs ≡ h ∷ rest → x ≡ own_mark c w k (get_or m h false) h
         → mark_own c w k (set m h x) rest ≡ answer
-    own_on_lem {h} {x} {rest} e ex = sym (ap (mark_own c w k m) e ∙ own_cons h x rest ex) ∙ i
+    own_on {h} {x} {rest} e ex = sym (ap (mark_own c w k m) e ∙ own_cons h x rest ex) ∙ i
+
+    module _ {h : ℕ} {l : Lock} {rest : List ℕ} (e : rs ≡ h ∷ rest) (el : l ≡ lock_at c w h) where
+      pub own_hit : l.owner ≡ k → mark_own c w k (set m h true) rest ≡ answer
+      own_hit o = own_on e (sym (rw el at (ap (λ b. b || get_or m h false) (eq-eqb l.owner k o))))
+
+      pub own_miss : (l.owner ≡ k → ⊥) → mark_own c w k m rest ≡ answer
+      own_miss o =
+          sym (ap (λ n. mark_own c w k n rest) (set-get_or m h false))
+          ∙ own_on e (sym (rw el at (ap (λ b. b || get_or m h false) (ne_eqb l.owner k o))))
 
     pub own_done : rs ≡ [] → m ≡ answer
     own_done e = sym (ap (mark_own c w k m) e ∙ own_nil) ∙ i
@@ -134,10 +157,11 @@ module _ (c : Counts) (w : List ℕ) (m₀ : List Bool) where
   unfolding mark_slots
   slots_none = refl
 
-  pub slots_on : {m m' : List Bool} (k : ℕ) → m ≡ mark_slots c w m₀ k
-      → m' ≡ mark_accesses c w (k + 1) m (slot_at c w (k + 1)).accesses → m' ≡ mark_slots c w m₀ (k + 1)
+  pub slots_on : {m m' : List Bool} (n : ℕ) → 1 ≤ n → m ≡ mark_slots c w m₀ (n - 1)
+      → m' ≡ mark_accesses c w n m (slot_at c w n).accesses → m' ≡ mark_slots c w m₀ n
   unfolding mark_slots
-  slots_on {m} {m'} k e o = rw add-one (rw (add-one, e) at o)
+  slots_on zero l e o = absurd (omega arith)
+  slots_on (suc k) l e o = let s : suc k - 1 ≡ k = omega arith in rw (e ∙ ap (mark_slots c w m₀) s) at o
 
   pub slots_end : {m : List Bool} {k n : ℕ} → m ≡ mark_slots c w m₀ k → k ≡ n → m ≡ mark_slots c w m₀ n
   slots_end e z = e ∙ ap (mark_slots c w m₀) z

@@ -14,6 +14,7 @@ const HANDLES: u64 = types::GENERATIONS * types::SLOTS;
 const CODES: u64 = 32;
 
 // A flag as a number: 0 is the first of two, any other number the second, so that every number has a meaning.
+// Kept: a flag is a number of the C interface.
 pub fn flag<T: Copy>(n: u64, zero: T, other: T) -> T
     ensures { result ≡ flag_of n zero other }
 {
@@ -48,7 +49,7 @@ pub fn refusal(r: Refusal) -> u64
 }
 
 // A value as two numbers: whether it was ever written, and its bits.
-// Kept: C has no Option; it hears a value as two numbers, each at a pointer of its own.
+// Kept: C has no Option; it hears a value as two numbers, each at a pointer of its own or in a row.
 pub fn mark(v: Value) -> u64
     ensures { result ≡ mark_of v }
 {

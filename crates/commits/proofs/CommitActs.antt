@@ -1,11 +1,11 @@
 -- Commit meets its contract: what the searches ask for, and one law for each return. Rests on Ended, CommitExits and
 -- Acting of `calls`.
 use Rattle.std.specs.Prelude.{Result, Err}
-use Prim.Native.Nat.{ℕ, ◌≤◌, ◌<◌}
+use Prim.Native.Nat.{ℕ}
 use mathlib.Core.Path.{◌≡◌, refl, sym, ap, ◌∙◌}
 use mathlib.Core.Bool.{Bool, true, false}
 use mathlib.Core.List.{List, []}
-use lib.Dec.{ltb, leb}
+use lib.Dec.{ltb}
 use lib.ListN.{length}
 use borrow.Author.Tests.{lt-ltb}
 use Rattle.chains.specs.Walk.{IsRow}
@@ -28,7 +28,7 @@ use Rattle.meaning.specs.Sound.{names_existing}
 use Rattle.meaning.proofs.Lists.{all_in}
 use Rattle.meaning.proofs.SoundParts.{sound_out}
 use Rattle.meaning.proofs.EndingSound.{commit_keeps}
-use Rattle.tables.specs.Layout.{counts_of, Fits}
+use Rattle.tables.specs.Layout.{counts_of}
 use Rattle.tables.specs.Decode.{records_of, slot_at, decode_at}
 use Rattle.tables.specs.Words.{lent, sound_words}
 use Rattle.tables.proofs.Decoded.{decoded_records, edit_at_lem}

@@ -34,6 +34,12 @@ use Rattle.std.specs.Bool.{then_some}
 use Rattle.meaning.proofs.Lists.{test}
 use Rattle.endings.specs.Parts.{commit_at, commit_at_or_none, CommonAt}
 
+-- only a named point can be bad
+pub good_unnamed : (pick : Pick) → ((p : Point) → pick ≡ Named p → ⊥) → good_pick pick ≡ true
+good_unnamed Earliest n = refl
+good_unnamed Latest n = refl
+good_unnamed (Named p) n = absurd (n p refl)
+
 module _ (s : Store) (h : ℕ) (pick : Pick) (f : Finish) where
   abbrev rest : Outcome
   rest = commit_open s (slot_of h) pick f

@@ -3,12 +3,14 @@
 // and the locks of their records; if it settles the edit, along the locks of each record that it may have touched.
 // Rests on the crates `types`, `meaning`, `chains`, `tables`, `changes`, `slots`, `lookups`, `blocking`, `common`,
 // `index`, `calls` and `endings`.
-// Kept, words and counts: lent to be changed; over a struct of both each would promise, too, that they stay (BORROWS).
-// Kept, Ready c w: `Well` and more, of words before a change.
-// Kept, sound_words: what a caller proves once for many calls, of words that each call changes.
+// Kept, words and counts: lent to be changed; over a struct of both each would promise, too, that they stay (Rattle's
+// docs/BORROWS.md).
+// Kept, Ready c w: `Well` and more, of words before a change; a ghost field would say it of the words after it.
+// Kept, sound words: what a caller proves once for many calls, of words that each call changes.
 // Kept, Indexed: between words that change and an index, which C callers lend one beside the other.
 // Kept, words and index: two memories that C callers lend, one of them to be changed.
-// Kept, finish and index: the call's own flag, and the memory that C callers lend.
+// Kept, finish and index: the call's own flag, and the memory that C callers lend. Contracts say them apart, as the
+// meaning does, so that a struct of both would be opened in each.
 // Kept, state ≡ OPEN: what `open_slot` found, of words that change.
 #![tactic(auto)]
 
@@ -16,13 +18,13 @@ ghost use Rattle.std.specs.Prelude.{◌≡◌, true, ◌≤◌};
 ghost use Rattle.types.specs.Limits.{OPEN};
 ghost use Rattle.meaning.specs.Store.{edit_at};
 ghost use Rattle.types.specs.Replies.{nopoint, of_commit};
-ghost use Rattle.meaning.specs.Ending.{finished, aborted, good_pick, commit_open, committing};
+ghost use Rattle.meaning.specs.Ending.{finished, aborted, commit_open, committing};
 ghost use Rattle.meaning.specs.Points.{in_common};
 ghost use Rattle.tables.specs.Decode.{decode_at};
 ghost use Rattle.tables.specs.Words.{lent, decode, sound_words};
 ghost use Rattle.index.specs.Index.{Indexed};
 ghost use Rattle.calls.specs.Contract.{Acts, Ready, Makes};
-ghost use Rattle.meaning.specs.Outcomes.{replies, is_point};
+ghost use Rattle.meaning.specs.Outcomes.{replies};
 ghost use Rattle.types.specs.declared.Pick.TheVariants.{Named};
 ghost use Rattle.endings.specs.Parts.{commit_at, commit_at_or_none, CommonAt};
 
@@ -30,7 +32,7 @@ use common::CommonSet;
 use endings::Step;
 use index::IndexOf;
 use tables::{Row, Slot, Tables};
-use types::{Access, Counts, Finish, Handle, LAST, Pick, Point, Refusal, State};
+use types::{Access, COMMITTED, Counts, Finish, Handle, Pick, Point, Refusal};
 
 // The version that each written access makes at t.
 #[derive(Clone, Copy)]
@@ -46,6 +48,7 @@ impl Step for Save {
 
     ghost need = { λ s. SaveNeed };
 
+    // Kept: words and counts; the head of this file says why.
     fn turn(self, w: &mut [u64], c: Counts, i: usize) {
         let tables = Tables {
             words: w,
@@ -58,6 +61,7 @@ impl Step for Save {
     }
 }
 
+// Kept: words and counts, finish and index, state ≡ OPEN, Indexed, Ready c w; the head of this file says why.
 fn no_point(
     w: &mut [u64],
     c: Counts,
@@ -75,6 +79,7 @@ fn no_point(
 }
 
 // At the point t of the common set. Nothing is saved where a version row is missing.
+// Kept: words and counts, finish and index, state ≡ OPEN, Indexed, Ready c w; the head of this file says why.
 fn commit_at(
     w: &mut [u64],
     c: Counts,
@@ -98,12 +103,13 @@ fn commit_at(
         return Err(Refusal::NoVersionRow);
     }
     endings::each_access(w, c, index.slot, Save { t });
-    slots::set_state(w, c, index.slot, State::Committed, t);
+    slots::set_state(w, c, index.slot, COMMITTED, t);
     endings::finish_slot(w, c, finish, index);
     Ok(Some(Point::from(t)))
 }
 
 // At the point t of the common set, or nowhere where it has none.
+// Kept: words and counts, finish and index, state ≡ OPEN, Indexed, Ready c w; the head of this file says why.
 fn commit_at_or_none(
     w: &mut [u64],
     c: Counts,
@@ -122,6 +128,7 @@ fn commit_at_or_none(
     }
 }
 
+// Kept: words and counts, finish and index, state ≡ OPEN, Indexed, Ready c w; the head of this file says why.
 fn commit_named(
     w: &mut [u64],
     c: Counts,
@@ -154,6 +161,7 @@ fn commit_named(
 }
 
 // Kept: the three ways to pick a point are three searches, an arm each; as closures they would all be handed on.
+// Kept: words and counts, finish and index, state ≡ OPEN, Indexed, Ready c w; the head of this file says why.
 fn commit_open(
     w: &mut [u64],
     c: Counts,
@@ -187,23 +195,7 @@ fn commit_open(
     }
 }
 
-fn is_point(p: Point) -> bool
-    ensures { result ≡ is_point p.0 }
-{
-    let x = u64::from(p);
-    1 <= x && x <= LAST
-}
-
-// Kept: only a named point can be bad: the match says it.
-fn good_pick(pick: Pick) -> bool
-    ensures { result ≡ good_pick pick }
-{
-    match pick {
-        Pick::Earliest | Pick::Latest => true,
-        Pick::Named(p) => is_point(p),
-    }
-}
-
+// Kept: words and index, finish and index, Indexed, sound words; the head of this file says why.
 pub fn commit(
     w: &mut [u64],
     h: Handle,
@@ -220,8 +212,8 @@ pub fn commit(
         counts: c,
     };
     let k = calls::open_slot(tables, h)?;
-    if !good_pick(pick) {
-        return Err(Refusal::BadPoint);
+    if let Pick::Named(p) = pick {
+        calls::point(1, p)?;
     }
     let index = IndexOf {
         numbers: ix,

@@ -41,13 +41,13 @@ module _ (c : Counts) (w : List ℕ) (k : ℕ) (a : Access) (l : a.rec < c.recor
   own_on_lem = rw (ej, er, rec_of_lem c w a.rec l) refl
 
 -- as the code has them: the record and the slot of an access
-module _ (l : Limit) (r : Record) {j : ℕ} (ej : j ≡ l.set.slot.number)
-    (er : (r.number ≡ l.access.rec) × (r.tables ≡ l.set.slot.tables)) where
+module _ (l : Limit) (r : Record) {j : ℕ} (ej : j ≡ l.slot)
+    (er : (r.number ≡ l.access.rec) × (r.tables ≡ l.tables)) where
   pub own_in : own j (rec_in r).locks ≡ own_locks l
   own_in =
-      let t = l.set.slot.tables in
+      let t = l.tables in
       ap (λ (y : Tables). own j (record_at y.counts y.words.now r.number).locks) er.1
-      ∙ own_on_lem t.counts t.words.now l.set.slot.number l.access l.there ej er.0
+      ∙ own_on_lem t.counts t.words.now l.slot l.access l.there ej er.0
 
   pub own_free : upto LAST (first_free (counted (Own j) (rec_in r).locks) l.access.from LAST)
       ≡ upto LAST (first_free (own_locks l) l.access.from LAST)

@@ -12,6 +12,7 @@ use borrow.Author.Tests.{leb-true, leb-false, le-leb, lt-ltb}
 use Rattle.std.specs.List.{fold}
 use Rattle.std.specs.Prelude.{Option, None, Some}
 use Rattle.std.specs.Bool.{then_some}
+use Rattle.std.specs.Option.{unwrap_or}
 use Rattle.types.specs.Limits.{LAST}
 use Rattle.meaning.specs.Lists.{◌∈◌, keep, least}
 use Rattle.meaning.specs.Points.{own, writes, first_free, own_on, allows}
@@ -163,21 +164,23 @@ module _ (ls : List Lock) (a : Access) where
 
 -- the last point that was read, from the first free one
 module _ (ls : List Lock) (a : Access) (read : a.from ≡ 0 → ⊥) (early : a.from ≤ LAST) where
-  module _ {f : ℕ} (e : Some f ≡ upto LAST (first_free ls a.from LAST)) where
-    pub free_pos : 1 ≤ f
-    free_pos =
-        let s = upto_some LAST (first_free ls a.from LAST) e in
-        omega (arith, read, s.0, first_free_low ls a.from LAST (omega arith))
+  -- the point found, or LAST + 1 where there is none
+  read_free : (o : Option ℕ) → o ≡ upto LAST (first_free ls a.from LAST) → (1 ≤ unwrap_or o (suc LAST))
+      × (unwrap_or o (suc LAST) ≡ read_end ls a)
+  read_free None e = (
+    omega arith,
+    read_end_is ls a read
+        (omega (arith, upto_none LAST (first_free ls a.from LAST) e, first_free_top ls a.from LAST)),
+  )
+  read_free (Some f) e =
+      let s = upto_some LAST (first_free ls a.from LAST) e in (
+        omega (arith, read, s.0, first_free_low ls a.from LAST (omega arith)),
+        read_end_is ls a read (omega (arith, s.0)),
+      )
 
-    pub read_some : suc (f - 1) ≡ read_end ls a
-    read_some =
-        let s = free_pos in
-        read_end_is ls a read (omega (arith, (upto_some LAST (first_free ls a.from LAST) e).0))
-
-  pub read_none : None ≡ upto LAST (first_free ls a.from LAST) → suc LAST ≡ read_end ls a
-  read_none e =
-      read_end_is ls a read
-      (omega (arith, upto_none LAST (first_free ls a.from LAST) e, first_free_top ls a.from LAST))
+  pub read_up : {q : ℕ} {o : Option ℕ} → q ≡ unwrap_or o (suc LAST) → o ≡ upto LAST (first_free ls a.from LAST)
+      → (1 ≤ q) × (suc (q - 1) ≡ read_end ls a)
+  read_up d e = let i = read_free _ e in (omega (arith, d, i.0), omega (arith, d, i.0, i.1))
 
 -- written to or not: the point at the distance that up_from leads to is allowed as written, and none before it
 module _ (point : ℕ → ℕ) (near far : ℕ → ℕ → ℕ) (sees : Sees point near far) (ls : List Lock) (a : Access) (d : ℕ) where

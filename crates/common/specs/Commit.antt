@@ -80,12 +80,15 @@ module _ (near far : ℕ → ℕ → ℕ) where
   abbrev pub written_from : List Lock → Access → ℕ → Option ℕ
   written_from ls a d = cond {A = Option ℕ} (has_written a) (upto LAST (first_under (writes ls) d)) (Some d)
 
--- the records that a set is over, and the locks of its slot on the record of one access
+-- the records that a set or one access is over, and the locks of the slot on the record of that access
 abbrev pub recs_in : CommonSet → List Rec
 recs_in s = records_of s.slot.tables.counts s.slot.tables.words.now
 
+abbrev pub recs_at : Limit → List Rec
+recs_at l = records_of l.tables.counts l.tables.words.now
+
 abbrev pub own_locks : Limit → List Lock
-own_locks l = own_on (recs_in l.set) l.set.slot.number l.access
+own_locks l = own_on (recs_at l) l.slot l.access
 
 -- whether an access allows the point at a distance, and whether all these do
 abbrev pub allows_at : (ℕ → ℕ) → List Rec → ℕ → ℕ → Access → Bool
@@ -104,5 +107,5 @@ first_in s j = first_accesses s.slot.tables.counts s.slot.tables.words.now s.slo
 pub record Next (c : Counts) (w : List ℕ) (k j : ℕ) (a : Access) : Type 0 where
   pub joined : first_accesses c w k (j + 1) ≡ first_accesses c w k j ++ (a ∷ [])
 
-abbrev pub Follows : Limit → ℕ → Type 0
-Follows l j = Next l.set.slot.tables.counts l.set.slot.tables.words.now l.set.slot.number j l.access
+abbrev pub Follows : CommonSet → ℕ → Access → Type 0
+Follows s j a = Next s.slot.tables.counts s.slot.tables.words.now s.slot.number j a

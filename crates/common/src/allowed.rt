@@ -10,7 +10,7 @@ use crate::LOWEST;
 use crate::sets::{CommonSet, Limit};
 use blocking::{Points, Which, first_free};
 use tables::Record;
-use types::{Access, LAST, Lock, WRITE};
+use types::{LAST, Lock, WRITE};
 
 pub fn owns_write(k: u64, l: Lock) -> bool
     ensures { result ≡ owns_write k l }
@@ -33,11 +33,12 @@ pub fn write_on(r: Record<'_>, k: u64, p: u64) -> bool
 impl<'a> Limit<'a> {
     ghost use Rattle.std.specs.Prelude.{◌≡◌, ◌&&◌, suc, ◌≤◌};
     ghost use Rattle.types.specs.Limits.{LAST};
-    ghost use Rattle.meaning.specs.Points.{allows_write, allows_read};
-    ghost use Rattle.common.specs.Commit.{own_locks, read_end};
+    ghost use Rattle.meaning.specs.Points.{allows, allows_write, allows_read};
+    ghost use Rattle.common.specs.Commit.{own_locks, read_end, recs_at};
 
     // The last point that it allows by what it has read: the one before the first that is under no own lock.
-    pub fn read_last(self) -> u64
+    // Kept: `from` is a word of an access, which may hold any number; each caller has compared it with a point.
+    pub(crate) fn read_last(self) -> u64
         requires { self.access.from ≤ LAST }
         ensures { suc result ≡ read_end (own_locks self.entry) self.entry.access }
     {
@@ -49,10 +50,7 @@ impl<'a> Limit<'a> {
             low: self.access.from,
             high: LAST,
         };
-        match first_free(self.named(), own, p) {
-            None => LAST,
-            Some(free) => free - 1,
-        }
+        first_free(self.named(), own, p).unwrap_or(LAST + 1) - 1
     }
 
     fn allows_write(self, p: u64) -> bool
@@ -61,11 +59,21 @@ impl<'a> Limit<'a> {
         self.access.value.is_none() || write_on(self.named(), self.owner(), p)
     }
 
+    // Kept: p ≤ LAST; the head of this file says why.
     fn allows_read(self, p: u64) -> bool
         requires { p ≤ LAST }
         ensures { result ≡ allows_read (own_locks self.entry) self.entry.access p }
     {
         self.access.from <= p && p <= self.read_last()
+    }
+
+    // Kept: p ≤ LAST; the head of this file says why.
+    #[tactic(auto, unfolding(meaning::specs::Points::allows))]
+    pub fn allows(self, p: u64) -> bool
+        requires { p ≤ LAST }
+        ensures { result ≡ allows (recs_at self.entry) self.entry.slot p self.entry.access }
+    {
+        self.allows_write(p) && self.allows_read(p)
     }
 }
 
@@ -77,25 +85,14 @@ impl<'a> CommonSet<'a> {
     ghost use Rattle.tables.specs.Views.{edit_in};
     ghost use Rattle.common.specs.Commit.{recs_in};
 
-    #[tactic(auto, unfolding(meaning::specs::Points::allows))]
-    pub fn allows(self, p: u64, a: Access) -> bool
-        requires { (a.rec < self.slot.tables.counts.records) × (p ≤ LAST) }
-        ensures { result ≡ allows (recs_in self.entry) self.entry.slot.number p a }
-    {
-        let l = Limit {
-            set: self,
-            access: a,
-        };
-        l.allows_write(p) && l.allows_read(p)
-    }
-
     // Kept: `all` is the generic; what stays is a line with the test.
+    // Kept: p ≤ LAST; the head of this file says why.
     fn all_allow(self, p: u64) -> bool
         requires { p ≤ LAST }
         ensures { result
             ≡ all (allows (recs_in self.entry) self.entry.slot.number p) (edit_in self.entry.slot).accesses }
     {
-        self.slot.accesses().all(|a| self.allows(p, a))
+        self.slot.accesses().all(|a| self.limit(a).allows(p))
     }
 
     #[tactic(auto, unfolding(meaning::specs::Points::in_common))]

@@ -1,11 +1,11 @@
 // The two ends of all points, each of which sees points by their distance from it, and what one access allows as an end
 // sees it. Rests on the crates `types`, `meaning`, `tables` and `blocking` and on the modules `sets` and `allowed`.
+// Kept, low and high: of a lock, any two words, or of what an access has read; each end reads one of the two.
 ghost use Rattle.std.specs.Prelude.{◌≡◌, ℕ, suc, ◌-◌};
 ghost use Rattle.types.specs.Limits.{LAST};
 ghost use Rattle.common.specs.Commit.{nearer};
 ghost use Rattle.common.specs.Ends.{Sees, low_near, low_far, high_near, high_far, low_sees, high_sees};
 
-// Kept, low and high: of a lock, any two words, or of what an access has read; each end reads one of the two.
 use crate::allowed::owns_write;
 use crate::sets::Limit;
 use types::{LAST, Lock};
@@ -20,9 +20,11 @@ pub trait End {
     ghost far: { ℕ → ℕ → ℕ };
 
     // The distances that low..high has: from `near` to `far`.
+    // Kept: low and high; the head of this file says why.
     fn near(low: u64, high: u64) -> u64
         ensures { result ≡ near low high };
 
+    // Kept: low and high; the head of this file says why.
     fn far(low: u64, high: u64) -> u64
         ensures { result ≡ far low high };
 
@@ -39,10 +41,12 @@ impl End for Low {
 
     ghost far = { low_far };
 
+    // Kept: low and high; the head of this file says why.
     fn near(low: u64, high: u64) -> u64 {
         low
     }
 
+    // Kept: low and high; the head of this file says why.
     fn far(low: u64, high: u64) -> u64 {
         LAST.min(high)
     }
@@ -60,10 +64,12 @@ impl End for High {
 
     ghost far = { high_far };
 
+    // Kept: low and high; the head of this file says why.
     fn near(low: u64, high: u64) -> u64 {
         (LAST + 1).saturating_sub(high)
     }
 
+    // Kept: low and high; the head of this file says why.
     fn far(low: u64, high: u64) -> u64 {
         LAST.min((LAST + 1).saturating_sub(low))
     }
@@ -77,10 +83,7 @@ fn nearer<E: End>(k: u64, d: u64, best: Option<u64>, l: Lock) -> Option<u64>
 {
     let start = d.max(E::near(l.low, l.high));
     if owns_write(k, l) && start <= E::far(l.low, l.high) {
-        return match best {
-            None => Some(start),
-            Some(b) => Some(b.min(start)),
-        };
+        return Some(best.map_or(start, |b| b.min(start)));
     }
     best
 }
@@ -90,7 +93,7 @@ impl<'a> Limit<'a> {
     ghost use Rattle.types.specs.Limits.{LAST};
     ghost use Rattle.meaning.specs.Points.{writes};
     ghost use Rattle.blocking.specs.Search.{upto};
-    ghost use Rattle.common.specs.Commit.{NextFrom, allows_at, own_locks, first_under, written_from, recs_in};
+    ghost use Rattle.common.specs.Commit.{NextFrom, allows_at, own_locks, first_under, written_from, recs_at};
 
     // The least distance at or above d of a point under a write lock of the edit.
     // Kept: `fold` is the generic; what stays is a line with the step.
@@ -114,10 +117,11 @@ impl<'a> Limit<'a> {
     }
 
     // The least distance at or above d of a point that it allows.
-    pub fn next_allowed<E: End>(self, d: u64) -> Option<u64>
+    // Kept: 1 ≤ d, d ≤ LAST: of a distance, as of p in `nearing`; a struct of it would be opened at each comparison.
+    pub(crate) fn next_allowed<E: End>(self, d: u64) -> Option<u64>
         requires { (1 ≤ d) × (d ≤ LAST) }
         ensures { NextFrom
-            (λ x. allows_at E.point (recs_in self.entry.set) self.entry.set.slot.number x self.entry.access) d result }
+            (λ x. allows_at E.point (recs_at self.entry) self.entry.slot x self.entry.access) d result }
     {
         let from = self.access.from;
         if LAST < from {

@@ -10,7 +10,7 @@ mod nearing;
 mod sets;
 
 pub use allowed::write_on;
-pub use sets::CommonSet;
+pub use sets::{CommonSet, Limit};
 
 // The least point that an edit may commit at.
 const LOWEST: u64 = 1;

@@ -15,6 +15,7 @@ pub const COUNTS: Counts = Counts {
 };
 
 // Where word o of a row stands; rows count from 1, and record r is row r + 1.
+// Kept: the sum of `chains::at`, which asks that the row lies in the words; here nothing is proved of any row.
 pub fn place<P: Part>(row: usize, o: usize) -> usize {
     let t = P::table(COUNTS);
     let before = row.saturating_sub(1).saturating_mul(t.stride);

@@ -191,6 +191,8 @@ pub fn commit(words: &mut [u64], s: &mut Session) -> Result<Option<Point>, Refus
 }
 
 // `read`, by value.
+// Kept: public, by value, since before; one function for the three would take a closure over two `&mut`, and each
+// would state again what that leaves.
 pub fn read_with(
     words: &mut [u64],
     mut s: Session,
@@ -203,6 +205,7 @@ pub fn read_with(
 }
 
 // `write`, by value.
+// Kept: as `read_with`.
 pub fn write_with(
     words: &mut [u64],
     mut s: Session,
@@ -216,6 +219,7 @@ pub fn write_with(
 }
 
 // `commit`, by value.
+// Kept: as `read_with`.
 pub fn commit_with(words: &mut [u64], mut s: Session) -> Step<Result<Option<Point>, Refusal>>
     ensures { Layer (desk_commit s) words.old words.new (of_commit_step result) }
 {

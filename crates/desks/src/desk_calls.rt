@@ -15,14 +15,15 @@ pub const WORDS: usize = 118;
 pub const HIGHEST: u64 = u64::MAX;
 
 // A store, and where what its calls do is printed. The empty slice is the one of no words.
+// Kept: `damage`, `generations` and `refusals` have one too; on a struct of a library `open` could be no method.
 #[derive(Drop)]
 pub struct Stage<'a, R, const N: usize> {
     pub rt: &'a R,
     pub words: [u64; N],
 }
 
-// Kept: its ends are two numbers, also such as are no points.
 // A session that no opening gave. Its width is never looked at.
+// Kept: the scenes give numbers; over points each of their many calls would say `Point::from` twice.
 pub fn made(handle: u64, low: u64, high: u64, setting: Setting) -> Session {
     Session {
         handle: Handle::from(handle),
@@ -49,6 +50,7 @@ impl<R: Print, const N: usize> Stage<'_, R, N> {
     }
 
     // A call of the store itself, or a Format.
+    // Kept: `generations` and `refusals` have the two statements too; one function of three arguments would be as long.
     pub fn step(&mut self, line: &str) -> io::Result<()> {
         let reply = answer(&mut self.words, N, line.as_bytes()).line;
         println!(self.rt; "{line}: {reply}")
@@ -132,6 +134,7 @@ impl<R: Print, const N: usize> Stage<'_, R, N> {
             Err(no) => self.print_reply(Err(no))?,
         }
         self.print_moved(&before)?;
+        // Kept: over an Option each scene would have to open it, also where what it shows is what follows a refusal.
         Ok(reply.unwrap_or(made(0, 1, 0, Setting::Earliest)))
     }
 
@@ -160,14 +163,6 @@ impl<R: Print, const N: usize> Stage<'_, R, N> {
         let step = crate::lending::commit(&mut self.words, s);
         let reply = step.reply.map(|point| Some(Granted::Commit(point)));
         self.print_step(&before, s, step.session, reply)
-    }
-
-    // Every call with a session that each refuses, and so leaves as it was.
-    pub fn try_three(&mut self, s: Session) -> io::Result<()> {
-        self.read(s, 0)?;
-        self.write(s, 0, 7)?;
-        self.commit(s)?;
-        Ok(())
     }
 
     // The same store again, for a call that shall not change this one.

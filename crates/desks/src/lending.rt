@@ -7,7 +7,7 @@ ghost use Rattle.desk.specs.Replies.{of_read_step, of_write_step, of_commit_step
 use desk::{Session, Step};
 use types::{Found, Point, Refusal};
 
-// Kept: it and the next two are `desk`'s functions by value once more, so that an edit can break each contract here.
+// Kept: as `write`; no public function with a contract goes.
 pub fn read(words: &mut [u64], s: Session, rec: u64) -> Step<Result<Option<Found>, Refusal>>
     ensures { Layer (desk_read s rec) words.old words.new (of_read_step result) }
 {
@@ -16,7 +16,7 @@ pub fn read(words: &mut [u64], s: Session, rec: u64) -> Step<Result<Option<Found
     Step { session: t, reply }
 }
 
-// Kept: the same.
+// Kept: two edits break contracts of this file, each keeps its place, and the scenes' own functions have no contract.
 pub fn write(words: &mut [u64], s: Session, rec: u64, value: u64) -> Step<Result<(), Refusal>>
     ensures { Layer (desk_write s rec value) words.old words.new (of_write_step result) }
 {
@@ -25,7 +25,7 @@ pub fn write(words: &mut [u64], s: Session, rec: u64, value: u64) -> Step<Result
     Step { session: t, reply }
 }
 
-// Kept: the same.
+// Kept: as `write`.
 pub fn commit(words: &mut [u64], s: Session) -> Step<Result<Option<Point>, Refusal>>
     ensures { Layer (desk_commit s) words.old words.new (of_commit_step result) }
 {

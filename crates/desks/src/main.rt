@@ -16,13 +16,17 @@ use types::LAST;
 
 // Refused with 6 while a slot is free. A begin made and taken back would show in the next handle.
 fn open_badly(d: &mut Stage<impl Print, WORDS>) -> io::Result<()> {
-    d.open(0, 4, Earliest)?;
-    d.open(LAST + 1, 0, Earliest)?;
-    d.open(HIGHEST, 0, Earliest)?;
-    d.open(LAST, 1, Earliest)?;
-    d.open(1, LAST, Earliest)?;
-    d.open(4, HIGHEST, Earliest)?;
-    d.open(HIGHEST, HIGHEST, Earliest)?;
+    for (t, width) in [
+        (0, 4),
+        (LAST + 1, 0),
+        (HIGHEST, 0),
+        (LAST, 1),
+        (1, LAST),
+        (4, HIGHEST),
+        (HIGHEST, HIGHEST),
+    ] {
+        d.open(t, width, Earliest)?;
+    }
     Ok(())
 }
 
@@ -52,7 +56,7 @@ fn working(d: &mut Stage<impl Print, WORDS>) -> io::Result<()> {
     let s = d.write(s, 0, 502)?;
     let s = d.commit(s)?;
     d.title("it has ended: 3")?;
-    d.try_three(s)?;
+    d.try_each(s)?;
     d.step("V 0 8")
 }
 
@@ -86,7 +90,7 @@ fn empty_at_version(d: &mut Stage<impl Print, WORDS>) -> io::Result<()> {
     d.commit(b)?;
     let c = d.open(4, 0, Earliest)?;
     let c = d.read(c, 0)?;
-    d.try_three(c)?;
+    d.try_each(c)?;
     d.step("A 193 S")
 }
 
@@ -117,15 +121,15 @@ fn refused_edit(d: &mut Stage<impl Print, WORDS>) -> io::Result<()> {
     d.read(s, 2)?;
     d.write(s, 2, 7)?;
     d.step("A 65 K")?;
-    d.try_three(s)?;
+    d.try_each(s)?;
     d.step("S 65")?;
-    d.try_three(s)?;
+    d.try_each(s)?;
     d.title("the same with a commit")?;
     let t = d.open(4, 4, Earliest)?;
     d.step("C 129 4 K")?;
-    d.try_three(t)?;
+    d.try_each(t)?;
     d.step("S 129")?;
-    d.try_three(t)
+    d.try_each(t)
 }
 
 fn refused_held(d: &mut Stage<impl Print, WORDS>) -> io::Result<()> {
@@ -238,7 +242,7 @@ fn refused_point(d: &mut Stage<impl Print, WORDS>) -> io::Result<()> {
     let b = d.open(4, 4, Latest)?;
     d.step("W 129 1 7")?;
     let b = d.commit(b)?;
-    d.try_three(b)?;
+    d.try_each(b)?;
     d.step("S 129")?;
     d.step("V 1 8")
 }

@@ -1,4 +1,4 @@
--- A kind that no other call has is View; the call of a row is that of its words. Rests on Encoding and Rows.
+-- A kind that no other call has is View; the call of a row is the one of its place. Rests on Encoding and Rows.
 use Prim.Native.Nat.{ℕ, zero, suc, ◌≤◌, ◌<◌}
 use native.Mathlib.Omega.{arith}
 use mathlib.Core.Path.{◌≡◌, refl, sym, ap, ◌∙◌}
@@ -7,7 +7,7 @@ use lib.ListN.{get_or, get_or-eq_default}
 use Rattle.std.specs.Simd.{first_chunks}
 use Rattle.types.specs.declared.Point.{Point}
 use Rattle.types.specs.declared.Call.TheVariants.{View}
-use Rattle.encoding.specs.Encoding.{CALL_WORDS, point_of, kinds, call_of, call_at}
+use Rattle.encoding.specs.Encoding.{CALL_WORDS, point_of, kinds, call_of, call_of_row, call_at}
 use Rattle.encoding.proofs.Rows.{chunk_at, chunk_first}
 
 -- none of the kinds below n
@@ -27,12 +27,9 @@ other_kind kind first second third fourth fifth r e =
     ∙ sym
     (get_or-eq_default (kinds first second third fourth fifth) (View first (point_of second)) (above 10 kind r))
 
-pub call_of_row : (xs : List ℕ) (n i : ℕ) → i < n
-    → (let row = get_or (first_chunks CALL_WORDS n xs) i [] in
-    call_of (get_or row 0 0) (get_or row 1 0) (get_or row 2 0) (get_or row 3 0) (get_or row 4 0) (get_or row 5 0))
-    ≡ call_at xs i
+pub row_at : (xs : List ℕ) (n i : ℕ) → i < n → call_of_row (get_or (first_chunks CALL_WORDS n xs) i []) ≡ call_at xs i
 unfolding call_at
-call_of_row xs n i h =
+row_at xs n i h =
     let at = λ (k : ℕ) (l : k < CALL_WORDS). chunk_at CALL_WORDS n i k xs h l in
     rw (
       chunk_first CALL_WORDS n i xs h (omega arith),

@@ -45,10 +45,15 @@ unfoldable pub call_of : ℕ → ℕ → ℕ → ℕ → ℕ → ℕ → Call
 call_of kind first second third fourth fifth =
     get_or (kinds first second third fourth fifth) kind (C.View first (point_of second))
 
--- call i of a list, and the first n calls
 abbrev pub word_at : List ℕ → ℕ → ℕ
 word_at list i = get_or list i 0
 
+-- the call of a row
+abbrev pub call_of_row : List ℕ → Call
+call_of_row row =
+    call_of (word_at row 0) (word_at row 1) (word_at row 2) (word_at row 3) (word_at row 4) (word_at row 5)
+
+-- call i of a list, and the first n calls
 unfoldable pub call_at : List ℕ → ℕ → Call
 call_at list i =
     let at = i * CALL_WORDS in

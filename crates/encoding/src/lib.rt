@@ -6,7 +6,7 @@
 ghost use Rattle.std.specs.Prelude.{◌+◌, ◌*◌, ◌≤◌, ◌≡◌, length};
 ghost use Rattle.std.proofs.lemmas.List.Edits.{sets};
 ghost use Rattle.types.specs.Replies.{of_answer};
-ghost use Rattle.encoding.specs.Encoding.{NUMBERS, CALL_WORDS, REPLY_WORDS, call_of, call_at, row_of};
+ghost use Rattle.encoding.specs.Encoding.{NUMBERS, CALL_WORDS, REPLY_WORDS, call_of_row, call_at, row_of};
 
 use codes::{bits, extent, finish, mark, refusal};
 use telling::{NOPOINT, found};
@@ -19,56 +19,53 @@ pub const CALL_WORDS: usize = 1 + NUMBERS;
 
 pub const REPLY_WORDS: usize = 1 + NUMBERS;
 
-// The call of a kind, with its numbers in the order of document 01's script line. Any other kind is View, which changes
-// nothing.
+// The call of a row: its kind, and its numbers in the order of document 01's script line. Any other kind is View, which
+// changes nothing.
 // Kept: the kinds are numbers of the C interface.
 #[tactic(auto, using(crate::proofs::Decoding::other_kind), unfolding(crate::specs::Encoding::call_of))]
-fn call_of(kind: u64, first: u64, second: u64, third: u64, fourth: u64, fifth: u64) -> Call
-    ensures { result ≡ call_of kind first second third fourth fifth }
+fn call_of(row: [u64; CALL_WORDS]) -> Call
+    ensures { result ≡ call_of_row row }
 {
-    match kind {
+    match row {
         // Kept: as above, the C header numbers the kinds.
-        0 => Call::Begin,
-        1 => Call::Write(Handle::from(first), second, third),
-        2 => Call::Lock(
-            Handle::from(first),
-            second,
-            Point::from(third),
-            Point::from(fourth),
-            extent(fifth),
+        [0, ..] => Call::Begin,
+        [1, h, rec, value, ..] => Call::Write(Handle::from(h), rec, value),
+        [2, h, rec, low, high, part] => Call::Lock(
+            Handle::from(h),
+            rec,
+            Point::from(low),
+            Point::from(high),
+            extent(part),
         ),
-        3 => Call::Read(
-            Handle::from(first),
-            second,
-            Point::from(third),
-            extent(fourth),
+        [3, h, rec, m, part, ..] => {
+            Call::Read(Handle::from(h), rec, Point::from(m), extent(part))
+        }
+        [4, h, keep, ..] => Call::Commit(Handle::from(h), Pick::Earliest, finish(keep)),
+        [5, h, keep, ..] => Call::Commit(Handle::from(h), Pick::Latest, finish(keep)),
+        [6, h, at, keep, ..] => Call::Commit(
+            Handle::from(h),
+            Pick::Named(Point::from(at)),
+            finish(keep),
         ),
-        4 => Call::Commit(Handle::from(first), Pick::Earliest, finish(second)),
-        5 => Call::Commit(Handle::from(first), Pick::Latest, finish(second)),
-        6 => Call::Commit(
-            Handle::from(first),
-            Pick::Named(Point::from(second)),
-            finish(third),
-        ),
-        7 => Call::Abort(Handle::from(first), finish(second)),
-        8 => Call::Settle(Handle::from(first)),
-        9 => Call::Purge(first, Point::from(second)),
-        _ => Call::View(first, Point::from(second)),
+        [7, h, keep, ..] => Call::Abort(Handle::from(h), finish(keep)),
+        [8, h, ..] => Call::Settle(Handle::from(h)),
+        [9, rec, b, ..] => Call::Purge(rec, Point::from(b)),
+        [_, rec, p, ..] => Call::View(rec, Point::from(p)),
     }
 }
 
 // Call i of a list.
-// Kept: a row is taken by `as_chunks` and taken apart by a pattern; `[i]` only names the row.
+// Kept: by a number, since the reply's row is put by that number (`put_row`).
 pub fn call_at(list: &[u64], i: usize) -> Call
     requires { (i + 1) * CALL_WORDS ≤ length list.now }
     ensures { result ≡ call_at list.now i }
 {
-    let [kind, first, second, third, fourth, fifth] = list.as_chunks::<CALL_WORDS>().0[i];
-    call_of(kind, first, second, third, fourth, fifth)
+    call_of(list.as_chunks::<CALL_WORDS>().0[i])
 }
 
 // The row of an answer.
-// Kept: a match on the answer's cases, as `rendering::line_of_answer`; no arm here makes what an arm there makes.
+// Kept: C's row of an answer; no arm here makes what one of `value_replies::line_of_granted` makes, and an array has
+// no From here.
 pub fn row_of(a: Result<Granted, Refusal>) -> [u64; REPLY_WORDS]
     ensures { result ≡ row_of NUMBERS (of_answer a) }
 {
@@ -89,7 +86,7 @@ pub fn row_of(a: Result<Granted, Refusal>) -> [u64; REPLY_WORDS]
 }
 
 // Puts a row of any width at a place.
-// Kept: it is the library's copy; the name says once what the range and the row are.
+// Kept: the library says nothing of a slice after `as_chunks_mut`; so a row is put by its number.
 pub fn put_row<const N: usize>(area: &mut [u64], at: usize, row: [u64; N])
     requires { at + N ≤ length area.old }
     ensures { area.new ≡ sets area.old at row.entry }

@@ -2,13 +2,17 @@
 // Rests on the crates `types`, `meaning`, `chains`, `tables`, `changes`, `slots`, `lookups`, `index` and `calls`. They
 // are for callers who prove the words sound (`requires sound_words`), as those of the crate `calls`. No call here looks
 // at more than the chains it touches; Settle looks once at the locks of each record that the edit may have touched.
-// Kept, words and counts: lent to be changed; over a struct of both each would promise, too, that they stay (BORROWS).
+// Kept, words and counts: lent to be changed; over a struct of both each would promise, too, that they stay (Rattle's
+// docs/BORROWS.md).
 // Kept, Well c w: of words before a change; a ghost field would say it of the words after it, which is each promise.
-// Kept, Ready c w: `Well` and more, of words before a change.
-// Kept, sound_words: what a caller proves once for many calls, of words that each call changes.
+// Kept, Ready c w: `Well` and more, of words before a change; a ghost field would say it of the words after it.
+// Kept, sound words: what a caller proves once for many calls, of words that each call changes.
 // Kept, Indexed: between words that change and an index, which C callers lend one beside the other.
 // Kept, words and index: two memories that C callers lend, one of them to be changed.
-// Kept, finish and index: the call's own flag, and the memory that C callers lend.
+// Kept, finish and index: the call's own flag, and the memory that C callers lend. Contracts say them apart, as the
+// meaning does, so that a struct of both would be opened in each.
+// Kept, IsRow c.edits k: of `index.slot`; an `IndexOf` has no counts, which stand beside the words.
+// Kept, in_use: what `known_slot` found, or the change before has made, of words that change.
 // Kept, state ≡ OPEN: what `open_slot` found, of words that change.
 #![tactic(auto)]
 
@@ -31,7 +35,7 @@ mod each;
 pub use each::{Step, each_access};
 use index::IndexOf;
 use tables::{Row, Slot, Tables};
-use types::{Access, COMMITTED, Counts, Finish, Handle, READ, Refusal, State, WRITE};
+use types::{ABORTED, Access, COMMITTED, Counts, Finish, Handle, READ, Refusal, WRITE};
 
 // Settle.
 
@@ -48,6 +52,7 @@ impl Step for Leave {
 
     ghost need = { λ s. LeaveNeed };
 
+    // Kept: words and counts; the head of this file says why.
     fn turn(self, w: &mut [u64], c: Counts, i: usize) {
         let tables = Tables {
             words: w,
@@ -65,6 +70,7 @@ impl Step for Leave {
 }
 
 // The slot's locks go from record r, if there is such a record and the index does not say that the slot has none there.
+// Kept: words and counts, IsRow c.edits k, Indexed, Well c w; the head of this file says why.
 fn free_turn(w: &mut [u64], c: Counts, index: IndexOf<'_>, r: usize)
     requires { Well c w.old × IsRow c.edits index.slot × Indexed (decode_at c w.old) index.numbers.now }
     ensures { Freed index.entry.slot c index.entry.numbers.now w.old w.new r }
@@ -75,6 +81,7 @@ fn free_turn(w: &mut [u64], c: Counts, index: IndexOf<'_>, r: usize)
 }
 
 // The slot's locks go, from every record that it may have touched.
+// Kept: words and counts, IsRow c.edits k, Indexed, Well c w; the head of this file says why.
 fn free_locks(w: &mut [u64], c: Counts, index: IndexOf<'_>)
     requires { Well c w.old × IsRow c.edits index.slot × Indexed (decode_at c w.old) index.numbers.now }
     ensures { Becomes c w.new (freed_all index.entry.slot (decode_at c w.old)) }
@@ -86,6 +93,7 @@ fn free_locks(w: &mut [u64], c: Counts, index: IndexOf<'_>)
 
 // The slot's own locks go first, so that there is a row for each that is left. A committed edit leaves settled locks,
 // an aborted one nothing.
+// Kept: words and counts, in_use, Indexed, Ready c w; the head of this file says why.
 fn settle_slot(w: &mut [u64], c: Counts, index: IndexOf<'_>)
     requires { Ready c w.old × (in_use (decode_at c w.old).edits index.slot ≡ true)
         × Indexed (decode_at c w.old) index.numbers.now }
@@ -108,6 +116,7 @@ fn settle_slot(w: &mut [u64], c: Counts, index: IndexOf<'_>)
 
 // S settles at the end, K keeps the locks.
 // Kept: the flag of the call comes from outside, so one match is needed, and this is it.
+// Kept: words and counts, finish and index, in_use, Indexed, Ready c w; the head of this file says why.
 pub fn finish_slot(w: &mut [u64], c: Counts, finish: Finish, index: IndexOf<'_>)
     requires { Ready c w.old × (in_use (decode_at c w.old).edits index.slot ≡ true)
         × Indexed (decode_at c w.old) index.numbers.now }
@@ -119,6 +128,7 @@ pub fn finish_slot(w: &mut [u64], c: Counts, finish: Finish, index: IndexOf<'_>)
     }
 }
 
+// Kept: words and index, Indexed, sound words; the head of this file says why.
 pub fn settle(w: &mut [u64], h: Handle, ix: &[u16]) -> Result<(), Refusal>
     requires { (sound_words (lent w.old) ≡ true) × Indexed (decode (lent w.old)) ix.now }
     ensures { Acts (settling h.0) (lent w.old) (lent w.new) (of_done result) }
@@ -142,16 +152,18 @@ pub fn settle(w: &mut [u64], h: Handle, ix: &[u16]) -> Result<(), Refusal>
 
 // Abort, and Commit of an edit without a common point.
 
+// Kept: words and counts, finish and index, state ≡ OPEN, Indexed, Ready c w; the head of this file says why.
 pub fn end_aborted(w: &mut [u64], c: Counts, finish: Finish, index: IndexOf<'_>)
     requires { Ready c w.old × ((edit_at (decode_at c w.old) index.slot).state ≡ OPEN)
         × Indexed (decode_at c w.old) index.numbers.now }
     ensures { Becomes c w.new
         (finished finish (aborted (decode_at c w.old) index.entry.slot) index.entry.slot) }
 {
-    slots::set_state(w, c, index.slot, State::Aborted, 0);
+    slots::set_state(w, c, index.slot, ABORTED, 0);
     finish_slot(w, c, finish, index);
 }
 
+// Kept: words and index, finish and index, Indexed, sound words; the head of this file says why.
 pub fn abort(w: &mut [u64], h: Handle, finish: Finish, ix: &[u16]) -> Result<(), Refusal>
     requires { (sound_words (lent w.old) ≡ true) × Indexed (decode (lent w.old)) ix.now }
     ensures { Acts (aborting h.0 finish) (lent w.old) (lent w.new) (of_done result) }

@@ -1,6 +1,8 @@
 // The calls of a session: each does what its public call does, without the check. For callers who leave words and index
 // alone between the opening and the last call, which is what `requires` says. Rests on the crates `types`, `meaning`,
 // `codes`, `verdicts`, `telling` and `opened`.
+// Kept, Opened: a fact of two arrays that C lends, which a struct over `&mut` words cannot hold while they change
+// Kept, sound words: the same of the words alone
 ghost use Rattle.std.specs.Prelude.{◌≡◌, true, [], ◌∷◌};
 ghost use Rattle.meaning.specs.Edits.{beginning, writing};
 ghost use Rattle.meaning.specs.Locking.{locking, reading};
@@ -25,6 +27,7 @@ pub extern "C" fn zohetiwa_open(words: &[u64], index: &mut [u16]) -> u64
 }
 
 // Kept: the C header asks for it: the reply is a number, each value at a pointer; words and index two arrays.
+// Kept: Opened; the head of this file says why.
 #[unsafe(no_mangle)]
 pub extern "C" fn zohetiwa_in_begin(words: &mut [u64], index: &mut [u16], handle: &mut u64) -> u64
     requires { Opened words.old index.old }
@@ -37,6 +40,7 @@ pub extern "C" fn zohetiwa_in_begin(words: &mut [u64], index: &mut [u16], handle
 }
 
 // Kept: the C header asks for it: the reply is a number; words and index two arrays.
+// Kept: Opened; the head of this file says why.
 #[unsafe(no_mangle)]
 pub extern "C" fn zohetiwa_in_write(
     words: &mut [u64],
@@ -54,6 +58,7 @@ pub extern "C" fn zohetiwa_in_write(
 }
 
 // Kept: the C header asks for it: reply and flag are numbers, each value at a pointer; words and index two arrays.
+// Kept: Opened; the head of this file says why.
 #[unsafe(no_mangle)]
 pub extern "C" fn zohetiwa_in_lock(
     words: &mut [u64],
@@ -80,6 +85,7 @@ pub extern "C" fn zohetiwa_in_lock(
 }
 
 // Kept: the C header asks for it: reply and flag are numbers, each value at a pointer; words and index two arrays.
+// Kept: Opened; the head of this file says why.
 #[unsafe(no_mangle)]
 pub extern "C" fn zohetiwa_in_read(
     words: &mut [u64],
@@ -107,7 +113,9 @@ pub extern "C" fn zohetiwa_in_read(
 }
 
 // Commit at a choice of the point.
-// Kept: it is passed what the C functions below are lent, as they are lent it.
+// Kept: it takes C's numbers, words and index, so that `Handle::from` and `codes::finish` are said once for the three
+// below.
+// Kept: Opened; the head of this file says why.
 fn commit(
     words: &mut [u64],
     index: &mut [u16],
@@ -133,6 +141,7 @@ fn commit(
 }
 
 // Kept: the C header asks for it: reply and flag are numbers, each value at a pointer; words and index two arrays.
+// Kept: Opened; the head of this file says why.
 #[unsafe(no_mangle)]
 pub extern "C" fn zohetiwa_in_commit_earliest(
     words: &mut [u64],
@@ -151,6 +160,7 @@ pub extern "C" fn zohetiwa_in_commit_earliest(
 }
 
 // Kept: the C header asks for it: reply and flag are numbers, each value at a pointer; words and index two arrays.
+// Kept: Opened; the head of this file says why.
 #[unsafe(no_mangle)]
 pub extern "C" fn zohetiwa_in_commit_latest(
     words: &mut [u64],
@@ -169,6 +179,7 @@ pub extern "C" fn zohetiwa_in_commit_latest(
 }
 
 // Kept: the C header asks for it: reply and flag are numbers, each value at a pointer; words and index two arrays.
+// Kept: Opened; the head of this file says why.
 #[unsafe(no_mangle)]
 pub extern "C" fn zohetiwa_in_commit_at(
     words: &mut [u64],
@@ -195,6 +206,7 @@ pub extern "C" fn zohetiwa_in_commit_at(
 }
 
 // Kept: the C header asks for it: reply and flag are numbers; words and index two arrays.
+// Kept: Opened; the head of this file says why.
 #[unsafe(no_mangle)]
 pub extern "C" fn zohetiwa_in_abort(
     words: &mut [u64],
@@ -211,6 +223,7 @@ pub extern "C" fn zohetiwa_in_abort(
 }
 
 // Kept: the C header asks for it: the reply is a number; words and index two arrays.
+// Kept: Opened; the head of this file says why.
 #[unsafe(no_mangle)]
 pub extern "C" fn zohetiwa_in_settle(words: &mut [u64], index: &mut [u16], handle: u64) -> u64
     requires { Opened words.old index.old }
@@ -222,6 +235,7 @@ pub extern "C" fn zohetiwa_in_settle(words: &mut [u64], index: &mut [u16], handl
 }
 
 // Kept: the C header asks for it: the reply is a number, each value at a pointer; words and index two arrays.
+// Kept: Opened; the head of this file says why.
 #[unsafe(no_mangle)]
 pub extern "C" fn zohetiwa_in_purge(
     words: &mut [u64],
@@ -241,6 +255,7 @@ pub extern "C" fn zohetiwa_in_purge(
 }
 
 // Kept: the C header asks for it: the reply is a number, each value at a pointer.
+// Kept: sound words; the head of this file says why.
 #[unsafe(no_mangle)]
 pub extern "C" fn zohetiwa_in_view(
     words: &[u64],

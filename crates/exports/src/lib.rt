@@ -137,7 +137,7 @@ pub extern "C" fn zohetiwa_read(
 }
 
 // Commit at a choice of the point.
-// Kept: it is passed what the C functions below are lent, as they are lent it.
+// Kept: it takes C's numbers, so that `Handle::from` and `codes::finish` are said once for the three below.
 fn commit(words: &mut [u64], handle: u64, pick: Pick, keep: u64, point: &mut u64) -> u64
     ensures { Answers (Does (committing handle pick (finish_of keep)) words.old words.new) result
         (point.old ∷ [])

@@ -1,6 +1,6 @@
 -- What the methods of `Fields` promise: which fields are left, and what follows from the one that was read. Rests on
 -- Fields.
-use Rattle.std.specs.Prelude.{ℕ, Bool, cond, List, [], ◌∷◌, eqb, Option, Some, None}
+use Rattle.std.specs.Prelude.{ℕ, Bool, cond, List, [], ◌∷◌, eqb, Option, Some, None, ◌≡◌, ⊤}
 use denote.Ref.{Bor}
 use Rattle.texts.specs.Text.{SPACE}
 use Rattle.fields.specs.Fields.{Parsed, fields, is_number, value}
@@ -32,3 +32,14 @@ after (Some x) fs next = next x fs
 abbrev pub after_letter : Option ℕ → List (List ℕ) → Parsed → (ℕ → List (List ℕ) → Parsed) → Parsed
 after_letter None fs other next = other
 after_letter (Some b) fs other next = next b fs
+
+-- where nothing was read, the fields that are left are as they were
+abbrev pub KeepsUnread : {A : Type 0} → Option A → List (List ℕ) → List (List ℕ) → Type 0
+KeepsUnread None before now = now ≡ before
+KeepsUnread (Some x) before now = ⊤
+
+-- what a read of a kind, `Read`, found in the next field; where it found something, the fields after that one are left
+abbrev pub Taken : {A : Type 0} → (List ℕ → Option A → Type 0) → List (List ℕ) → Option A → List (List ℕ) → Type 0
+Taken Read [] found now = found ≡ None
+Taken Read (f ∷ fs) None now = Read f None
+Taken Read (f ∷ fs) (Some x) now = Read f (Some x) × (now ≡ fs)

@@ -7,7 +7,9 @@ ghost use Rattle.std.specs.Prelude.{◌≡◌, ◌<◌, ◌∷◌, [], ℕ, List
 ghost use Rattle.fields.specs.Fields.{Parsed, fields, number as number·of, letter_or, done as done·of};
 ghost use Rattle.fields.specs.Kinds.{ExtentNext, FinishNext, PickNext, extent as extent·of, finish as finish·of};
 ghost use Rattle.fields.specs.Kinds.{pick as pick·of};
-ghost use Rattle.fields.specs.Reads.{after, after_letter, number_of, letter_of, is_space};
+ghost use Rattle.fields.specs.Reads.{after, after_letter, number_of, letter_of, is_space, fields_of_rest, KeepsUnread};
+ghost use Rattle.fields.specs.Reads.{Taken};
+ghost use Rattle.std.specs.Fn.{FnReturnsAt};
 ghost use Rattle.std.specs.List.{position_from};
 
 use std::marker::Model;
@@ -21,8 +23,8 @@ pub enum Command {
     Call(Call),
 }
 
-// The fields of a line that are not read yet: those of the bytes after the last space that was passed, or none. After a
-// `None` the line is malformed, so no promise says which fields are left then.
+// The fields of a line that are not read yet: those of the bytes after the last space that was passed, or none. A read
+// that gives `None` leaves them as they were.
 #[derive(Drop)]
 pub struct Fields<'a> {
     rest: Option<&'a [u8]>,
@@ -46,6 +48,7 @@ fn first_space(bytes: &[u8]) -> Option<usize>
 }
 
 // The number that a field is.
+// Kept: the library's `parse` takes a `+` before the digits, which is no number here.
 #[tactic(auto, using(crate::proofs::Digits::number_steps))]
 fn number_in(field: &[u8]) -> Option<u64>
     ensures { result ≡ number_of field.now }
@@ -73,6 +76,45 @@ fn letter_in(field: &[u8]) -> Option<u8>
     }
 }
 
+// The flag A or P that a field is.
+// Kept: a TryFrom of a letter would stand in `types`, which knows no lines.
+#[tactic(auto, unfolding(crate::specs::Kinds::extent, crate::specs::Fields::letter_or))]
+fn extent_in(field: &[u8]) -> Option<Extent>
+    ensures { (fs : List (List ℕ)) (next : ExtentNext) → extent·of (field.now ∷ fs) next ≡ after result fs next }
+{
+    match letter_in(field)? {
+        b'A' => Some(Extent::All),
+        b'P' => Some(Extent::Part),
+        _ => None,
+    }
+}
+
+// The flag S or K that a field is.
+// Kept: as `extent_in`; one function for both flags would take as arguments the four words that its `match` says.
+#[tactic(auto, unfolding(crate::specs::Kinds::finish, crate::specs::Fields::letter_or))]
+fn finish_in(field: &[u8]) -> Option<Finish>
+    ensures { (fs : List (List ℕ)) (next : FinishNext) → finish·of (field.now ∷ fs) next ≡ after result fs next }
+{
+    match letter_in(field)? {
+        b'S' => Some(Finish::Settle),
+        b'K' => Some(Finish::Keep),
+        _ => None,
+    }
+}
+
+// The pick that a field is: E, L or a named point.
+// Kept: as `extent_in`; it takes a letter or a number.
+#[tactic(auto, unfolding(crate::specs::Kinds::pick, crate::specs::Fields::letter_or, crate::specs::Fields::number))]
+fn pick_in(field: &[u8]) -> Option<Pick>
+    ensures { (fs : List (List ℕ)) (next : PickNext) → pick·of (field.now ∷ fs) next ≡ after result fs next }
+{
+    Some(match letter_in(field) {
+        Some(b'E') => Pick::Earliest,
+        Some(b'L') => Pick::Latest,
+        _ => Pick::Named(Point::from(number_in(field)?)),
+    })
+}
+
 impl<'a> Fields<'a> {
     // All the fields of a line: an empty line has one, and it is empty.
     pub fn new(line: &'a [u8]) -> Self
@@ -81,80 +123,79 @@ impl<'a> Fields<'a> {
         Fields { rest: Some(line) }
     }
 
-    // The next field, whatever it is.
+    // The next field, whatever it is, and the bytes after the space that ends it.
     #[tactic(auto, using(crate::proofs::Cuts::cuts))]
-    fn field(&mut self) -> Option<&'a [u8]>
-        ensures { MatchOption result (self.old ≡ []) (λ f. self.old ≡ f.now ∷ self.new) }
+    fn split(&self) -> Option<(&'a [u8], Option<&'a [u8]>)>
+        ensures { MatchOption result (self.now ≡ []) (λ s. self.now ≡ s.0.now ∷ fields_of_rest s.1) }
     {
         let rest = self.rest?;
         match first_space(rest) {
-            Some(i) => {
-                self.rest = Some(&rest[i + 1..]);
-                Some(&rest[..i])
-            }
-            None => {
-                self.rest = None;
-                Some(rest)
-            }
+            Some(i) => Some((&rest[..i], Some(&rest[i + 1..]))),
+            None => Some((rest, None)),
         }
+    }
+
+    // What is read in the next field, if anything is.
+    fn take<T, F: Fn(&[u8]) -> Option<T>>(&mut self, read: F) -> Option<T>
+        requires { F.IsAlwaysCallable read }
+        ensures read { Taken (FnReturnsAt F.Fn read) self.old result self.new }
+        ensures kept { KeepsUnread result self.old self.new }
+    {
+        let (field, rest) = self.split()?;
+        let found = read(field)?;
+        self.rest = rest;
+        Some(found)
     }
 
     // The number that is the next field.
-    // Kept: the library's `parse` takes a `+` before the digits, which no field has.
+    // Kept: `take` is the generic function, and the line shows what is read in the field.
     #[tactic(auto, unfolding(crate::specs::Fields::number))]
     pub fn number(&mut self) -> Option<u64>
-        ensures { (next : ℕ → List (List ℕ) → Parsed) → number·of self.old next ≡ after result self.new next }
+        ensures read { (next : ℕ → List (List ℕ) → Parsed) → number·of self.old next ≡ after result self.new next }
+        ensures kept { KeepsUnread result self.old self.new }
     {
-        number_in(self.field()?)
+        self.take(number_in)
     }
 
     // The one byte that is the next field.
+    // Kept: `take` is the generic function, and the line shows what is read in the field.
     #[tactic(auto, unfolding(crate::specs::Fields::letter_or))]
     pub fn letter(&mut self) -> Option<u8>
-        ensures { (other : Parsed) (next : ℕ → List (List ℕ) → Parsed)
+        ensures read { (other : Parsed) (next : ℕ → List (List ℕ) → Parsed)
             → letter_or self.old other next ≡ after_letter result self.new other next }
+        ensures kept { KeepsUnread result self.old self.new }
     {
-        letter_in(self.field()?)
+        self.take(letter_in)
     }
 
     // The flag A or P.
-    // Kept: a TryFrom of a letter would stand in `types`, which knows no lines.
-    #[tactic(auto, unfolding(crate::specs::Kinds::extent))]
+    // Kept: `take` is the generic function, and the line shows what is read in the field.
+    #[tactic(auto, unfolding(crate::specs::Kinds::extent, crate::specs::Fields::letter_or))]
     pub fn extent(&mut self) -> Option<Extent>
-        ensures { (next : ExtentNext) → extent·of self.old next ≡ after result self.new next }
+        ensures read { (next : ExtentNext) → extent·of self.old next ≡ after result self.new next }
+        ensures kept { KeepsUnread result self.old self.new }
     {
-        match self.letter()? {
-            b'A' => Some(Extent::All),
-            b'P' => Some(Extent::Part),
-            _ => None,
-        }
+        self.take(extent_in)
     }
 
     // The flag S or K.
-    // Kept: the same; one function for both flags would take as arguments the four words that its `match` says.
-    #[tactic(auto, unfolding(crate::specs::Kinds::finish))]
+    // Kept: `take` is the generic function, and the line shows what is read in the field.
+    #[tactic(auto, unfolding(crate::specs::Kinds::finish, crate::specs::Fields::letter_or))]
     pub fn finish(&mut self) -> Option<Finish>
-        ensures { (next : FinishNext) → finish·of self.old next ≡ after result self.new next }
+        ensures read { (next : FinishNext) → finish·of self.old next ≡ after result self.new next }
+        ensures kept { KeepsUnread result self.old self.new }
     {
-        match self.letter()? {
-            b'S' => Some(Finish::Settle),
-            b'K' => Some(Finish::Keep),
-            _ => None,
-        }
+        self.take(finish_in)
     }
 
     // E, L or a named point.
-    // Kept: the same.
+    // Kept: `take` is the generic function, and the line shows what is read in the field.
     #[tactic(auto, unfolding(crate::specs::Kinds::pick, crate::specs::Fields::letter_or, crate::specs::Fields::number))]
     pub fn pick(&mut self) -> Option<Pick>
-        ensures { (next : PickNext) → pick·of self.old next ≡ after result self.new next }
+        ensures read { (next : PickNext) → pick·of self.old next ≡ after result self.new next }
+        ensures kept { KeepsUnread result self.old self.new }
     {
-        let field = self.field()?;
-        match letter_in(field) {
-            Some(b'E') => Some(Pick::Earliest),
-            Some(b'L') => Some(Pick::Latest),
-            _ => Some(Pick::Named(Point::from(number_in(field)?))),
-        }
+        self.take(pick_in)
     }
 
     // The command that was read, if no field is left.

@@ -4,7 +4,6 @@ use mathlib.Core.Path.{◌≡◌, refl, ap, ◌∙◌}
 use mathlib.Core.Bool.{true}
 use mathlib.Core.List.{List, ◌++◌}
 use native.Mathlib.Omega.{arith}
-use native.Mathlib.Numerals.{add-one}
 use lib.ListN.{length, set, replicate, length-set}
 use lib.Seq.{sets}
 use lib.Dec.{eqb}
@@ -47,31 +46,41 @@ pub next_end : (n i : ℕ) → n ≤ i → 0 ≡ next_free n i
 unfolding next_free
 next_end n i l = rw (le-ltb i n l) refl
 
--- the first i rows are linked
+-- the rows before i are linked
 pub linked_size : (t : Table) (m : ℕ) (w : List ℕ) → length (linked_to t m w) ≡ length w
 unfolding linked_to
 linked_size t zero w = refl
 linked_size t (suc m) w = length-set (linked_to t m w) _ _ ∙ linked_size t m w
 
 pub record Linking (t : Table) (w₀ : List ℕ) (i : ℕ) (w : List ℕ) : Type 0 where
-  pub upto : i ≤ t.count
+  pub from : 1 ≤ i
+  pub upto : i ≤ suc t.count
   pub size : length w ≡ length w₀
-  pub words : w ≡ linked_to t i w₀
+  pub words : w ≡ linked_to t (i - 1) w₀
 
-pub link_start : (t : Table) (w : List ℕ) → Linking t w 0 w
+pub link_start : (t : Table) (w : List ℕ) → Linking t w 1 w
 unfolding linked_to
-link_start t w = record { upto = omega arith; size = refl; words = refl }
+link_start t w = record { from = omega arith; upto = omega arith; size = refl; words = refl }
 
-pub link_again : {t : Table} {w₀ : List ℕ} {i : ℕ} {w w' : List ℕ} {x : ℕ} → Linking t w₀ i w → i < t.count
-    → x ≡ next_free t.count (i + 1) → w' ≡ set w (place t (i + 1) t.off) x → Linking t w₀ (i + 1) w'
+pub link_again : {t : Table} {w₀ : List ℕ} (i : ℕ) {w w' : List ℕ} {x : ℕ} → Linking t w₀ i w → i ≤ t.count
+    → x ≡ next_free t.count i → w' ≡ set w (place t i t.off) x → Linking t w₀ (i + 1) w'
 unfolding linked_to
-link_again {t} {w₀} {i} {w} {w'} {x} v l e p =
-    let o : w' ≡ linked_to t (suc i) w₀ = p ∙ rw (e, v.words, add-one) refl in
-    rw add-one (record { upto = omega arith; size = ap length o ∙ linked_size t (suc i) w₀; words = o })
+link_again zero v l e p = absurd (omega (arith, v.from))
+link_again {t} {w₀} (suc m) {w} {w'} {x} v l e p =
+    let before : suc m - 1 ≡ m = omega arith in
+    let now : suc m ≡ suc m + 1 - 1 = omega arith in
+    let u : w ≡ linked_to t m w₀ = v.words ∙ ap (λ k. linked_to t k w₀) before in
+    let o : w' ≡ linked_to t (suc m) w₀ = p ∙ rw (e, u) refl in
+    record {
+      from = omega arith;
+      upto = omega arith;
+      size = ap length o ∙ linked_size t (suc m) w₀;
+      words = o ∙ ap (λ k. linked_to t k w₀) now;
+    }
 
-pub link_done : {t : Table} {w₀ : List ℕ} {i : ℕ} {w : List ℕ} → Linking t w₀ i w → t.count ≤ i → w ≡ linked t w₀
+pub link_done : {t : Table} {w₀ : List ℕ} {i : ℕ} {w : List ℕ} → Linking t w₀ i w → t.count < i → w ≡ linked t w₀
 unfolding linked
-link_done {t} {w₀} {i} v l = let e : i ≡ t.count = omega (arith, v.upto) in v.words ∙ ap (λ k. linked_to t k w₀) e
+link_done {t} {w₀} {i} v l = let e : i - 1 ≡ t.count = omega (arith, v.upto) in v.words ∙ ap (λ k. linked_to t k w₀) e
 
 pub link_lies : {t : Table} {w₀ : List ℕ} {i : ℕ} {w : List ℕ} → Linking t w₀ i w → Lies t w₀ → Lies t w
 link_lies v l = record { inside = omega (arith, l.inside, v.size); within = l.within }

@@ -23,6 +23,8 @@ fn format_fits(n: usize, c: Counts) -> bool
 }
 
 // The counts, and row 1 as the first of each free chain.
+// Kept: the one writer of the counts; no derive knows offsets (its counterpart is tables::counts_of).
+// Kept: words and counts; the head of this file says why.
 fn write_header(w: &mut [u64], c: Counts)
     requires { HEADER ≤ length w.old }
     ensures { w.new ≡ sets w.old 0 (header_words c) }
@@ -52,11 +54,12 @@ fn link_rows(w: &mut [u64], t: Table)
     requires { Lies t w.old }
     ensures { w.new ≡ linked t w.old }
 {
-    for i in 0..t.count {
-        chains::put(w, t, i + 1, t.off, next_free(t.count, i + 1));
+    for i in 1..=t.count {
+        chains::put(w, t, i, t.off, next_free(t.count, i));
     }
 }
 
+// Kept: words and counts, Ranged c; the head of this file says why.
 fn lay_out(w: &mut [u64], c: Counts)
     requires { Ranged c × (length w.old ≡ size_of c) }
     ensures { w.new ≡ formatted_words c }
@@ -69,6 +72,7 @@ fn lay_out(w: &mut [u64], c: Counts)
 }
 
 // Format: refused with 16 if a count is out of range or the slice has not the length that the counts ask for.
+// Kept: words and counts; the head of this file says why.
 pub fn format(words: &mut [u64], counts: Counts) -> Result<(), Refusal>
     ensures { Formats counts words.old words.new (of_done result) }
 {

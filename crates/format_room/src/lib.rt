@@ -5,20 +5,17 @@
 ghost use Rattle.std.specs.Prelude.{◌≡◌};
 ghost use Rattle.format_room.specs.Room.{words_for};
 
-use types::{Counts, Refusal};
+use types::Counts;
 
-// How many words Format is lent: as many as the counts ask for. Where they are out of range, or ask for more than there
-// is room, Format is refused.
-pub fn words_for(c: Counts, room: usize) -> Result<usize, Refusal>
+// How many words Format is lent: as many as the counts ask for, or none where they are out of range or ask for more
+// than there is room. Lent none, Format refuses with 16.
+// Kept: usize since c74ac5d; a Result would ask callers to take it apart. Format refuses with 16 on no words.
+pub fn words_for(c: Counts, room: usize) -> usize
     ensures { result ≡ words_for room c }
 {
     if !tables::good_counts(c) {
-        return Err(Refusal::BadFormat);
+        return 0;
     }
     let n = tables::size_of(c);
-    if n <= room {
-        Ok(n)
-    } else {
-        Err(Refusal::BadFormat)
-    }
+    if n <= room { n } else { 0 }
 }

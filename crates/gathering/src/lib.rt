@@ -9,7 +9,7 @@ use std::fmt;
 use std::marker::Model;
 
 // Puts one more byte after the held ones, if the buffer has room for it, and answers how many are held.
-// Kept: a lent buffer of any length, which `Bytes` is not; its method is this function on its own memory.
+// Kept: it was public over a buffer of any length; `Bytes` would ask callers for memory of its own size.
 pub fn gather(line: &mut [u8], held: usize, b: u8) -> usize
     requires { held ≤ length line.old }
     ensures { (result ≤ length line.new)

@@ -44,6 +44,7 @@ const NEW: [&str; 11] = [
 ];
 
 // A store, and where what its calls do is printed.
+// Kept: `desks` and others have one too; on a struct of a library a program's own calls could not be methods.
 #[derive(Drop)]
 struct Stage<'a, R> {
     rt: &'a R,
@@ -51,11 +52,13 @@ struct Stage<'a, R> {
 }
 
 impl<R: Print> Stage<'_, R> {
+    // Kept: a line; each program has a Stage of its own, and this is what its title looks like.
     fn title(&self, text: &str) -> io::Result<()> {
         println!(self.rt; "-- {text}")
     }
 
     // Runs each line, and prints it with its answer.
+    // Kept: `desks` and `refusals` have the two statements too; one function of three arguments would be as long.
     fn run(&mut self, lines: &[&str]) -> io::Result<()> {
         for line in lines {
             let reply = answer(&mut self.words, WORDS, line.as_bytes()).line;
@@ -64,6 +67,7 @@ impl<R: Print> Stage<'_, R> {
         Ok(())
     }
 
+    // Kept: `churn` says it in these words too; a function of both would be as long as this one.
     fn verdict(&self) -> &'static str {
         if soundness::check(&self.words) {
             "sound"

@@ -3,8 +3,14 @@
 // `UNKNOWN` is right of every store. The calls only read it; `begun` and `touch` keep it after them. Rests on the
 // crates `types`, `meaning`, `chains`, `tables` and `lookups`. A caller proves that slots and records are in range.
 // Kept, index and slot: numbers lent to be changed; a struct of both would have to promise that they stay lent.
-// Kept, k < SLOTS: of what changes the numbers; for what reads them `IndexOf` holds it.
+// Kept, k < SLOTS: for what reads, `IndexOf` holds it; for what changes the numbers, which that borrows, a struct of
+// the one number would be made for one call.
+// Kept, r < MARKS: one number, which `touch` tested or the tables bound; a struct of it would be made for one call.
+// Kept, r < c.records: no words in it; a struct of counts and number would be made for one call.
+// Kept, Indexed: between words that change and an index, which C callers lend one beside the other.
 // Kept, length ix ≡ INDEX: what `mark` and `clear` have tested, of numbers that change.
+// Kept, places: `LISTS + k * LIST` and `k * MARKS + r` as they stand. A function for each was tried: its contract says
+// the same sum, its calls ask for k < SLOTS again, and the proofs of seven functions would rewrite by it.
 // Kept, handle and record: the parameters of the calls that touch a record, in document 01.
 #![tactic(auto)]
 
@@ -24,6 +30,7 @@ use types::{Handle, MAX_RECORDS, Refusal, SLOTS};
 // and 63 places for them.
 const MARKS: usize = MAX_RECORDS;
 
+// Kept: places; the head of this file says why.
 const LISTS: usize = SLOTS as usize * MARKS;
 
 const LISTED: u16 = 63;
@@ -47,6 +54,8 @@ pub struct IndexOf<'a> {
 
 impl<'a> IndexOf<'a> {
     // Whether it says that the slot has not touched record r.
+    // Kept: no search: the mark stands at its place in numbers that C callers lend, where a map would need a heap.
+    // Kept: r < MARKS; the head of this file says why.
     pub fn silent(self, r: usize) -> bool
         requires { r < MARKS }
         ensures { result ≡ silent self.entry.numbers.now self.entry.slot r }
@@ -92,6 +101,7 @@ pub fn forget(ix: &mut [u16])
 }
 
 // The row of the slot's access of record r; the words are walked where the index does not say that there is none.
+// Kept: r < c.records, Indexed; the head of this file says why.
 pub fn access_row(s: Slot<'_>, r: u64, ix: &[u16]) -> Option<usize>
     requires { (r < s.tables.counts.records) × Indexed (store_in s.tables) ix.now }
     ensures { AccessRow s.entry.tables.counts s.entry.tables.words.now s.entry.number r result }
@@ -108,6 +118,7 @@ pub fn access_row(s: Slot<'_>, r: u64, ix: &[u16]) -> Option<usize>
 
 // Record r comes to slot k's list, which is given up where it is full.
 // Kept: the list and its length are numbers in the memory that C callers lend.
+// Kept: index and slot, k < SLOTS, r < MARKS, length ix ≡ INDEX; the head of this file says why.
 fn add(ix: &mut [u16], k: usize, r: usize)
     requires { (length ix.old ≡ INDEX) × (k < SLOTS) × (r < MARKS) }
     ensures { Added ix.old ix.new k r }
@@ -122,6 +133,7 @@ fn add(ix: &mut [u16], k: usize, r: usize)
 }
 
 // Slot k touches record r.
+// Kept: index and slot, k < SLOTS, r < MARKS; the head of this file says why.
 fn mark(ix: &mut [u16], k: usize, r: usize)
     requires { (k < SLOTS) × (r < MARKS) }
     ensures { Marked ix.old ix.new k r }
@@ -137,6 +149,7 @@ fn mark(ix: &mut [u16], k: usize, r: usize)
 }
 
 // The mark of slot k and record r goes, if there can be such a record.
+// Kept: index and slot, k < SLOTS, length ix ≡ INDEX; the head of this file says why.
 fn unmark(ix: &mut [u16], k: usize, r: usize)
     requires { (length ix.old ≡ INDEX) × (k < SLOTS) }
     ensures { Unmarked ix.old ix.new k r }
@@ -147,6 +160,7 @@ fn unmark(ix: &mut [u16], k: usize, r: usize)
 }
 
 // The marks of slot k's list go.
+// Kept: index and slot, k < SLOTS, length ix ≡ INDEX; the head of this file says why.
 fn wipe_listed(ix: &mut [u16], k: usize)
     requires { (length ix.old ≡ INDEX) × (k < SLOTS) }
     ensures { Wiped ix.old ix.new k (turns ix.old k MARKS) }
@@ -168,6 +182,7 @@ fn wipe_listed(ix: &mut [u16], k: usize)
 
 // All marks of slot k go: the same where no list is kept, and quicker than turn by turn.
 // Kept: `fill` is the method for it.
+// Kept: index and slot, k < SLOTS, length ix ≡ INDEX; the head of this file says why.
 fn wipe_all(ix: &mut [u16], k: usize)
     requires { (length ix.old ≡ INDEX) × (k < SLOTS) × (known ix.old k ≡ false) }
     ensures { Wiped ix.old ix.new k (turns ix.old k MARKS) }
@@ -176,7 +191,8 @@ fn wipe_all(ix: &mut [u16], k: usize)
 }
 
 // All marks of slot k that are set go.
-// Kept: one `if`, with two ways that change the numbers.
+// Kept: one `if` with two ways: a list names the marks that are set, and where none is kept any of them may be.
+// Kept: index and slot, k < SLOTS, length ix ≡ INDEX; the head of this file says why.
 fn wipe(ix: &mut [u16], k: usize)
     requires { (length ix.old ≡ INDEX) × (k < SLOTS) }
     ensures { Wiped ix.old ix.new k (turns ix.old k MARKS) }
@@ -193,6 +209,7 @@ fn wipe(ix: &mut [u16], k: usize)
 }
 
 // Slot k is new: it has touched no record.
+// Kept: index and slot, k < SLOTS; the head of this file says why.
 fn clear(ix: &mut [u16], k: usize)
     requires { k < SLOTS }
     ensures { Cleared ix.old ix.new k }
@@ -204,6 +221,7 @@ fn clear(ix: &mut [u16], k: usize)
 }
 
 // Write, Lock and Read, granted or not: the edit of the handle touches the record, if there can be such a record.
+// Kept: handle and record; the head of this file says why.
 pub fn touch(ix: &mut [u16], h: Handle, rec: u64)
     ensures { Touched ix.old ix.new h.0 rec }
 {

@@ -8,6 +8,8 @@ use Rattle.fields.specs.Fields.{Parsed, Malformed, fields, number, done}
 use Rattle.fields.specs.Kinds.{Fields, handle, point, letter, extent, finish, pick}
 use Rattle.fields.specs.declared.Command.TheVariants as P
 use Rattle.types.specs.declared.Counts.{Counts}
+use Rattle.types.specs.declared.Call.{Call}
+use Rattle.types.specs.declared.Point.{Point}
 use Rattle.types.specs.declared.Call.TheVariants as C
 
 abbrev pub counts : ℕ → ℕ → ℕ → ℕ → ℕ → Counts
@@ -44,6 +46,10 @@ aborting fs = number fs (λ h fs. finish fs (λ f fs. done fs (Some (P.Call (C.A
 
 unfoldable pub settling : Fields → Parsed
 settling fs = number fs (λ h fs. done fs (Some (P.Call (C.Settle (handle h)))))
+
+-- a record and a point, and what call is made of the two
+unfoldable pub recording : (ℕ → Point → Call) → Fields → Parsed
+recording made fs = number fs (λ r fs. number fs (λ p fs. done fs (Some (P.Call (made r (point p))))))
 
 unfoldable pub purging : Fields → Parsed
 purging fs = number fs (λ r fs. number fs (λ b fs. done fs (Some (P.Call (C.Purge r (point b))))))

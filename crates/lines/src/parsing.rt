@@ -1,7 +1,9 @@
 // The calls, one function for each letter, and the whole line. Rests on the crates `types` and `fields`.
-ghost use Rattle.std.specs.Prelude.{◌≡◌};
+ghost use Rattle.std.specs.Prelude.{◌≡◌, ℕ};
 ghost use Rattle.lines.specs.Calls.{formatting, beginning, writing, locking, reading, committing, aborting};
-ghost use Rattle.lines.specs.Calls.{settling, purging, viewing, called as called·of, parsed};
+ghost use Rattle.lines.specs.Calls.{settling, recording, called as called·of, parsed};
+ghost use Rattle.types.specs.declared.Point.{Point as ThePoint};
+ghost use Rattle.types.specs.declared.Call.{Call as TheCall};
 
 use crate::LONGEST;
 use fields::{Command, Fields};
@@ -88,26 +90,20 @@ fn abort(fields: &mut Fields<'_>) -> Option<Command>
     fields.done(Command::Call(Call::Abort(h, f)))
 }
 
-// P record b
-// Kept: what it shares with `abort` and `view` is a `?` at each of its fields.
-#[tactic(auto, unfolding(crate::specs::Calls::purging))]
-fn purge(fields: &mut Fields<'_>) -> Option<Command>
-    ensures { result ≡ purging fields.old }
-{
-    let r = fields.number()?;
-    let b = Point::from(fields.number()?);
-    fields.done(Command::Call(Call::Purge(r, b)))
-}
-
-// V record p
-// Kept: the same.
-#[tactic(auto, unfolding(crate::specs::Calls::viewing))]
-fn view(fields: &mut Fields<'_>) -> Option<Command>
-    ensures { result ≡ viewing fields.old }
+// P record b, and V record p: the letter's call is made of the two.
+#[tactic(auto, unfolding(crate::specs::Calls::recording))]
+fn of_record_and_point<F: Fn(u64, Point) -> Call>(
+    fields: &mut Fields<'_>,
+    call: F,
+) -> Option<Command>
+    requires { F.IsAlwaysCallable call }
+    ensures { (made : ℕ → ThePoint → TheCall)
+        → ((r : ℕ) (p : ThePoint) (c : TheCall) → F.post call r p c → c ≡ made r p)
+        → result ≡ recording made fields.old }
 {
     let r = fields.number()?;
     let p = Point::from(fields.number()?);
-    fields.done(Command::Call(Call::View(r, p)))
+    fields.done(Command::Call(call(r, p)))
 }
 
 // S handle
@@ -134,8 +130,8 @@ fn called(letter: u8, fields: &mut Fields<'_>) -> Option<Command>
         b'C' => commit(fields),
         b'A' => abort(fields),
         b'S' => settle(fields),
-        b'P' => purge(fields),
-        b'V' => view(fields),
+        b'P' => of_record_and_point(fields, Call::Purge),
+        b'V' => of_record_and_point(fields, Call::View),
         _ => None,
     }
 }

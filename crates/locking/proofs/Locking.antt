@@ -3,9 +3,8 @@ use Prim.Native.Nat.{ℕ, ◌≤◌, ◌<◌}
 use mathlib.Core.Path.{◌≡◌, refl, sym, ap, ◌∙◌}
 use mathlib.Core.Bool.{true, false, ◌&&◌}
 use mathlib.Core.List.{List, []}
-use native.Mathlib.Omega.{arith}
 use lib.Dec.{leb, ltb}
-use borrow.Author.Tests.{ltb-true, lt-ltb, le-ltb, le-leb, lt-leb}
+use borrow.Author.Tests.{ltb-true, lt-ltb, le-ltb, le-leb}
 use Rattle.types.specs.Limits.{LAST, WRITE}
 use Rattle.meaning.specs.Store.{Rec, rec_at}
 use Rattle.types.specs.Numbers.{slot_of}
@@ -71,7 +70,7 @@ module _ (c : Counts) (w : List ℕ) (R : Ready c w) (k r low high : ℕ) (x : E
         (locked from end) B.well B.means
         (lock_done (decode_at c w) k r low high x from end (granted f) h) refl)
 
--- the call: its words from..to are the points low..high
+-- the call
 module _ (c : Counts) (w : List ℕ) (hs : sound_words (lent w) ≡ true) (e : c ≡ counts_of w) (h r low high : ℕ)
     (x : Extent) where
   abbrev Ends : List ℕ → Reply → Type 0
@@ -92,42 +91,32 @@ module _ (c : Counts) (w : List ℕ) (hs : sound_words (lent w) ≡ true) (e : c
     locked_no_record t = refuses NoRecord
         (lock_no_record (decode_at c w) h r low high x k o (sym (has_record_is c w r) ∙ t))
 
-    module _ (t : ltb r c.records ≡ true) (from to : ℕ) (a : from ≡ low) (b : to ≡ high) where
+    module _ (t : ltb r c.records ≡ true) where
       there : has_record (decode_at c w) r ≡ true
       there = sym (has_record_is c w r) ∙ t
 
-      pub locked_crossed : to < from → Ends w (refusing 6 [])
-      locked_crossed l =
-          refuses BadPoint (lock_bad_point (decode_at c w) h r low high x k o there
-          (rw (lt-leb low high (omega arith))))
+      pub locked_bad_point : (leb low high && leb high LAST) ≡ false → Ends w (refusing 6 [])
+      locked_bad_point l = refuses BadPoint (lock_bad_point (decode_at c w) h r low high x k o there l)
 
-      module _ (order : from ≤ to) where
-        pub locked_too_large : LAST < to → Ends w (refusing 6 [])
-        locked_too_large l =
-            refuses BadPoint (lock_bad_point (decode_at c w) h r low high x k o there
-            (rw (le-leb low high (omega arith), lt-leb high LAST (omega arith))))
+      module _ (order : low ≤ high) (last : high ≤ LAST) where
+        in_order : leb low high && leb high LAST ≡ true
+        in_order = and_in (le-leb low high order) (le-leb high LAST last)
 
-        module _ (last : to ≤ LAST) (floor : ℕ) (f : floor ≡ (record_at c w r).floor) where
-          in_order : leb low high && leb high LAST ≡ true
-          in_order = and_in (le-leb low high (omega arith)) (le-leb high LAST (omega arith))
+        floor_is : (record_at c w r).floor ≡ (rec_at (decode_at c w) r).floor
+        floor_is = ap (λ (y : Rec). y.floor) (sym (rec_at_lem c w r (ltb-true r c.records t)))
 
-          floor_is : floor ≡ (rec_at (decode_at c w) r).floor
-          floor_is = f ∙ ap (λ (y : Rec). y.floor) (sym (rec_at_lem c w r (ltb-true r c.records t)))
+        pub locked_below_lem : low ≤ (record_at c w r).floor → Ends w (refusing 7 [])
+        locked_below_lem l =
+            refuses BelowFloor (lock_below (decode_at c w) h r low high x k o there in_order
+            (le-ltb (rec_at (decode_at c w) r).floor low (rw floor_is at l)))
 
-          pub locked_below_lem : from ≤ floor → Ends w (refusing 7 [])
-          locked_below_lem l =
-              let i = floor_is in
-              refuses BelowFloor (lock_below (decode_at c w) h r low high x k o there in_order
-              (le-ltb (rec_at (decode_at c w) r).floor low (omega arith)))
-
-          pub lock_acts : floor < from → (w' : List ℕ) (q : Reply) (j : ℕ) → j ≡ slot_of h
-              → Makes c (lock_wanted (decode_at c w) j r from to x) w w' q → Ends w' q
-          lock_acts l w' q j i M =
-              let n = floor_is in
-              let same : lock_wanted (decode_at c w) j r from to x ≡ lock_wanted (decode_at c w)
-              (slot_of h) r low high x =
-              rw (i, a, b) in
-              acts (locking h r low high x) (lock_keeps h r low high x) c w w' q hs e
-              (makes_as c w (lock_passes (decode_at c w) h r low high x k o there in_order
-              (lt-ltb (rec_at (decode_at c w) r).floor low (omega arith))
-              ∙ sym same) M)
+        pub lock_acts : (record_at c w r).floor < low → (w' : List ℕ) (q : Reply) (j from to : ℕ) → j ≡ slot_of h
+            → from ≡ low → to ≡ high → Makes c (lock_wanted (decode_at c w) j r from to x) w w' q → Ends w' q
+        lock_acts l w' q j from to i a b M =
+            let same : lock_wanted (decode_at c w) j r from to x ≡ lock_wanted (decode_at c w)
+            (slot_of h) r low high x =
+            rw (i, a, b) in
+            acts (locking h r low high x) (lock_keeps h r low high x) c w w' q hs e
+            (makes_as c w (lock_passes (decode_at c w) h r low high x k o there in_order
+            (lt-ltb (rec_at (decode_at c w) r).floor low (rw floor_is at l))
+            ∙ sym same) M)

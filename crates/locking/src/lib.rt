@@ -1,11 +1,16 @@
 // Lock on sound words: equal to its definition in the crate `meaning`, and leaving sound words. For callers who prove
 // the words sound (`requires sound_words`), as the calls of `calls`. It goes along one record's locks. Rests on the
 // crates `types`, `meaning`, `locks`, `chains`, `tables`, `changes`, `lookups`, `blocking` and `calls`.
-// Kept, words and counts: lent to be changed; over a struct of both each would promise, too, that they stay (BORROWS).
-// Kept, Ready c w: `Well` and more, of words before a change.
-// Kept, IsRow c.edits k: of words that change; a `Slot` borrows them, so it ends at the first change.
-// Kept, r < c.records: of words that change; a `Record` borrows them, so it ends at the first change.
-// Kept, sound_words: what a caller proves once for many calls, of words that each call changes.
+// Kept, words and counts: lent to be changed; over a struct of both each would promise, too, that they stay (Rattle's
+// docs/BORROWS.md).
+// Kept, Ready c w: `Well` and more, of words before a change; a ghost field would say it of the words after it.
+// Kept, Ready of tables: as a field of `Tables` it would be asked for by the check of words, too, which makes `Tables`
+// before it has found them sound; a struct beside it would hold the same two again.
+// Kept, IsRow c.edits k: no words in it; a struct of counts and number would be made anew at each call, and where a
+// slot goes with a record, two would have to be said to have the same counts.
+// Kept, r < c.records: no words in it, for the same reason.
+// Kept, sound words: what a caller proves once for many calls, of words that each call changes.
+// Kept, 1 ≤ k: of one number, which `blocking::run` asks; a struct of it would be made for that one use.
 // Kept, handle and record: the parameters of the call in document 01.
 #![tactic(auto)]
 
@@ -25,42 +30,41 @@ ghost use Rattle.calls.specs.Grants.{lock_grant};
 use blocking::{Blocked, Points, Which};
 use locks::Asker;
 use tables::{Record, Tables};
-use types::{Counts, Extent, Handle, LAST, Lock, Mode, Point, Refusal, Span, WRITE};
+use types::{Counts, Extent, Handle, Lock, Point, Refusal, Span, WRITE};
 
 // P of Lock where the first point is blocked, with judgement b: the run from the first free point, if there is one.
-// Kept: the end goes over from the points asked for to the rest of them, a field, with a new start.
+// Kept: `..p` is refused for a struct with ghost fields.
+// Kept: Ready of tables, 1 ≤ k; the head of this file says why.
 fn later_grant(r: Record<'_>, k: u64, p: Points, b: Blocked) -> Result<(u64, u64), Blocked>
     requires { Ready r.tables.counts r.tables.words.now × (1 ≤ k)
         × (Err b ≡ run_grant Part (store_in r.tables) r.number WRITE k p.low p.high) }
     ensures { result ≡ lock_grant Part (store_in r.entry.tables) k r.entry.number p.low p.high }
 {
     let a = Asker {
-        mode: Mode::Write,
+        mode: WRITE,
         slot: k,
     };
-    match blocking::first_free(r, Which::Against(a), p) {
-        None => Err(b),
-        Some(from) => {
-            let rest = Points {
-                low: from,
-                high: p.high,
-            };
-            blocking::run(r, a, rest, Extent::Part)
-        }
-    }
+    let from = blocking::first_free(r, Which::Against(a), p).ok_or(b)?;
+    let rest = Points {
+        low: from,
+        high: p.high,
+    };
+    blocking::run(r, a, rest, Extent::Part)
 }
 
 // Kept: all or a part is the caller's word; only a part goes on from the first free point.
+// Kept: Ready of tables, 1 ≤ k; the head of this file says why.
+// Kept: tried as `or_else`: of its closure nothing is inferred, and with its clause written out it is no plainer.
 fn lock_grant(r: Record<'_>, k: u64, p: Points, extent: Extent) -> Result<(u64, u64), Blocked>
     requires { Ready r.tables.counts r.tables.words.now × (1 ≤ k) }
     ensures { result ≡ lock_grant extent (store_in r.entry.tables) k r.entry.number p.low p.high }
 {
     let a = Asker {
-        mode: Mode::Write,
+        mode: WRITE,
         slot: k,
     };
     match blocking::run(r, a, p, extent) {
-        Ok((from, end)) => Ok((from, end)),
+        Ok(points) => Ok(points),
         Err(b) => match extent {
             Extent::All => Err(b),
             Extent::Part => later_grant(r, k, p, b),
@@ -69,6 +73,8 @@ fn lock_grant(r: Record<'_>, k: u64, p: Points, extent: Extent) -> Result<(u64, 
 }
 
 // Lock, once its first tests have passed: one lock row for the points granted.
+// Kept: words and counts, IsRow c.edits k, Ready c w, r < c.records; the head of this file says why.
+// Kept: tried as `map_err`: of its closure nothing is inferred, and with its clause written out it is no plainer.
 fn lock_wanted(
     w: &mut [u64],
     c: Counts,
@@ -112,6 +118,7 @@ fn lock_wanted(
 }
 
 // The call Lock.
+// Kept: handle and record, sound words; the head of this file says why.
 pub fn lock(
     w: &mut [u64],
     h: Handle,
@@ -131,17 +138,9 @@ pub fn lock(
     let k = calls::open_slot(tables, h)?;
     let r = calls::record(c, rec)?;
     let from = u64::from(low);
-    let to = u64::from(high);
-    if to < from {
-        return Err(Refusal::BadPoint);
-    }
-    if LAST < to {
-        return Err(Refusal::BadPoint);
-    }
+    let to = calls::point(from, high)?;
     let x = Record { tables, number: r };
-    if from <= x.floor() {
-        return Err(Refusal::BelowFloor);
-    }
+    calls::above_floor(x, from)?;
     let p = Points {
         low: from,
         high: to,

@@ -6,32 +6,32 @@ ghost use Rattle.std.specs.Prelude.{◌≡◌, suc, leb};
 ghost use Rattle.meaning.specs.Points.{covers, is_settled_read, touches};
 ghost use Rattle.meaning.specs.Sound.{starts_read};
 
-use types::{Lock, Mode, READ, SETTLED, WRITE};
+use types::{Lock, READ, SETTLED, WRITE};
 
 // Who asks for points: a slot, and the mode that it wants them in.
 #[derive(Clone, Copy)]
 pub struct Asker {
-    pub mode: Mode,
+    // Kept: any number may be asked for, as it always could; an enum of two modes would ask more of callers.
+    pub mode: u64,
     pub slot: u64,
 }
 
 impl Asker {
     ghost use Rattle.std.specs.Prelude.{◌≡◌};
     ghost use Rattle.meaning.specs.Points.{conflicts, blocks};
-    ghost use Rattle.types.specs.Kinds.{mode_number};
 
     // A lock of another owner would stand in the way of this mode.
     #[tactic(auto, unfolding(meaning::specs::Points::conflicts))]
     pub fn conflicts(self, l: Lock) -> bool
-        ensures { result ≡ conflicts (mode_number self.mode) l }
+        ensures { result ≡ conflicts self.mode l }
     {
-        self.mode == Mode::Write || l.mode == WRITE
+        self.mode == WRITE || l.mode == WRITE
     }
 
     // The lock stands in the way: another owner has it, and it conflicts.
     #[tactic(auto, unfolding(meaning::specs::Points::blocks))]
     pub fn blocked_by(self, l: Lock) -> bool
-        ensures { result ≡ blocks (mode_number self.mode) self.slot l }
+        ensures { result ≡ blocks self.mode self.slot l }
     {
         l.owner != self.slot && self.conflicts(l)
     }
@@ -67,7 +67,7 @@ fn adjoins(end: u64, start: u64) -> bool
 }
 
 // A settled read lock that overlaps or adjoins low..high.
-// Kept: the two ends are any words, of a lock that is joined or of points asked for: no type of both has a fact.
+// Kept: two ends of the points that a settle leaves; a struct of them would be made for this test and opened in it.
 pub fn touches(low: u64, high: u64, l: Lock) -> bool
     ensures { result ≡ touches low high l }
 {

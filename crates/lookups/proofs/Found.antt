@@ -18,6 +18,7 @@ use Rattle.types.specs.declared.Counts.{Counts}
 use Rattle.tables.specs.Layout.{access_table, access_heads, A_RECORD}
 use Rattle.tables.proofs.Chained.{found_some}
 use Rattle.tables.specs.Decode.{access_at, access_rows, accesses_of, slot_at, AccessRow}
+use Rattle.lookups.specs.Accesses.{RowIn}
 
 -- what a test says of a value it says of the entry that the value is
 pub of_entry : {A : Type 0} (t : A → Bool) {x y : A} {b : Bool} → x ≡ y → t x ≡ b → t y ≡ b
@@ -76,11 +77,11 @@ module _ (c : Counts) (w : List ℕ) (k r : ℕ) where
   pub access_found : {i : ℕ} → AccessRow c w k r (Some i) → access_at c w i ≡ access_of (slot_at c w k) r
   access_found e = access_entry e
 
-  pub access_is_row : {i : ℕ} → AccessRow c w k r (Some i) → IsRow c.accesses i
+  pub access_row_in : {i : Option ℕ} → AccessRow c w k r i → RowIn c i
   unfolding access_rows rows_of chain access_table
-  access_is_row e =
+  access_row_in e row is =
       found_row (λ j. is_of r (access_at c w j)) (link (access_table c) w) c.accesses c.accesses
-      (head_of (access_heads c) w k) e
+      (head_of (access_heads c) w k) (sym is ∙ e)
 
   pub access_named : {i : Option ℕ} → AccessRow c w k r i → names (slot_at c w k) r ≡ is_some i
   unfolding names slot_at accesses_of

@@ -8,7 +8,7 @@ use mathlib.Core.List.{List}
 use native.Mathlib.Omega.{arith}
 use lib.Dec.{leb, eqb}
 use borrow.Author.Tests.{leb-true, leb-false, le-leb, lt-leb, eqb-true, eqb-false, eq-eqb, ne_eqb, not-false}
-use Rattle.std.specs.Prelude.{Some, None}
+use Rattle.std.specs.Prelude.{Option, Some, None, MatchOption}
 use Rattle.chains.specs.Walk.{IsRow}
 use Rattle.types.specs.Limits.{FREE, OPEN}
 use Rattle.meaning.specs.Store.{Edit, fresh_edit, edit_of, in_use}
@@ -67,11 +67,11 @@ module _ (t : Tables) (h : ℕ) where
   slot_used k {q} e l d n =
       rw e at (sym (used_is t.counts t.words.now k l d) ∙ ap not (ne_eqb q FREE n))
 
-  pub known_none : SlotOf t h None → false ≡ knows (store_in t) h
+  known_none : SlotOf t h None → false ≡ knows (store_in t) h
   unfolding knows decode_at
   known_none d = rw d refl
 
-  pub open_none : SlotOf t h None → false ≡ is_open (store_in t) h
+  open_none : SlotOf t h None → false ≡ is_open (store_in t) h
   unfolding is_open decode_at in_use
   open_none d =
       let k : ℕ = slot_of h in
@@ -86,14 +86,30 @@ module _ (t : Tables) (h : ℕ) where
     unfolding decode_at
     row = used_row t.counts t.words.now (slot_of h) (sym d.2) refl
 
-    pub known_some : {g j : ℕ} → g ≡ (edit_in s).generation → j ≡ generation_of h → eqb g j ≡ knows (store_in t) h
+    known_some : {g j : ℕ} → g ≡ (edit_in s).generation → j ≡ generation_of h → eqb g j ≡ knows (store_in t) h
     unfolding knows decode_at
     known_some e f =
         rw (d.2, edit_of_lem t.counts t.words.now (slot_of h) row, ← d.0, ← d.1, e, f) refl
 
-    pub open_some : {q : ℕ} → q ≡ (edit_in s).state → eqb q OPEN ≡ is_open (store_in t) h
+    open_some : {q : ℕ} → q ≡ (edit_in s).state → eqb q OPEN ≡ is_open (store_in t) h
     unfolding is_open decode_at
     open_some e = rw (edit_of_lem t.counts t.words.now (slot_of h) row, ← d.0, ← d.1, e) refl
+
+  -- what is asked of the slot, if there is one; A s says what the closure answered of it
+  module _ (o : Option Slot) {q : Bool} {A : Slot → Type 0} (d : SlotOf t h o) (m : MatchOption o (q ≡ false) A) where
+    pub known_of : ((s : Slot) → A s → q ≡ eqb (edit_in s).generation (generation_of h)) → q ≡ knows (store_in t) h
+    known_of f = go o d m
+      where
+        go : (o : Option Slot) → SlotOf t h o → MatchOption o (q ≡ false) A → q ≡ knows (store_in t) h
+        go None d m = m ∙ known_none d
+        go (Some s) d m = f s m ∙ known_some s d refl refl
+
+    pub open_of : ((s : Slot) → A s → q ≡ eqb (edit_in s).state OPEN) → q ≡ is_open (store_in t) h
+    open_of f = go o d m
+      where
+        go : (o : Option Slot) → SlotOf t h o → MatchOption o (q ≡ false) A → q ≡ is_open (store_in t) h
+        go None d m = m ∙ open_none d
+        go (Some s) d m = f s m ∙ open_some s d refl
 
 -- the lowest free one of slots built from a function
 free_at : (n k : ℕ) (f : ℕ → Edit) (j : ℕ) → j < n → ((i : ℕ) → i < j → (f i).state ≡ FREE → ⊥) → (f j).state ≡ FREE

@@ -27,20 +27,14 @@ fn slot_of<'a>(t: Tables<'a>, h: Handle) -> Option<Slot<'a>>
 pub fn known(t: Tables<'_>, h: Handle) -> bool
     ensures { result ≡ knows (store_in t.entry) h.0 }
 {
-    match slot_of(t, h) {
-        Some(s) => s.generation() == h.generation(),
-        None => false,
-    }
+    slot_of(t, h).is_some_and(|s| s.generation() == h.generation())
 }
 
 // Kept: `slot_of` is what it shares with `known`; what is asked of the slot is a line in each.
 pub fn is_open(t: Tables<'_>, h: Handle) -> bool
     ensures { result ≡ is_open (store_in t.entry) h.0 }
 {
-    match slot_of(t, h) {
-        Some(s) => s.state() == OPEN,
-        None => false,
-    }
+    slot_of(t, h).is_some_and(|s| s.state() == OPEN)
 }
 
 // The lowest free slot.

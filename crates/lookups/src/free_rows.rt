@@ -1,5 +1,7 @@
 // Rooms: whether a table has the free rows that a change takes. On well-formed words, whose free chain holds every row
 // that no other chain has. Rests on the crates `types`, `meaning`, `chains` and `tables`.
+// Kept, Well of tables: of words that are only read, these three alone ask it; a second type beside `Tables` would be
+// made at each call of them.
 ghost use Rattle.std.specs.Prelude.{◌≡◌, true, ◌+◌, length, leb};
 ghost use Rattle.chains.specs.Partition.{partition, used};
 ghost use Rattle.meaning.specs.Store.{written_of};
@@ -8,7 +10,6 @@ ghost use Rattle.tables.specs.Words.{Well};
 ghost use Rattle.tables.specs.Views.{store_in, edit_in};
 ghost use Rattle.lookups.specs.Accesses.{RoomBeside};
 
-use chains::Placed;
 use tables::{Row, Slot, Tables};
 use types::{Access, Lock, Version};
 
@@ -19,13 +20,10 @@ fn has_free<R: Row>(t: Tables<'_>, most: usize) -> bool
         ≡ leb (used (R.table t.entry.counts) (R.heads t.entry.counts) t.entry.words.now + most)
         (R.table t.entry.counts).count }
 {
-    let placed = Placed {
-        words: t.words,
-        table: R::table(t.counts),
-    };
-    placed.rows(t.first::<R>(0)).take(most).count() == most
+    t.part::<R>().rows(t.first::<R>(0)).take(most).count() == most
 }
 
+// Kept: Well of tables; the head of this file says why.
 pub fn lock_room(t: Tables<'_>) -> bool
     requires { Well t.counts t.words.now }
     ensures { result ≡ lock_room (store_in t.entry) }
@@ -35,6 +33,7 @@ pub fn lock_room(t: Tables<'_>) -> bool
 
 // Room for an access of a record by the edit whose row of it is i.
 // Kept: `has_free` is the generic one; what a call needs is a line in each.
+// Kept: Well of tables; the head of this file says why.
 pub fn access_room(t: Tables<'_>, i: Option<usize>) -> bool
     requires { Well t.counts t.words.now }
     ensures { RoomBeside t.entry.counts t.entry.words.now i result }
@@ -50,6 +49,7 @@ fn written_count(s: Slot<'_>) -> usize
 }
 
 // Kept: `has_free` is the generic one.
+// Kept: Well of tables; the head of this file says why.
 pub fn version_room(s: Slot<'_>) -> bool
     requires { Well s.tables.counts s.tables.words.now }
     ensures { result ≡ version_room (store_in s.entry.tables) s.entry.number }

@@ -1,8 +1,8 @@
 // The lookups of the calls: read-only, each equal to a function of the decoded store. Rests on the crates `types`,
-// `meaning`, `chains` and `tables`.  A caller proves that the words have these counts (`Fits`) and that records and
-// slots are in range, so the functions have `requires`. Beyond that they are exact on any words. They also serve the
-// soundness check.  This file has the names; `edits`, `accesses` and `versions` look one up, `free_rows` has the room
-// for changes.
+// `meaning`, `chains` and `tables`. The words come as `Tables`, a `Record` or a `Slot` of them, which hold that the
+// words have these counts and that the number is in range; on any such words the lookups are exact, and they also serve
+// the soundness check. Only the rooms ask more, that every row is on one chain. This file has the names; `edits`,
+// `accesses` and `versions` look one up, `free_rows` has the room for changes.
 #![tactic(auto)]
 
 mod accesses;

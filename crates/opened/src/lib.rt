@@ -22,7 +22,8 @@ use types::{
 };
 
 // Opens a session, if the words are sound. The index then knows nothing of the slots until their next Begin.
-// Kept: words and index are two slices of C; over a struct of two `&mut` each contract names both fields again.
+// Kept: words and index are lent to be changed; over a struct of both each contract would promise that they stay
+// (Rattle's docs/BORROWS.md).
 pub fn open(words: &[u64], ix: &mut [u16]) -> Result<(), Refusal>
     ensures { Opens words.now ix.old ix.new (of_done result) }
 {
@@ -31,7 +32,8 @@ pub fn open(words: &[u64], ix: &mut [u16]) -> Result<(), Refusal>
     Ok(())
 }
 
-// Kept: as `open`; `requires` says once a call that the session is open.
+// Kept: as `open`; `Opened` is a fact of both, which a struct over `&mut` words cannot hold while they change. Beside
+// `store::begin`, with no check and with the index: a trait would say nine contracts thrice, as at `store::perform`.
 pub fn begin(words: &mut [u64], ix: &mut [u16]) -> Result<Handle, Refusal>
     requires { Opened words.old ix.old }
     ensures { Within beginning words.old words.new ix.new (of_begin result) }
@@ -41,7 +43,7 @@ pub fn begin(words: &mut [u64], ix: &mut [u16]) -> Result<Handle, Refusal>
     reply
 }
 
-// Kept: as `begin`.
+// Kept: as `begin`; handle and record are the call's parameters in document 01.
 pub fn write(
     words: &mut [u64],
     ix: &mut [u16],
@@ -57,7 +59,7 @@ pub fn write(
     reply
 }
 
-// Kept: as `begin`; of `write` it shares the one line `index::touch`.
+// Kept: as `write`, of which it shares the one line `index::touch`; low and high are the call's parameters too.
 pub fn lock(
     words: &mut [u64],
     ix: &mut [u16],
@@ -93,7 +95,7 @@ pub fn read(
     reply
 }
 
-// Kept: as `begin`.
+// Kept: as `begin`; finish and index are what the call takes, in document 01, and what the session lends it.
 pub fn commit(
     words: &mut [u64],
     ix: &mut [u16],
@@ -107,7 +109,7 @@ pub fn commit(
     commits::commit(words, h, pick, finish, ix)
 }
 
-// Kept: as `begin`.
+// Kept: as `commit`.
 pub fn abort(words: &mut [u64], ix: &mut [u16], h: Handle, finish: Finish) -> Result<(), Refusal>
     requires { Opened words.old ix.old }
     ensures { Within (aborting h.0 finish) words.old words.new ix.new (of_done result) }
@@ -132,6 +134,7 @@ pub fn purge(words: &mut [u64], ix: &mut [u16], rec: u64, b: Point) -> Result<Fr
 }
 
 // View needs no index, and changes none: it may be asked of words that are lent to many.
+// Kept: beside `store::view`, as `begin`; sound words are what the opening told, of words that calls change.
 pub fn view(words: &[u64], rec: u64, p: Point) -> Result<Seen, Refusal>
     requires { sound_words (lent words.now) ≡ true }
     ensures { Shows (viewing rec p.0) words.now (of_view result) }

@@ -10,7 +10,7 @@ use texts::{put_one, put_one_value, put_two, put_two_value, put_word};
 pub const WIDTH: usize = 80;
 
 // Writes a line, without its newline, at the start of a buffer, and answers its length.
-// Kept: Display of a line may fail, by its contract; this cannot, and says that every line fits.
+// Kept: beside Display of `Line`, which may fail, by its contract, this cannot: every line fits into the buffer.
 pub fn print(l: Line, out: &mut [u8; WIDTH]) -> usize
     ensures { Printed l out.new result }
 {

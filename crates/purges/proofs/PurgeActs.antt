@@ -114,13 +114,13 @@ module _ (w : List ℕ) (c : Counts) (P : sound_words (lent w) ≡ true) (E : c 
       acts_refused (purging rec b) (purge_keeps rec b) w c P E NoRecord
       (PurgeExits.purge_no_record (decode_at c w) rec b (has_is false z))
 
-  module _ (z : q ≡ true) (b p : ℕ) (ep : p ≡ b) where
-    pub purge_bad_point : LAST < p → Acts (purging rec b) (lent w) (lent w) (refusing 6 [])
+  module _ (z : q ≡ true) (b : ℕ) where
+    pub purge_bad_point : LAST < b → Acts (purging rec b) (lent w) (lent w) (refusing 6 [])
     purge_bad_point l =
         acts_refused (purging rec b) (purge_keeps rec b) w c P E BadPoint
-        (PurgeExits.purge_bad_point (decode_at c w) rec b (has_is true z) (rw ep at l))
+        (PurgeExits.purge_bad_point (decode_at c w) rec b (has_is true z) l)
 
-    module _ (l : p ≤ LAST) (r : ℕ) (er : r ≡ rec) where
+    module _ (p : ℕ) (ep : p ≡ b) (l : b ≤ LAST) (r : ℕ) (er : r ≡ rec) where
       pub purge_row : r < c.records
       purge_row = rw er (ltb-true rec c.records (sym eq ∙ z))
 
@@ -142,5 +142,5 @@ module _ (w : List ℕ) (c : Counts) (P : sound_words (lent w) ≡ true) (E : c 
             → Acts (purging rec b) (lent w) (lent w') t
         purge_acts w' t M =
             acts (purging rec b) (purge_keeps rec b) c w w' t P E
-            (makes_as c w (PurgeExits.purge_passes (decode_at c w) rec b (has_is true z) (rw ep at l))
+            (makes_as c w (PurgeExits.purge_passes (decode_at c w) rec b (has_is true z) l)
             (rw (er, newest_is) at M))

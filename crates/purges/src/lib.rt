@@ -1,11 +1,13 @@
 // Purge on sound words: equal to its definition in the crate `meaning`, and leaving sound words. For callers who prove
 // the words sound (`requires sound_words`), as the calls of `calls` and `endings`. It goes along one record's versions
 // and locks. Rests on the crates `types`, `meaning`, `tables`, `changes`, `trims`, `lookups`, `calls` and `endings`.
-// Kept, words and counts: lent to be changed; over a struct of both each would promise, too, that they stay (BORROWS).
+// Kept, words and counts: lent to be changed; over a struct of both each would promise, too, that they stay (Rattle's
+// docs/BORROWS.md).
 // Kept, Well c w: of words before a change; a ghost field would say it of the words after it, which is each promise.
-// Kept, r < c.records: of words that change; a `Record` borrows them, so it ends at the first change.
-// Kept, sound_words: what a caller proves once for many calls, of words that each call changes.
-// Kept, v ≤ LAST: of the word of a version's point; a `Point` may lie above LAST, too.
+// Kept, r < c.records: no words in it; a struct of counts and number would be made anew at each call.
+// Kept, sound words: what a caller proves once for many calls, of words that each call changes.
+// Kept, v ≤ LAST: of the word of a version's point; a `Point` may lie above LAST, too, and a struct of a bounded number
+// would be opened at each comparison.
 #![tactic(auto)]
 
 ghost use Rattle.std.specs.Prelude.{◌≡◌, true, not, ◌&&◌, ◌≤◌, ◌<◌, leb};
@@ -20,7 +22,7 @@ ghost use Rattle.calls.specs.Contract.{Acts, Makes};
 ghost use Rattle.endings.specs.Parts.{locked_below, purge_all};
 
 use tables::{Record, Tables};
-use types::{Counts, Freed, LAST, Lock, Point, Refusal, SETTLED};
+use types::{Counts, Freed, Lock, Point, Refusal, SETTLED};
 
 // A lock of an unsettled edit at or below v.
 fn held_below(l: Lock, v: u64) -> bool
@@ -37,6 +39,7 @@ fn locked_below(r: Record<'_>, v: u64) -> bool
 }
 
 // Versions are cut, locks trimmed and the floor set, with no lock in the way.
+// Kept: words and counts, Well c w, r < c.records, v ≤ LAST; the head of this file says why.
 fn purge_record(w: &mut [u64], c: Counts, r: usize, v: u64) -> Result<Freed, Refusal>
     requires { Well c w.old × (r < c.records) × (v ≤ LAST) }
     ensures { Makes c (purge_all (decode_at c w.old) r v) w.old w.new (of_purge result) }
@@ -47,6 +50,7 @@ fn purge_record(w: &mut [u64], c: Counts, r: usize, v: u64) -> Result<Freed, Ref
     Ok(Freed { versions, locks })
 }
 
+// Kept: words and counts, Well c w, r < c.records, v ≤ LAST; the head of this file says why.
 fn purge_to(w: &mut [u64], c: Counts, r: usize, v: u64) -> Result<Freed, Refusal>
     requires { Well c w.old × (r < c.records) × (v ≤ LAST) }
     ensures { Makes c (purge_to (decode_at c w.old) r v) w.old w.new (of_purge result) }
@@ -68,16 +72,14 @@ fn purge_to(w: &mut [u64], c: Counts, r: usize, v: u64) -> Result<Freed, Refusal
     purge_record(w, c, r, v)
 }
 
+// Kept: sound words; the head of this file says why.
 pub fn purge(w: &mut [u64], rec: u64, b: Point) -> Result<Freed, Refusal>
     requires { sound_words (lent w.old) ≡ true }
     ensures { Acts (purging rec b.0) (lent w.old) (lent w.new) (of_purge result) }
 {
     let c = tables::counts_of(w);
     let r = calls::record(c, rec)?;
-    let p = u64::from(b);
-    if LAST < p {
-        return Err(Refusal::BadPoint);
-    }
+    let p = calls::point(0, b)?;
     let tables = Tables {
         words: w,
         counts: c,

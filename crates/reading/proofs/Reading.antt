@@ -5,14 +5,14 @@ use mathlib.Core.Bool.{true, false}
 use mathlib.Core.List.{List, []}
 use native.Mathlib.Omega.{arith}
 use lib.Dec.{ltb}
-use borrow.Author.Tests.{lt-ltb, le-ltb, le-leb, lt-leb}
+use borrow.Author.Tests.{lt-ltb, le-ltb, le-leb}
 use Rattle.chains.specs.Walk.{IsRow}
 use Rattle.types.specs.Limits.{LAST, READ}
 use Rattle.meaning.specs.Store.{Rec, Edit, Store, edit_at, rec_at, access_of, newest_below, version_on, locks_used}
 use Rattle.types.specs.Numbers.{slot_of}
 use Rattle.meaning.specs.Points.{add_lock}
 use Rattle.types.specs.Replies.{Reply, read, own, again, refusing}
-use Rattle.meaning.specs.Outcomes.{replies, refuse, knows, is_open, has_record, access_room, lock_room}
+use Rattle.meaning.specs.Outcomes.{replies, refuse, knows, is_open, is_point, has_record, access_room, lock_room}
 use Rattle.meaning.specs.Edits.{with_access}
 use Rattle.meaning.specs.Locking.{with_lock, with_lock_by, read_version, read_from, read_store, read_store_by, read_new}
 use Rattle.meaning.specs.Locking.{read_open, reading}
@@ -44,7 +44,7 @@ use Rattle.calls.proofs.Rooms.{lock_free, edit_leaves_room, edit_then_lock}
 use Rattle.reading.proofs.ReadExits.{read_closed, read_no_record, read_bad_point, read_passes}
 use Rattle.reading.proofs.ReadExits.{read_own, read_again, read_first, read_below, read_by_small}
 use Rattle.reading.proofs.ReadExits.{read_blocked, read_granted_is, read_no_access, read_no_lock, read_done}
-use Rattle.std.specs.Prelude.{Some, None}
+use Rattle.std.specs.Prelude.{None}
 use Rattle.meaning.specs.Store.{has_written, written_value}
 
 -- the lock and the access of a read, of the version v
@@ -166,7 +166,7 @@ module _ (c : Counts) (w : List ℕ) (R : Ready c w) (k r m : ℕ) (x : Extent) 
         → Makes c (read_open (decode_at c w) k r m x) w w' q
     opened_new w' q g M = makes_as c w (read_first (decode_at c w) k r m x a access_is f (omega arith)) M
 
--- the call: its word n is the point m
+-- the call
 module _ (c : Counts) (w : List ℕ) (hs : sound_words (lent w) ≡ true) (e : c ≡ counts_of w)
     (h r m : ℕ) (x : Extent) where
   abbrev Ends : List ℕ → Reply → Type 0
@@ -186,24 +186,17 @@ module _ (c : Counts) (w : List ℕ) (hs : sound_words (lent w) ≡ true) (e : c
     pub reads_no_record : ltb r c.records ≡ false → Ends w (refusing 5 [])
     reads_no_record t = refuses NoRecord (read_no_record (decode_at c w) h r m x k o (sym (has_record_is c w r) ∙ t))
 
-    module _ (t : ltb r c.records ≡ true) (n : ℕ) (a : n ≡ m) where
+    module _ (t : ltb r c.records ≡ true) where
       there : has_record (decode_at c w) r ≡ true
       there = sym (has_record_is c w r) ∙ t
 
-      pub reads_zero : n < 1 → Ends w (refusing 6 [])
-      reads_zero l = refuses BadPoint (read_bad_point (decode_at c w) h r m x k o there (rw (lt-leb 1 m (omega arith))))
+      pub reads_bad_point : is_point m ≡ false → Ends w (refusing 6 [])
+      reads_bad_point f = refuses BadPoint (read_bad_point (decode_at c w) h r m x k o there f)
 
-      module _ (low : 1 ≤ n) where
-        pub reads_too_large : LAST < n → Ends w (refusing 6 [])
-        reads_too_large l =
-            refuses BadPoint (read_bad_point (decode_at c w) h r m x k o there
-            (rw (le-leb 1 m (omega arith), lt-leb m LAST (omega arith))))
-
-        pub read_acts : n ≤ LAST → (w' : List ℕ) (q : Reply) (j : ℕ) → j ≡ slot_of h
-            → Makes c (read_open (decode_at c w) j r n x) w w' q → Ends w' q
-        read_acts l w' q j i M =
-            let same : read_open (decode_at c w) j r n x ≡ read_open (decode_at c w) (slot_of h) r m x = rw (i, a) in
-            acts (reading h r m x) (read_keeps h r m x) c w w' q hs e
-            (makes_as c w (read_passes (decode_at c w) h r m x k o there
-            (and_in (le-leb 1 m (omega arith)) (le-leb m LAST (omega arith)))
-            ∙ sym same) M)
+      pub read_acts : 1 ≤ m → m ≤ LAST → (w' : List ℕ) (q : Reply) (j n : ℕ) → j ≡ slot_of h → n ≡ m
+          → Makes c (read_open (decode_at c w) j r n x) w w' q → Ends w' q
+      read_acts low l w' q j n i a M =
+          let same : read_open (decode_at c w) j r n x ≡ read_open (decode_at c w) (slot_of h) r m x = rw (i, a) in
+          acts (reading h r m x) (read_keeps h r m x) c w w' q hs e
+          (makes_as c w (read_passes (decode_at c w) h r m x k o there (and_in (le-leb 1 m low) (le-leb m LAST l))
+          ∙ sym same) M)

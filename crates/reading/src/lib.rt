@@ -2,13 +2,17 @@
 // the words sound (`requires sound_words`), as the calls of `calls`. It goes along the edit's accesses, unless the
 // index says that the record is new to it, and along one record's versions and locks. Rests on the crates `types`,
 // `meaning`, `locks`, `chains`, `tables`, `changes`, `slots`, `lookups`, `blocking`, `index` and `calls`.
-// Kept, words and counts: lent to be changed; over a struct of both each would promise, too, that they stay (BORROWS).
-// Kept, Ready c w: `Well` and more, of words before a change.
-// Kept, IsRow c.edits k: of words that change; a `Slot` borrows them, so it ends at the first change.
-// Kept, r < c.records: of words that change; a `Record` borrows them, so it ends at the first change.
-// Kept, sound_words: what a caller proves once for many calls, of words that each call changes.
+// Kept, words and counts: lent to be changed; over a struct of both each would promise, too, that they stay (Rattle's
+// docs/BORROWS.md).
+// Kept, Ready c w: `Well` and more, of words before a change; a ghost field would say it of the words after it.
+// Kept, IsRow c.edits k: no words in it; a struct of counts and number would be made anew at each call, and where a
+// slot goes with a record, two would have to be said to have the same counts.
+// Kept, r < c.records: no words in it, for the same reason.
+// Kept, sound words: what a caller proves once for many calls, of words that each call changes.
 // Kept, Indexed: between words that change and an index, which C callers lend one beside the other.
 // Kept, words and index: two memories that C callers lend, one of them to be changed.
+// Kept, AccessRow: what `index::access_row` found, of words before the change.
+// Kept, m ≤ LAST: what `calls::point` found; a struct of a bounded number would be opened at each comparison.
 // Kept, handle and record: the parameters of the call in document 01.
 // Kept, index and slot: as the call has them; the `Slot` of `access_row` ends before the words change.
 #![tactic(auto)]
@@ -28,11 +32,10 @@ ghost use Rattle.calls.specs.Parts.{read_taken};
 use blocking::Points;
 use locks::Asker;
 use tables::{Record, Slot, Tables};
-use types::{
-    Access, Counts, Extent, Found, Handle, LAST, Lock, Mode, Point, READ, Refusal, Version,
-};
+use types::{Access, Counts, Extent, Found, Handle, Lock, Point, READ, Refusal, Version};
 
 // Read, once the points are granted: one access row for a record new to the edit, one lock row for the points.
+// Kept: words and counts, IsRow c.edits k, Ready c w, r < c.records, AccessRow; the head of this file says why.
 fn read_taken(
     w: &mut [u64],
     c: Counts,
@@ -83,6 +86,9 @@ fn read_taken(
 }
 
 // Read, of a record that the edit has neither written nor read; i is the row of its access, if it has one.
+// Kept: words and counts, IsRow c.edits k, Ready c w, r < c.records, AccessRow, m ≤ LAST; the head of this file says
+// why.
+// Kept: a `match`; `map_err` was tried for the same call in `lock_wanted` of the crate `locking`, and not proved.
 fn read_new(
     w: &mut [u64],
     c: Counts,
@@ -100,16 +106,14 @@ fn read_new(
         counts: c,
     };
     let x = Record { tables, number: r };
-    if m <= x.floor() {
-        return Err(Refusal::BelowFloor);
-    }
+    calls::above_floor(x, m)?;
     let v = lookups::newest_below(x, m);
     let p = Points {
         low: v.point + 1,
         high: m,
     };
     let a = Asker {
-        mode: Mode::Read,
+        mode: READ,
         slot: k as u64,
     };
     match blocking::run(x, a, p, extent) {
@@ -119,6 +123,8 @@ fn read_new(
 }
 
 // Read, once its first tests have passed: an own pending value, the version read before, or a new read.
+// Kept: words and counts, words and index, index and slot, IsRow c.edits k, Ready c w, r < c.records, m ≤ LAST,
+// Indexed; the head of this file says why.
 fn read_open(
     w: &mut [u64],
     c: Counts,
@@ -137,7 +143,7 @@ fn read_open(
     };
     let slot = Slot { tables, number: k };
     let i = index::access_row(slot, r as u64, ix);
-    let a = lookups::access_in(slot, r as u64, i);
+    let a = lookups::access_in(tables, r as u64, i);
     if let Some(value) = a.value {
         return Ok(Found::Own(value));
     }
@@ -150,6 +156,7 @@ fn read_open(
 }
 
 // The call Read.
+// Kept: words and index, handle and record, Indexed, sound words; the head of this file says why.
 pub fn read(
     w: &mut [u64],
     h: Handle,
@@ -168,12 +175,6 @@ pub fn read(
     };
     let k = calls::open_slot(tables, h)?;
     let r = calls::record(c, rec)?;
-    let n = u64::from(m);
-    if n < 1 {
-        return Err(Refusal::BadPoint);
-    }
-    if LAST < n {
-        return Err(Refusal::BadPoint);
-    }
+    let n = calls::point(1, m)?;
     read_open(w, c, k, r, n, extent, ix)
 }

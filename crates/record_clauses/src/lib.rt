@@ -30,6 +30,7 @@ use tables::{Record, Row, Slot, Tables};
 use types::{COMMITTED, FREE, LAST, Lock, READ, SETTLED, Version, WRITE};
 
 // The slot with this number, if there is one.
+// Kept: `lookups::slot_of` is of a crate that this does not rest on, takes a handle, and gives no slot that is free.
 fn slot_of<'a>(t: Tables<'a>, k: u64) -> Option<Slot<'a>>
     ensures { SlotOf t.entry k result }
 {
@@ -57,10 +58,7 @@ fn mode_listed(l: Lock) -> bool
 fn slot_used(t: Tables<'_>, k: u64) -> bool
     ensures { result ≡ in_use (edits_in t.entry) k }
 {
-    match slot_of(t, k) {
-        Some(s) => s.state() != FREE,
-        None => false,
-    }
+    slot_of(t, k).is_some_and(|s| s.state() != FREE)
 }
 
 fn owner_used(t: Tables<'_>, l: Lock) -> bool
@@ -150,10 +148,7 @@ fn versions_sound(r: Record<'_>) -> bool
 fn committed_at(t: Tables<'_>, k: u64, p: u64) -> bool
     ensures { result ≡ committed_at (edits_in t.entry) k p }
 {
-    match slot_of(t, k) {
-        Some(s) => s.state() == COMMITTED && s.point() == p,
-        None => false,
-    }
+    slot_of(t, k).is_some_and(|s| s.state() == COMMITTED && s.point() == p)
 }
 
 // A record with marks that say of each of its lock rows whether the lock's owner wrote the record.
@@ -188,19 +183,17 @@ impl<'a, 'm> Marked<'a, 'm> {
             && (l.owner == SETTLED || self.owner_wrote(l.owner, p, i))
     }
 
-    // Kept: the test asks of a row that it stands on the record's chain, as the loop's invariant says; the closure of
-    // an `any` would have to ask it of each row number, and no line would say it
+    // Kept: the iterator's method is the generic function, and the line shows the test
     fn any_backs(self, p: u64) -> bool
         ensures { result
             ≡ any (backs (edits_in self.entry.record.tables)
             self.entry.record.number p) (rec_in self.entry.record).locks }
     {
-        for i in lock_rows(self.record) {
-            if self.row_backs(p, i) {
-                return true;
-            }
-        }
-        false
+        lock_rows(self.record).any(
+            |i|
+                requires { 1 ≤ occ i (lock_rows self.record) }
+            { self.row_backs(p, i) },
+        )
     }
 
     #[tactic(auto, unfolding(clauses::specs::Clauses::is_backed))]

@@ -2,36 +2,21 @@
 // written, the rows of its own locks on that record are marked. Marks of the crate `clauses` has the same marks on
 // lists. Rests on the crates `types`, `chains`, `tables` and `clauses`.
 ghost use Rattle.std.specs.Prelude.{◌≡◌};
-ghost use Rattle.chains.specs.Walk.{IsRow};
 ghost use Rattle.chains.specs.Walker.{rows_left};
 ghost use Rattle.tables.specs.Views.{edit_in};
-ghost use Rattle.clauses.specs.Marks.{own_mark, mark_own, mark_access, mark_accesses, mark_slots};
+ghost use Rattle.clauses.specs.Marks.{mark_own, mark_access, mark_accesses, mark_slots};
 ghost use Rattle.clauses.specs.Views.{lock_rows};
 
-use chains::{MARKS, Placed, Walk};
-use tables::{Part, Record, Row, Slot, Tables};
+use chains::{MARKS, Walk};
+use tables::{Record, Row, Slot, Tables};
 use types::{Access, Lock};
 
 // The rows of a record's locks.
-// Kept: only the words are those of the tables, whose type is another one, so `..` cannot take them
 pub fn lock_rows<'a>(r: Record<'a>) -> Walk<'a>
     ensures { rows_left result ≡ lock_rows r.entry }
 {
     let t = r.tables;
-    Placed {
-        words: t.words,
-        table: Lock::table(t.counts),
-    }
-    .rows(t.first::<Lock>(r.number + 1))
-}
-
-// Kept: `old` is the mark as it was, a value and no switch
-#[tactic(auto, unfolding(tables::specs::Layout::lock_table))]
-fn own_mark(t: Tables<'_>, k: u64, i: usize, old: bool) -> bool
-    requires { IsRow t.counts.locks i }
-    ensures { result ≡ own_mark t.entry.counts t.entry.words.now k old i }
-{
-    Lock::read(t, i).owner == k || old
+    t.part::<Lock>().rows(t.first::<Lock>(r.number + 1))
 }
 
 // A mark for each row of the lock table.
@@ -47,7 +32,9 @@ impl LockMarks {
             ≡ mark_own r.entry.tables.counts r.entry.tables.words.now k self.old.rows (lock_rows r.entry) }
     {
         for i in lock_rows(r) {
-            self.rows[i] = own_mark(r.tables, k, i, self.rows[i]);
+            if Lock::read(r.tables, i).owner == k {
+                self.rows[i] = true;
+            }
         }
     }
 
@@ -80,11 +67,8 @@ impl LockMarks {
     pub fn mark_slots(&mut self, t: Tables<'_>)
         ensures { self.new.rows ≡ mark_slots t.entry.counts t.entry.words.now self.old.rows t.entry.counts.edits }
     {
-        for k in 0..t.counts.edits {
-            self.mark_slot(Slot {
-                tables: t,
-                number: k + 1,
-            });
+        for number in 1..=t.counts.edits {
+            self.mark_slot(Slot { tables: t, number });
         }
     }
 }

@@ -82,119 +82,145 @@ fn direct(words: &mut [u64], call: Call) -> Result<Granted, Refusal> {
     }
 }
 
-// The reply, and whether a word moved; the empty slice has none that could.
-fn told(
-    rt: &impl Print,
-    reply: Result<Granted, Refusal>,
-    before: &[u64],
-    after: &[u64],
-) -> io::Result<()> {
-    let line = line_of_answer(reply);
-    if before.is_empty() {
-        return print!(rt; "{line}");
-    }
-    print!(rt; "{line}, {}", Moved { before, after })
+// A store, or words that are none, and where what its calls do is printed.
+// Kept: `desks` and others have one too; on a struct of a library a program's own calls could not be methods.
+#[derive(Drop)]
+struct Stage<'a, R, const N: usize> {
+    rt: &'a R,
+    words: [u64; N],
 }
 
-// Makes each call on a copy of the words, by its own function and by `perform`.
-fn try_calls<const N: usize>(rt: &impl Print, state: [u64; N]) -> io::Result<()> {
-    for line in CALLS {
-        print!(rt; "{line}: ")?;
-        if let Some(Command::Call(call)) = lines::parse(line.as_bytes()) {
-            let mut w = state;
-            let reply = direct(&mut w, call);
-            told(rt, reply, &state, &w)?;
-            rt.write_all(b"; perform: ")?;
-            let mut v = state;
-            let again = store::perform(&mut v, call);
-            told(rt, again, &state, &v)?;
+impl<'a, R, const N: usize> Stage<'a, R, N> {
+    fn new(rt: &'a R, words: [u64; N]) -> Self {
+        Stage { rt, words }
+    }
+}
+
+impl<R: Print, const N: usize> Stage<'_, R, N> {
+    // Kept: a line; each program has a Stage of its own, and this is what its title looks like.
+    fn title(&self, text: &str) -> io::Result<()> {
+        println!(self.rt; "-- {text}")
+    }
+
+    // The reply to a call on a copy of the words, and whether one of them moved; the empty slice has none that could.
+    fn tell<F: Fn(&mut [u64], Call) -> Result<Granted, Refusal>>(
+        &self,
+        call: Call,
+        made: F,
+    ) -> io::Result<()>
+        requires { F.IsAlwaysCallable made }
+    {
+        let mut words = self.words;
+        let line = line_of_answer(made(&mut words, call));
+        if N == 0 {
+            return print!(self.rt; "{line}");
         }
-        println!(rt)?;
+        let moved = Moved {
+            before: &self.words,
+            after: &words,
+        };
+        print!(self.rt; "{line}, {moved}")
     }
-    Ok(())
+
+    // Makes each call, by its own function and by `perform`.
+    fn try_calls(&self) -> io::Result<()> {
+        for line in CALLS {
+            print!(self.rt; "{line}: ")?;
+            if let Some(Command::Call(call)) = lines::parse(line.as_bytes()) {
+                self.tell(call, direct)?;
+                print!(self.rt; "; perform: ")?;
+                self.tell(call, store::perform)?;
+            }
+            println!(self.rt)?;
+        }
+        Ok(())
+    }
 }
 
-// The state, each line of which is printed with its answer.
-fn prepare(rt: &impl Print) -> io::Result<[u64; WORDS]> {
-    let mut words = [0u64; WORDS];
-    for line in STATE {
-        let reply = answer(&mut words, WORDS, line.as_bytes()).line;
-        println!(rt; "{line}: {reply}")?;
-    }
-    Ok(words)
-}
-
-// Where the link word of a row stands.
-// Kept: the chains are the store's own form, rows of a slice that are linked by their numbers.
+// Where the link word of a row stands; there is no row 0.
+// Kept: `chains` has the rows of a chain for words that are proved to hold the table; of these nothing is proved.
 fn link_place(t: Table, row: u64) -> Option<usize> {
     let before = (row as usize).checked_sub(1)?;
     let row_place = before.checked_mul(t.stride)?.checked_add(t.base)?;
     row_place.checked_add(t.off)
 }
 
-// The row after a row; 0 ends a chain.
-// Kept: the same.
-fn further(state: &[u64; WORDS], t: Table, row: u64) -> Option<u64> {
-    let next = *state.get(link_place(t, row)?)?;
-    (next != 0).then_some(next)
-}
-
-// The words with the chain whose first row stands in word `head` going on from its last row to its first.
-// Kept: the same.
-fn circle(state: &[u64; WORDS], t: Table, head: usize) -> Option<[u64; WORDS]> {
-    let first = *state.get(head)?;
-    let mut last = first;
-    // no chain here has more than eight rows
-    for _ in 1..8 {
-        last = further(state, t, last).unwrap_or(last);
-    }
-    let mut w = *state;
-    *w.get_mut(link_place(t, last)?)? = first;
-    Some(w)
-}
-
-fn try_circles(rt: &impl Print, state: &[u64; WORDS]) -> io::Result<()> {
-    let versions = Version::table(COUNTS);
-    let locks = Lock::table(COUNTS);
-    let accesses = Access::table(COUNTS);
-    let chains = [
-        (
-            "the versions of record 0",
-            versions,
-            tables::HEADER + tables::R_VERSION,
-        ),
-        (
-            "the locks of record 0",
-            locks,
-            tables::HEADER + tables::R_LOCK,
-        ),
-        (
-            "the accesses of slot 1",
-            accesses,
-            SLOT_1 + tables::S_ACCESS,
-        ),
-        ("the free version rows", versions, tables::FREE_VERSION),
-        ("the free lock rows", locks, tables::FREE_LOCK),
-        ("the free access rows", accesses, tables::FREE_ACCESS),
-    ];
-    for (text, table, head) in chains {
-        println!(rt; "-- {text} in a circle")?;
-        if let Some(w) = circle(state, table, head) {
-            try_calls(rt, w)?;
+impl<R: Print> Stage<'_, R, WORDS> {
+    // Runs each line, and prints it with its answer.
+    // Kept: `desks` and `generations` have the two statements too; one function of three arguments would be as long.
+    fn run(&mut self, lines: &[&str]) -> io::Result<()> {
+        for line in lines {
+            let reply = answer(&mut self.words, WORDS, line.as_bytes()).line;
+            println!(self.rt; "{line}: {reply}")?;
         }
+        Ok(())
     }
-    Ok(())
+
+    // The row after a row; 0 ends a chain.
+    // Kept: as `link_place`.
+    fn further(&self, t: Table, row: u64) -> Option<u64> {
+        let next = *self.words.get(link_place(t, row)?)?;
+        (next != 0).then_some(next)
+    }
+
+    // The words with the chain whose first row stands in word `head` going on from its last row to its first.
+    // Kept: as `link_place`.
+    fn circle(&self, t: Table, head: usize) -> Option<Self> {
+        let first = *self.words.get(head)?;
+        let mut last = first;
+        // no chain here has more than eight rows
+        for _ in 1..8 {
+            last = self.further(t, last).unwrap_or(last);
+        }
+        let mut words = self.words;
+        *words.get_mut(link_place(t, last)?)? = first;
+        Some(Stage::new(self.rt, words))
+    }
+
+    fn try_circles(&self) -> io::Result<()> {
+        let versions = Version::table(COUNTS);
+        let locks = Lock::table(COUNTS);
+        let accesses = Access::table(COUNTS);
+        let chains = [
+            (
+                "the versions of record 0",
+                versions,
+                tables::HEADER + tables::R_VERSION,
+            ),
+            (
+                "the locks of record 0",
+                locks,
+                tables::HEADER + tables::R_LOCK,
+            ),
+            (
+                "the accesses of slot 1",
+                accesses,
+                SLOT_1 + tables::S_ACCESS,
+            ),
+            ("the free version rows", versions, tables::FREE_VERSION),
+            ("the free lock rows", locks, tables::FREE_LOCK),
+            ("the free access rows", accesses, tables::FREE_ACCESS),
+        ];
+        for (text, table, head) in chains {
+            println!(self.rt; "-- {text} in a circle")?;
+            if let Some(s) = self.circle(table, head) {
+                s.try_calls()?;
+            }
+        }
+        Ok(())
+    }
 }
 
 fn main(rt: HostRuntime) -> io::Result<()> {
-    let state = prepare(&rt)?;
-    println!(&rt; "-- the sound store")?;
-    try_calls(&rt, state)?;
-    println!(&rt; "-- record count 5000")?;
-    let mut w = state;
-    w[tables::H_RECORDS] = 5000;
-    try_calls(&rt, w)?;
-    try_circles(&rt, &state)?;
-    println!(&rt; "-- the empty slice")?;
-    try_calls(&rt, [0u64; 0])
+    let mut s = Stage::new(&rt, [0u64; WORDS]);
+    s.run(&STATE)?;
+    s.title("the sound store")?;
+    s.try_calls()?;
+    s.title("record count 5000")?;
+    let mut unsound = Stage::new(&rt, s.words);
+    unsound.words[tables::H_RECORDS] = 5000;
+    unsound.try_calls()?;
+    s.try_circles()?;
+    s.title("the empty slice")?;
+    Stage::new(&rt, [0u64; 0]).try_calls()
 }

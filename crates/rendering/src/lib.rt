@@ -11,7 +11,7 @@ use types::{Granted, Refusal};
 use value_replies::line_of_granted;
 
 // The line of an answer: what the call gives, or the refusal.
-// Kept: as a From it would stand in the crate of Line, with `line_of_granted`, in the place of three small ones.
+// Kept: a From has to stand in the crate of `Line`; DECISIONS, "Many small crates", keeps the lines of values apart.
 pub fn line_of_answer(a: Result<Granted, Refusal>) -> Line
     ensures { result ≡ line_of (of_answer a) }
 {

@@ -61,6 +61,7 @@ impl From<Refusal> for Line {
     fn from(r: Refusal) -> Line {
         match r {
             Refusal::Held(h) => Line::Held(u64::from(h)),
+            // Kept: the line of a refusal has its number, as document 01 prints it.
             _ => Line::No(r.number()),
         }
     }

@@ -53,6 +53,8 @@ fn after<R: Copy>(step: Step<R>, numbers: &mut [u64; WORDS]) -> R
     reply
 }
 
+// A session put among the numbers.
+// Kept: C lends a session as five numbers; a `From` has no place here, as at `session_of`.
 #[tactic(auto, unfolding(crate::specs::Sessions::session_numbers))]
 fn put_session(s: Session, numbers: &mut [u64; WORDS])
     ensures { numbers.new ≡ session_numbers s }
@@ -71,7 +73,7 @@ fn put_session(s: Session, numbers: &mut [u64; WORDS])
 }
 
 // What opening, read, write and commit answered.
-// Kept: C hears a session by its five numbers, and a refusal by its number.
+// Kept: C hears a session by its five numbers, and a refusal by its number, 0 for none.
 pub fn open(r: Result<Session, Refusal>, numbers: &mut [u64; WORDS]) -> u64
     ensures { TellsOpening (of_open r) result numbers.old numbers.new }
 {

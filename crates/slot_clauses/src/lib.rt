@@ -2,6 +2,8 @@
 // of them for all slots. It asks that the locks of every record rise, for so does the search for the common set. Rests
 // on the crates `types`, `meaning`, `locks`, `tables`, `lookups`, `blocking` (for that a record's locks rise), `common`
 // (for the common set) and `clauses`.
+// Kept, AllRise: of all records, while each function is over a slot or the tables; `CommonSet`, which the search is
+// over, holds it, and a second struct would be made for one call and opened in it.
 #![tactic(auto)]
 
 ghost use Rattle.std.specs.Prelude.{◌≡◌, true, suc, ◌-◌};
@@ -34,6 +36,7 @@ fn is_present(r: Record<'_>, p: u64) -> bool
 }
 
 // `from` is the point read + 1, or 0 where the edit has not read the record.
+// Kept: tried with `is_none_or`: the check learns nothing of that closure, so its clause would have to be written out.
 fn read_sound(r: Record<'_>, k: u64, from: u64) -> bool
     ensures { result ≡ read_of (rec_in r.entry) k from }
 {
@@ -110,6 +113,7 @@ fn slot_listed(s: Slot<'_>) -> bool
 }
 
 // A committed edit's point is in its common set.
+// Kept: AllRise; the head of this file says why.
 #[tactic(auto, unfolding(meaning::specs::Sound::point_common))]
 fn point_common(s: Slot<'_>) -> bool
     requires { (names_existing (records_in s.tables) (edit_in s) ≡ true)
@@ -123,6 +127,7 @@ fn point_common(s: Slot<'_>) -> bool
 // The clauses of a slot, and of all slots.
 
 // Kept: a record is lent words, which a check does not change, and memory is fixed: stamps stand beside the records
+// Kept: AllRise; the head of this file says why.
 fn slot_sound(s: Slot<'_>, stamps: &mut [u8; MAX_RECORDS]) -> bool
     requires { Stamps (s.number - 1) stamps.old × AllRise s.tables.counts s.tables.words.now }
     ensures { (result
@@ -133,18 +138,15 @@ fn slot_sound(s: Slot<'_>, stamps: &mut [u8; MAX_RECORDS]) -> bool
 }
 
 // Kept: a record is lent words, which a check does not change, and memory is fixed: stamps stand beside the records
+// Kept: AllRise; the head of this file says why.
 pub fn slots_sound(t: Tables<'_>) -> bool
     requires { AllRise t.counts t.words.now }
     ensures { result ≡ slots_sound t.entry.counts t.entry.words.now }
 {
     // Kept: a stamp is the number of a slot; with flags in its place each slot would first clear those of all records
     let mut stamps = [0u8; MAX_RECORDS];
-    for k in 0..t.counts.edits {
-        let s = Slot {
-            tables: t,
-            number: k + 1,
-        };
-        if !slot_sound(s, &mut stamps) {
+    for number in 1..=t.counts.edits {
+        if !slot_sound(Slot { tables: t, number }, &mut stamps) {
             return false;
         }
     }

@@ -9,7 +9,7 @@ ghost use Rattle.tables.specs.Decode.{lock_rows, access_rows};
 ghost use Rattle.tables.specs.Words.{versions_parted, locks_parted, accesses_parted, names_record, marked, locks_named};
 ghost use Rattle.tables.specs.Words.{marks_listed, formed_at};
 
-use chains::{Fields, Linked, Placed};
+use chains::{Fields, Linked};
 use clauses::all_records;
 use tables::{A_WRITTEN, L_RECORD, Record, Row, Slot, Tables};
 use types::{Access, Lock, Version};
@@ -39,7 +39,8 @@ fn chains_parted(t: Tables<'_>) -> bool
 }
 
 // The rows of an owner's chain, each with its word o.
-// Kept: only the words are those of the tables, whose type is another one, so `..` cannot take them
+// Kept: owner ≤ owners, o < stride: each caller gives a constant offset and the number of a record or a slot, whose
+// type holds its bound; a struct of owner and offset would be made at each of the two calls and opened here.
 #[tactic(auto, unfolding(chains::specs::Table::rows_of))]
 fn words_of<'a, R: Row>(t: Tables<'a>, owner: usize, o: usize) -> Fields<'a>
     requires { owner ≤ (R.heads t.counts).owners × (o < (R.table t.counts).stride) }
@@ -47,11 +48,7 @@ fn words_of<'a, R: Row>(t: Tables<'a>, owner: usize, o: usize) -> Fields<'a>
         ≡ with_word (R.table t.entry.counts) t.entry.words.now o
         (rows_of (R.table t.entry.counts) (R.heads t.entry.counts) t.entry.words.now owner) }
 {
-    Placed {
-        words: t.words,
-        table: R::table(t.counts),
-    }
-    .fields(o, t.first::<R>(owner))
+    t.part::<R>().fields(o, t.first::<R>(owner))
 }
 
 // Lock rows name their chain's record.

@@ -6,7 +6,7 @@
 #![tactic(auto)]
 
 ghost use Rattle.types.specs.Replies.{of_point, of_done, of_begin, of_lock, of_read, of_commit};
-ghost use Rattle.types.specs.Replies.{of_done, of_purge, of_view, of_answer};
+ghost use Rattle.types.specs.Replies.{of_purge, of_view, of_answer};
 ghost use Rattle.meaning.specs.Edits.{beginning, writing};
 ghost use Rattle.meaning.specs.Locking.{locking, reading};
 ghost use Rattle.meaning.specs.Ending.{committing, aborting, settling};
@@ -23,6 +23,9 @@ use types::{
     Seat, Seen, Span,
 };
 
+// The index that the calls are lent: it says nothing.
+const NO_INDEX: [u16; 1] = [index::UNKNOWN; 1];
+
 // Refusal 1, unless the words are a sound store. For callers that check once and call often.
 pub fn check(words: &[u64]) -> Result<(), Refusal>
     ensures { result ≡ sound_or_refused words.now }
@@ -35,6 +38,7 @@ pub fn check(words: &[u64]) -> Result<(), Refusal>
 }
 
 // The point of a clock reading and a seat.
+// Kept: the public name of `Point::of`, beside those of the other calls.
 pub fn point(reading: Reading, seat: Seat) -> Result<Point, Refusal>
     ensures { of_point result ≡ pointing reading.0 seat.0 }
 {
@@ -42,7 +46,7 @@ pub fn point(reading: Reading, seat: Seat) -> Result<Point, Refusal>
 }
 
 // A fresh store in the slice, whatever it held.
-// Kept: the public name of `format::format`; words and counts are what a Format is asked with, and meet here alone.
+// Kept: the public name of `format::format`; Format takes the words and the counts that it lays out in them.
 pub fn format(words: &mut [u64], counts: Counts) -> Result<(), Refusal>
     ensures { Formats counts words.old words.new (of_done result) }
 {
@@ -66,21 +70,20 @@ pub fn would_begin(words: &[u64]) -> Result<(), Refusal>
         words,
         counts: tables::counts_of(words),
     };
-    match lookups::free_slot(tables) {
-        Some(_) => Ok(()),
-        None => Err(Refusal::NoSlot),
-    }
+    lookups::free_slot(tables).ok_or(Refusal::NoSlot)?;
+    Ok(())
 }
 
-// Kept: as `begin`: the line `check(words)?;` is all that the calls share; a closure for the rest would be longer.
+// Kept: `check(words)?` and `&NO_INDEX` are all that the calls share; a closure for the rest would be longer. Handle
+// and record are the call's parameters in document 01.
 pub fn write(words: &mut [u64], h: Handle, rec: u64, value: u64) -> Result<(), Refusal>
     ensures { Does (writing h.0 rec value) words.old words.new (of_done result) }
 {
     check(words)?;
-    calls::write(words, h, rec, value, &[index::UNKNOWN; 1])
+    calls::write(words, h, rec, value, &NO_INDEX)
 }
 
-// Kept: as `write`.
+// Kept: as `write`; low and high are the call's parameters in document 01 too, and its public signature has both.
 pub fn lock(
     words: &mut [u64],
     h: Handle,
@@ -106,7 +109,7 @@ pub fn read(
     ensures { Does (reading h.0 rec m.0 extent) words.old words.new (of_read result) }
 {
     check(words)?;
-    reading::read(words, h, rec, m, extent, &[index::UNKNOWN; 1])
+    reading::read(words, h, rec, m, extent, &NO_INDEX)
 }
 
 // Kept: as `write`.
@@ -119,7 +122,7 @@ pub fn commit(
     ensures { Does (committing h.0 pick finish) words.old words.new (of_commit result) }
 {
     check(words)?;
-    commits::commit(words, h, pick, finish, &[index::UNKNOWN; 1])
+    commits::commit(words, h, pick, finish, &NO_INDEX)
 }
 
 // Kept: as `write`.
@@ -127,7 +130,7 @@ pub fn abort(words: &mut [u64], h: Handle, finish: Finish) -> Result<(), Refusal
     ensures { Does (aborting h.0 finish) words.old words.new (of_done result) }
 {
     check(words)?;
-    endings::abort(words, h, finish, &[index::UNKNOWN; 1])
+    endings::abort(words, h, finish, &NO_INDEX)
 }
 
 // Kept: as `write`.
@@ -135,7 +138,7 @@ pub fn settle(words: &mut [u64], h: Handle) -> Result<(), Refusal>
     ensures { Does (settling h.0) words.old words.new (of_done result) }
 {
     check(words)?;
-    endings::settle(words, h, &[index::UNKNOWN; 1])
+    endings::settle(words, h, &NO_INDEX)
 }
 
 // Kept: as `write`.

@@ -145,10 +145,11 @@ joined_now_lem s ps l v rise pos some =
     (λ p. apart_reads p l) ps (λ p m. sym (apart_as p l (rise p m) some (is_settled_read l) refl))
   where
     go : (b : Bool) → is_settled_read l ≡ b
-        → (not b || below s.joined (l.low - 1))
+        → (not b || (ltb 0 l.low && below s.joined (l.low - 1)))
         ≡ all (λ p. not b || (not (is_settled_read p) || ltb p.high (l.low - 1))) ps
     go true e =
-        ap (λ x. below x (l.low - 1)) v.joined ∙ farthest_all is_settled_read (l.low - 1) ps
+        ap (λ b. b && below s.joined (l.low - 1)) (lt-ltb 0 l.low pos) ∙ ap (λ x. below x (l.low - 1)) v.joined
+        ∙ farthest_all is_settled_read (l.low - 1) ps
     go false e = sym (all_in (λ p. true) ps (λ p m. refl))
 
 -- a pass whose test at each lock is how it stands to all behind it, from any lock on

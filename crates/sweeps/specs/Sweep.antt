@@ -48,9 +48,10 @@ no_swept = record { low = 0; joined = None; all = no_reach; writes = no_reach }
 abbrev pub rises_now : Swept → Lock → Bool
 rises_now s l = leb s.low l.low
 
--- a settled read lock leaves a gap of at least one point after the settled read locks that were passed
+-- a settled read lock leaves a gap of at least one point after the settled read locks that were passed, and point 0
+-- is before all of them
 unfoldable pub joined_now : Swept → Lock → Bool
-joined_now s l = not (is_settled_read l) || below s.joined (l.low - 1)
+joined_now s l = not (is_settled_read l) || (ltb 0 l.low && below s.joined (l.low - 1))
 
 -- a write lock starts after all locks of other owners, a read lock after their write locks
 unfoldable pub agrees_now : Swept → Lock → Bool

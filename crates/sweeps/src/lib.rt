@@ -12,6 +12,7 @@ use locks::is_settled_read;
 use types::{Lock, WRITE};
 
 // Where a lock ends, and whose it is.
+// Kept: the owner is the number in the lock's words, which may be any; it is only compared with another one.
 #[derive(Clone, Copy)]
 pub struct End {
     pub high: u64,
@@ -99,7 +100,7 @@ fn reached(s: Reach, k: u64, high: u64) -> Reach
 fn joined_now(s: Swept, l: Lock) -> bool
     ensures { result ≡ joined_now s l }
 {
-    !is_settled_read(l) || below(s.joined, l.low.saturating_sub(1))
+    !is_settled_read(l) || (0 < l.low && below(s.joined, l.low - 1))
 }
 
 // Kept: the mode picks which of two values is looked at, and no step differs

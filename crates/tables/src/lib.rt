@@ -1,7 +1,7 @@
 // The tables of a store in lent words: the layout of document 01, the header, and rows by value. Rests on the crates
-// `types`, `meaning` and `chains`.  A caller proves that the words have these counts (`Fits`), so the functions have
-// `requires`. Each read equals a part of the decoded store; the stores of words and rows are the crate `writes`.  This
-// file has the layout and the header; `reads` has the words, rows and chains.
+// `types`, `meaning` and `chains`. Each read equals a part of the decoded store; the stores of words and rows are the
+// crate `writes`. This file has the layout and the header, `parts` and `rows` the traits of a part and of a kind of row
+// on chains, and `views` words that have their counts (`Tables`), a record and an edit slot of them.
 #![tactic(auto)]
 
 mod parts;
@@ -10,8 +10,10 @@ mod views;
 
 ghost use Rattle.std.specs.Prelude.{◌≡◌, ◌≤◌, ◌<◌, length, get_or};
 ghost use Rattle.meaning.specs.Records.{in_range, good_counts};
-ghost use Rattle.tables.specs.Layout.{HEADER, counts_of, size_of, header_ok, Ranged};
+ghost use Rattle.tables.specs.Layout.{HEADER, RECORD, version_heads, lock_heads, counts_of};
+ghost use Rattle.tables.specs.Layout.{size_of, header_ok, Ranged};
 
+use chains::Heads;
 pub use parts::{Part, Records, Slots};
 pub use rows::{Row, Rows};
 use types::{Counts, MAX_EDITS, MAX_RECORDS, MAX_ROWS};
@@ -90,6 +92,35 @@ pub const A_VALUE: usize = 3;
 
 pub const A_NEXT: usize = 4;
 
+// The heads of chains that each record has one of: `first` is the head word of record 0's.
+fn record_heads(c: Counts, free: usize, first: usize) -> Heads
+    ensures { result ≡ record { free = free; first = first; step = RECORD; owners = c.records } }
+{
+    Heads {
+        free,
+        first,
+        step: RECORD,
+        owners: c.records,
+    }
+}
+
+// Kept: rows in lent words, linked by their numbers, as document 01 has them. Public and of any counts, as it was;
+// `Row::heads` asks that counts are good. The two share `record_heads`.
+#[tactic(auto, unfolding(crate::specs::Layout::version_heads))]
+pub fn version_heads(c: Counts) -> Heads
+    ensures { result ≡ version_heads c }
+{
+    record_heads(c, FREE_VERSION, HEADER + R_VERSION)
+}
+
+// Kept: as `version_heads`.
+#[tactic(auto, unfolding(crate::specs::Layout::lock_heads))]
+pub fn lock_heads(c: Counts) -> Heads
+    ensures { result ≡ lock_heads c }
+{
+    record_heads(c, FREE_LOCK, HEADER + R_LOCK)
+}
+
 // The header.
 
 // Kept: words of any length are no counts, and a `From` may ask for nothing.
@@ -124,6 +155,7 @@ pub fn good_counts(c: Counts) -> bool
         && in_range(c.accesses, MAX_ROWS)
 }
 
+// Kept: as `Part::table`, of counts that were tested.
 pub fn size_of(c: Counts) -> usize
     requires { Ranged c }
     ensures { result ≡ size_of c }

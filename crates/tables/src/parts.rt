@@ -17,6 +17,8 @@ use types::{Access, Counts, Lock, Version};
 pub trait Part {
     ghost table: { Counts → Table };
 
+    // Kept: rows in lent words, linked by their numbers: there is no heap, and document 01 gives the layout. Only sums
+    // ask that the counts are in range; a type for counts that were tested would be opened at each of the five.
     fn table(c: Counts) -> Table
         requires { Ranged c }
         ensures { result ≡ table c };

@@ -12,8 +12,8 @@ ghost use Rattle.tables.specs.Decode.{version_at, lock_at, access_at};
 use crate::parts::Part;
 use crate::views::Tables;
 use crate::{
-    A_FROM, A_RECORD, A_VALUE, A_WRITTEN, FREE_ACCESS, FREE_LOCK, FREE_VERSION, HEADER, L_HIGH,
-    L_LOW, L_MODE, MODES, R_LOCK, R_VERSION, RECORD, S_ACCESS, SLOT, V_POINT, V_SPARE, V_VALUE,
+    A_FROM, A_RECORD, A_VALUE, A_WRITTEN, FREE_ACCESS, HEADER, L_HIGH, L_LOW, L_MODE, MODES,
+    RECORD, S_ACCESS, SLOT, V_POINT, V_SPARE, V_VALUE, lock_heads, version_heads,
 };
 use chains::{Cursor, Heads};
 use std::marker::PhantomData;
@@ -25,10 +25,13 @@ pub trait Row: Part + Copy {
 
     ghost at: { Counts → List ℕ → ℕ → Self };
 
+    // Kept: as `table` of a part.
     fn heads(c: Counts) -> Heads
         requires { Ranged c }
         ensures { result ≡ heads c };
 
+    // Kept: a row is read from words and a number, which no `From` of one value takes. The number comes from a link
+    // word, so that a type for it would be made and opened at each row.
     fn read(t: Tables<'_>, i: usize) -> Self
         requires { IsRow (Self.table t.counts).count i }
         ensures { result ≡ at t.entry.counts t.entry.words.now i };
@@ -42,17 +45,11 @@ impl Row for Version {
     ghost at = { version_at };
 
     // Kept: rows in lent words, linked by their numbers: there is no heap, and document 01 gives the layout.
-    #[tactic(auto, unfolding(crate::specs::Layout::version_heads))]
     fn heads(c: Counts) -> Heads {
-        Heads {
-            free: FREE_VERSION,
-            first: HEADER + R_VERSION,
-            step: RECORD,
-            owners: c.records,
-        }
+        version_heads(c)
     }
 
-    // Kept: here alone the layout of a row is named, which no derive knows.
+    // Kept: the one reader of a whole row; no derive knows offsets (its counterpart is writes::put_version).
     #[tactic(auto, unfolding(crate::specs::Layout::version_table, crate::specs::Decode::version_at))]
     fn read(t: Tables<'_>, i: usize) -> Version {
         let point = t.word::<Version>(i, V_POINT);
@@ -74,17 +71,11 @@ impl Row for Lock {
     ghost at = { lock_at };
 
     // Kept: rows in lent words, linked by their numbers: there is no heap, and document 01 gives the layout.
-    #[tactic(auto, unfolding(crate::specs::Layout::lock_heads))]
     fn heads(c: Counts) -> Heads {
-        Heads {
-            free: FREE_LOCK,
-            first: HEADER + R_LOCK,
-            step: RECORD,
-            owners: c.records,
-        }
+        lock_heads(c)
     }
 
-    // Kept: here alone the layout of a row is named, which no derive knows.
+    // Kept: the one reader of a whole row; no derive knows offsets (its counterpart is writes::put_lock).
     #[tactic(auto, unfolding(crate::specs::Layout::lock_table, crate::specs::Decode::lock_at))]
     fn read(t: Tables<'_>, i: usize) -> Lock {
         let low = t.word::<Lock>(i, L_LOW);
@@ -117,7 +108,7 @@ impl Row for Access {
         }
     }
 
-    // Kept: here alone the layout of a row is named, which no derive knows.
+    // Kept: the one reader of a whole row; no derive knows offsets (its counterpart is writes::put_access).
     #[tactic(auto, unfolding(crate::specs::Layout::access_table, crate::specs::Decode::access_at))]
     fn read(t: Tables<'_>, i: usize) -> Access {
         let rec = t.word::<Access>(i, A_RECORD);
@@ -156,7 +147,7 @@ impl<'a, R: Row> Iterator for Rows<'a, R> {
     #[tactic(auto, unfolding(crate::specs::Walked::values_left))]
     fn next(&mut self) -> Option<R> {
         let t = self.tables;
-        let i = self.cursor.step(t.words, R::table(t.counts))?;
+        let i = self.cursor.along(&t.part::<R>())?;
         Some(R::read(t, i))
     }
 }

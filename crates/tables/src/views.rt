@@ -41,20 +41,30 @@ impl<'a> Tables<'a> {
     ghost use Rattle.chains.specs.Table.{field, head_of, rows_of};
     ghost use Rattle.tables.specs.Walked.{values_left};
 
+    // A part's table in the words.
+    // Kept: which part it is stands in no argument, so no `From` can choose it.
+    pub fn part<P: Part>(self) -> Placed<'a>
+        ensures { result.words.now ≡ self.entry.words.now × (result.table ≡ P.table self.entry.counts) }
+    {
+        Placed {
+            words: self.words,
+            table: P::table(self.counts),
+        }
+    }
+
     // Word o of row i of a part.
+    // Kept: a row's number comes from a link word or a count; an offset is a constant of the layout, and that a row is
+    // wider is seen where it is named.
     pub fn word<P: Part>(self, i: usize, o: usize) -> u64
         requires { IsRow (P.table self.counts).count i × (o < (P.table self.counts).stride) }
         ensures { result ≡ field (P.table self.entry.counts) self.entry.words.now i o }
     {
-        let placed = Placed {
-            words: self.words,
-            table: P::table(self.counts),
-        };
-        placed.word(i, o) as u64
+        self.part::<P>().word(i, o) as u64
     }
 
     // The first row of an owner's chain, or 0.
     // Kept: 0 for an empty chain, as its head word has it and `Cursor::new` takes it: rows are linked by their numbers.
+    // Kept: an owner is a record or a slot, or 0 for the free chain; `Record` and `Slot` hold the fact of the two.
     pub fn first<R: Row>(self, owner: usize) -> usize
         requires { owner ≤ (R.heads self.counts).owners }
         ensures { result ≡ head_of (R.heads self.entry.counts) self.entry.words.now owner }
@@ -63,6 +73,7 @@ impl<'a> Tables<'a> {
     }
 
     // The rows of an owner's chain, by value, in order.
+    // Kept: the owner as at `first`.
     #[tactic(auto, unfolding(chains::specs::Table::rows_of))]
     pub fn rows<R: Row>(self, owner: usize) -> Rows<'a, R>
         requires { owner ≤ (R.heads self.counts).owners }

@@ -28,7 +28,7 @@ impl fmt::Display for Printed {
 }
 
 // Puts one byte at a position.
-// Kept: Display beside it may fail, by its contract; what is put into a buffer with room cannot.
+// Kept: a lent buffer of any length, which `Bytes` is not; and Display may fail, by its contract, where this cannot.
 fn put(out: &mut [u8], at: usize, b: u8) -> usize
     requires { at < length out.old }
     ensures { Appended out.old at (b ∷ []) out.new result }
@@ -38,7 +38,7 @@ fn put(out: &mut [u8], at: usize, b: u8) -> usize
 }
 
 // Puts a word at a position.
-// Kept: Display beside it may fail, by its contract; what is put into a buffer with room cannot.
+// Kept: a lent buffer of any length, which `Bytes` is not; and Display may fail, by its contract, where this cannot.
 pub fn put_word(out: &mut [u8], at: usize, word: &[u8]) -> usize
     requires { at + length word.now ≤ length out.old }
     ensures { Appended out.old at word.now out.new result }
@@ -49,7 +49,7 @@ pub fn put_word(out: &mut [u8], at: usize, word: &[u8]) -> usize
 }
 
 // Puts the decimal digits of a number at a position.
-// Kept: Display beside it may fail, by its contract; what is put into a buffer with room cannot.
+// Kept: a lent buffer of any length, which `Bytes` is not; and Display may fail, by its contract, where this cannot.
 fn put_number(out: &mut [u8], at: usize, n: u64) -> usize
     requires { at + length (decimal n) ≤ length out.old }
     ensures { Appended out.old at (decimal n) out.new result }
@@ -62,7 +62,7 @@ fn put_number(out: &mut [u8], at: usize, n: u64) -> usize
 }
 
 // Puts a record's value at a position.
-// Kept: Display beside it may fail, by its contract; what is put into a buffer with room cannot.
+// Kept: a lent buffer of any length, which `Bytes` is not; beside Display of `Printed`, which may fail, this cannot.
 fn put_value(out: &mut [u8], at: usize, v: Value) -> usize
     requires { at + 20 ≤ length out.old }
     ensures { Appended out.old at (value_text v) out.new result }
@@ -74,7 +74,7 @@ fn put_value(out: &mut [u8], at: usize, v: Value) -> usize
 }
 
 // Puts a word and a number at the start. A number has 20 digits at most.
-// Kept: Display beside it may fail, by its contract; what is put into a buffer with room cannot.
+// Kept: a lent buffer of any length, which `Bytes` is not; and Display may fail, by its contract, where this cannot.
 pub fn put_one(out: &mut [u8], word: &[u8], n: u64) -> usize
     requires { length word.now + 20 ≤ length out.old }
     ensures { Appended out.old 0 (one·of word.now n) out.new result }
@@ -84,7 +84,7 @@ pub fn put_one(out: &mut [u8], word: &[u8], n: u64) -> usize
 }
 
 // Puts a word and two numbers at the start.
-// Kept: Display beside it may fail, by its contract; what is put into a buffer with room cannot.
+// Kept: a lent buffer of any length, which `Bytes` is not; and Display may fail, by its contract, where this cannot.
 pub fn put_two(out: &mut [u8], word: &[u8], n: u64, m: u64) -> usize
     requires { length word.now + 41 ≤ length out.old }
     ensures { Appended out.old 0 (two·of word.now n m) out.new result }
@@ -95,7 +95,7 @@ pub fn put_two(out: &mut [u8], word: &[u8], n: u64, m: u64) -> usize
 }
 
 // Puts a word, a number and a value at the start.
-// Kept: Display beside it may fail, by its contract; what is put into a buffer with room cannot.
+// Kept: a lent buffer of any length, which `Bytes` is not; and Display may fail, by its contract, where this cannot.
 pub fn put_one_value(out: &mut [u8], word: &[u8], n: u64, v: Value) -> usize
     requires { length word.now + 41 ≤ length out.old }
     ensures { Appended out.old 0 (one_value word.now n v) out.new result }
@@ -106,7 +106,7 @@ pub fn put_one_value(out: &mut [u8], word: &[u8], n: u64, v: Value) -> usize
 }
 
 // Puts a word, two numbers and a value at the start.
-// Kept: Display beside it may fail, by its contract; what is put into a buffer with room cannot.
+// Kept: a lent buffer of any length, which `Bytes` is not; and Display may fail, by its contract, where this cannot.
 pub fn put_two_value(out: &mut [u8], word: &[u8], n: u64, m: u64, v: Value) -> usize
     requires { length word.now + 62 ≤ length out.old }
     ensures { Appended out.old 0 (two_value word.now n m v) out.new result }

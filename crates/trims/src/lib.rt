@@ -4,8 +4,9 @@
 // `changes`.
 // Kept, words and counts: a struct that holds lent `&mut` words would have each contract say that it keeps them
 // Kept, Well c w: a fact of the words, which a struct over `&mut` words cannot hold while they change
-// Kept, r < c.records: a fact of the counts beside those words
-// Kept, v ≤ LAST: the bound of one number, which the functions of a purge pass down
+// Kept, r < c.records: no words in it; a struct of counts and number would be made anew at each call, and where a slot
+// goes with a record, two would have to be said to have the same counts.
+// Kept, v ≤ LAST: of a point that a purge hands down; a struct of a bounded number would be opened at each comparison.
 #![tactic(auto)]
 
 ghost use Rattle.std.specs.Prelude.{◌≡◌, ◌≤◌, ◌<◌, leb, map};
@@ -18,13 +19,14 @@ ghost use Rattle.tables.specs.Words.{Well};
 ghost use Rattle.changes.specs.Becomes.{Becomes, with_floor, on_locks};
 ghost use Rattle.trims.specs.Frees.{FreesVersions, FreesLocks};
 
-use chains::{Cursor, Placed};
+use chains::Cursor;
 use changes::free_rows;
 use tables::{L_LOW, Part, R_FLOOR, Records, Row, Tables};
 use types::{Counts, Lock, SETTLED, Version};
 use writes::set_word;
 
 // The record's floor.
+// Kept: words and counts, Well c w, r < c.records; the head of this file says why.
 pub fn set_floor(w: &mut [u64], c: Counts, r: usize, v: u64)
     requires { Well c w.old × (r < c.records) }
     ensures { Becomes c w.new
@@ -36,6 +38,7 @@ pub fn set_floor(w: &mut [u64], c: Counts, r: usize, v: u64)
 // Settled locks lose their points up to v, and rows left empty go.
 
 // The low end that a lock is left with.
+// Kept: v ≤ LAST; the head of this file says why.
 fn raised_low(l: Lock, v: u64) -> u64
     requires { v ≤ LAST }
     ensures { result ≡ (trimmed v l).low }
@@ -48,14 +51,22 @@ fn raised_low(l: Lock, v: u64) -> u64
 }
 
 // The low ends of record r's locks rise so.
+// Kept: words and counts, Well c w, r < c.records, v ≤ LAST; the head of this file says why.
 fn raise_lows(w: &mut [u64], c: Counts, r: usize, v: u64)
     requires { Well c w.old × (r < c.records) × (v ≤ LAST) }
     ensures { Becomes c w.new (on_locks (decode_at c w.old) r (map (trimmed v))) }
 {
-    let t = Lock::table(c);
-    let h = Lock::heads(c);
-    let mut walk = Cursor::new(t, chains::head_of(w, h, r + 1));
-    while let Some(i) = walk.along(&Placed { words: w, table: t }) {
+    let tables = Tables {
+        words: w,
+        counts: c,
+    };
+    let mut walk = Cursor::new(Lock::table(c), tables.first::<Lock>(r + 1));
+    while let Some(i) = walk.along(&Tables {
+        words: w,
+        counts: c,
+    }
+    .part::<Lock>())
+    {
         let l = Lock::read(
             Tables {
                 words: w,
@@ -68,6 +79,7 @@ fn raise_lows(w: &mut [u64], c: Counts, r: usize, v: u64)
 }
 
 // Settled locks of record r lose their points up to v; replies how many rows were freed.
+// Kept: words and counts, Well c w, r < c.records, v ≤ LAST; the head of this file says why.
 pub fn trim_locks(w: &mut [u64], c: Counts, r: usize, v: u64) -> u64
     requires { Well c w.old × (r < c.records) × (v ≤ LAST) }
     ensures { FreesLocks c w.old w.new r (trim_to v) result }
@@ -79,6 +91,7 @@ pub fn trim_locks(w: &mut [u64], c: Counts, r: usize, v: u64) -> u64
 // Versions.
 
 // The versions of record r below v go; replies how many.
+// Kept: words and counts, Well c w, r < c.records; the head of this file says why.
 pub fn cut_versions(w: &mut [u64], c: Counts, r: usize, v: u64) -> u64
     requires { Well c w.old × (r < c.records) }
     ensures { FreesVersions c w.old w.new r (keep (λ x. leb v x.point)) result }

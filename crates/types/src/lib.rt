@@ -25,44 +25,28 @@ pub const MAX_EDITS: usize = 63;
 pub const MAX_ROWS: usize = 4095;
 
 // The states of an edit slot, the modes of a lock, the owner of a settled one.
-// Kept: the number that stands in the words, where others may stand too; `State` is what callers ask for.
+// Kept: the number that stands in the words; any may stand there, and any may be stored, as it always could.
 pub const FREE: u64 = 0;
 
-// Kept: the number that stands in the words, where others may stand too; `State` is what callers ask for.
+// Kept: the number that stands in the words; any may stand there, and any may be stored, as it always could.
 pub const OPEN: u64 = 1;
 
-// Kept: the number that stands in the words, where others may stand too; `State` is what callers ask for.
+// Kept: the number that stands in the words; any may stand there, and any may be stored, as it always could.
 pub const COMMITTED: u64 = 2;
 
-// Kept: the number that stands in the words, where others may stand too; `State` is what callers ask for.
+// Kept: the number that stands in the words; any may stand there, and any may be stored, as it always could.
 pub const ABORTED: u64 = 3;
 
-// Kept: the number that stands in the words, where others may stand too; `Mode` is what callers ask for.
+// Kept: the number that stands in the words; any may stand there, and any may be asked for, as it always could.
 pub const READ: u64 = 1;
 
-// Kept: the number that stands in the words, where others may stand too; `Mode` is what callers ask for.
+// Kept: the number that stands in the words; any may stand there, and any may be asked for, as it always could.
 pub const WRITE: u64 = 2;
 
 // Kept: the owner that stands in the words of a settled lock, where else a slot's number stands.
 pub const SETTLED: u64 = 0;
 
-// The modes of a lock and the states of an edit slot, as a caller asks for them. In the words each is a number, and in
-// words that nobody checked it may be another one.
-#[derive(Clone, Copy, PartialEq, Eq)]
-pub enum Mode {
-    Read,
-    Write,
-}
-
-#[derive(Clone, Copy, PartialEq, Eq)]
-pub enum State {
-    Free,
-    Open,
-    Committed,
-    Aborted,
-}
-
-// A clock reading. Only `make_point` turns it into a point.
+// A clock reading. Only `Point::of` turns it into a point.
 #[derive(Clone, Copy, PartialEq, Eq)]
 pub struct Reading(u64);
 
@@ -87,7 +71,7 @@ pub type Value = Option<u64>;
 pub struct Version {
     pub point: u64,
     pub value: Value,
-    // Kept: document 01 gives a version a third word; the check asks that it is 0, so it is part of what words mean.
+    // Kept: document 01 gives a version a third word, which no clause judges; it is part of what words mean (DECISIONS)
     pub spare: u64,
 }
 
@@ -105,7 +89,7 @@ pub struct Lock {
 #[derive(Clone, Copy, PartialEq, Eq)]
 pub struct Access {
     pub rec: u64,
-    // Kept: one number, as in document 01: `from <= p` and `p < end` serve an access that read nothing, too.
+    // Kept: any word may stand there; Some of the largest point, stored + 1, fits no word: put_access would ask more.
     pub from: u64,
     pub value: Value,
 }
@@ -225,7 +209,7 @@ pub enum Granted {
 impl From<u64> for Reading {
     ghost from_gives = { λ word r. r.0 ≡ word };
 
-    // `make_point` refuses one above 2^40 - 1.
+    // `Point::of` refuses one above 2^40 - 1.
     fn from(word: u64) -> Reading {
         Reading(word)
     }
@@ -234,7 +218,7 @@ impl From<u64> for Reading {
 impl From<u64> for Seat {
     ghost from_gives = { λ word s. s.0 ≡ word };
 
-    // `make_point` refuses one above 63.
+    // `Point::of` refuses one above 63.
     fn from(word: u64) -> Seat {
         Seat(word)
     }
@@ -273,38 +257,6 @@ impl From<Handle> for u64 {
     // The number of a handle, for replies.
     fn from(h: Handle) -> u64 {
         h.0
-    }
-}
-
-impl From<Mode> for u64 {
-    ghost use Rattle.std.specs.Prelude.{◌≡◌};
-    ghost use Rattle.types.specs.Kinds.{mode_number};
-
-    ghost from_gives = { λ m word. word ≡ mode_number m };
-
-    // The number of a mode, for the words.
-    fn from(m: Mode) -> u64 {
-        match m {
-            Mode::Read => READ,
-            Mode::Write => WRITE,
-        }
-    }
-}
-
-impl From<State> for u64 {
-    ghost use Rattle.std.specs.Prelude.{◌≡◌};
-    ghost use Rattle.types.specs.Kinds.{state_number};
-
-    ghost from_gives = { λ s word. word ≡ state_number s };
-
-    // The number of a state, for the words.
-    fn from(s: State) -> u64 {
-        match s {
-            State::Free => FREE,
-            State::Open => OPEN,
-            State::Committed => COMMITTED,
-            State::Aborted => ABORTED,
-        }
     }
 }
 

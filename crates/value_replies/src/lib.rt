@@ -10,6 +10,7 @@ use replies::Line;
 use types::{Found, Granted};
 
 // The line of what a call of any kind gives.
+// Kept: a From has to stand in the crate of `Line`; DECISIONS, "Many small crates", keeps the lines of values apart.
 pub fn line_of_granted(g: Granted) -> Line
     ensures { result ≡ line_of (of_granted g) }
 {

@@ -9,6 +9,7 @@ ghost use Rattle.codes.specs.Codes.{Tells};
 use codes::refusal;
 use types::Refusal;
 
+// Kept: C hears a refusal as a number, and 0 for none.
 pub fn done(r: Result<(), Refusal>) -> u64
     ensures { Tells (of_done r) result [] [] }
 {

@@ -1,10 +1,13 @@
 // Stores of words and rows. Each promises the exact words after it; what changes make of the decoded store is the crate
 // `changes`. A caller proves that the words have these counts (`Fits`), so the functions have `requires`. Rests on the
-// crates `types`, `chains`, `updates` and `tables`, which alone names the layout.
+// crates `types`, `chains`, `updates` and `tables`, which has the names of the layout.
 // Kept, words and counts: a struct that holds lent `&mut` words would have each contract say that it keeps them
 // Kept, Fits c w: a fact of the words, which a struct over `&mut` words cannot hold while they change
-// Kept, IsRow c: a fact of the counts beside those words
-// Kept, r < c.records: a fact of the counts beside those words
+// Kept, Ready: as Fits c w
+// Kept, IsRow c: no words in it; a row's number comes from a chain, and a struct of it would be made anew at each call
+// Kept, o < stride: an offset is a constant of the layout, and that a row is wider is seen where it is named
+// Kept, r < c.records: the same of a record's number
+// Kept, the mode and owner of l: a Lock is also what any words hold, so its type cannot hold them
 #![tactic(auto)]
 
 ghost use Rattle.std.specs.Prelude.{◌≡◌, suc, ◌≤◌, ◌<◌, set};
@@ -25,6 +28,7 @@ use updates::Pair;
 
 // Stores of one word.
 
+// Kept: words and counts, Fits c w, IsRow c, o < stride; the head of this file says why.
 pub fn set_word<P: Part>(w: &mut [u64], c: Counts, i: usize, o: usize, v: u64)
     requires { Fits c w.old × IsRow (P.table c).count i × (o < (P.table c).stride) }
     ensures { w.new ≡ set w.old (place (P.table c) i o) v }
@@ -34,6 +38,8 @@ pub fn set_word<P: Part>(w: &mut [u64], c: Counts, i: usize, o: usize, v: u64)
 
 // Stores of a row's words, all but its link.
 
+// Kept: the one writer of a whole row of this kind; no derive knows offsets (its counterpart is Row::read).
+// Kept: words and counts, Fits c w, IsRow c; the head of this file says why.
 #[tactic(auto, unfolding(tables::specs::Layout::version_table))]
 pub fn put_version(w: &mut [u64], c: Counts, i: usize, point: u64, value: u64)
     requires { Fits c w.old × IsRow c.versions i }
@@ -45,7 +51,8 @@ pub fn put_version(w: &mut [u64], c: Counts, i: usize, point: u64, value: u64)
 }
 
 // A lock's mode and owner in one word. Owners are slots, so they fit.
-// Kept: one word of document 01 holds both
+// Kept: one word of document 01 holds both; Row::read takes them apart.
+// Kept: the mode and owner of l; the head of this file says why.
 fn lock_tag(l: Lock) -> u64
     requires { (l.mode < MODES) × (l.owner ≤ MAX_EDITS) }
     ensures { result ≡ lock_tag l }
@@ -54,6 +61,8 @@ fn lock_tag(l: Lock) -> u64
 }
 
 // Kept: it stores other words than put_version, one of them a record's number; a trait would only hold the same lines
+// Kept: the one writer of a whole row of this kind; no derive knows offsets (its counterpart is Row::read).
+// Kept: words and counts, Fits c w, IsRow c, the mode and owner of l; the head of this file says why.
 #[tactic(auto, unfolding(tables::specs::Layout::lock_table))]
 pub fn put_lock(w: &mut [u64], c: Counts, i: usize, r: usize, l: Lock)
     requires { Fits c w.old × IsRow c.locks i × (l.mode < MODES) × (l.owner ≤ MAX_EDITS) }
@@ -67,6 +76,8 @@ pub fn put_lock(w: &mut [u64], c: Counts, i: usize, r: usize, l: Lock)
 }
 
 // Kept: it stores other words than put_version and put_lock; a trait would only hold the same lines
+// Kept: the one writer of a whole row of this kind; no derive knows offsets (its counterpart is Row::read).
+// Kept: words and counts, Fits c w, IsRow c; the head of this file says why.
 #[tactic(auto, unfolding(tables::specs::Layout::access_table))]
 pub fn put_access(w: &mut [u64], c: Counts, i: usize, a: Access)
     requires { Fits c w.old × IsRow c.accesses i }
@@ -81,6 +92,7 @@ pub fn put_access(w: &mut [u64], c: Counts, i: usize, a: Access)
 // The first free row comes to stand on record r's chain of such rows after those whose word o comes before q. Replies
 // the row; none where none is free.
 // Kept: linked rows can only be searched from the start; the word is named by its offset, as in every store of a word
+// Kept: words and counts, Fits c w, Ready, r < c.records, o < stride; the head of this file says why.
 pub fn insert<R: Row, O: Order>(
     w: &mut [u64],
     c: Counts,

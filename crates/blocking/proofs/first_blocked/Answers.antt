@@ -17,8 +17,8 @@ returns-then-is_frozen c =
     judged_frozen t.counts t.words.now _ _ _ _ _ c.args.r.there c.args.p.order c.requires.2 c.requires.0
     c.requires.1 _ (sym c.in_ok-b.was ∙ c.nearest.ensures) c.is_frozen.ensures c.if-is_frozen.true
 
-pub returns : goal.returns
-returns c =
+pub returns-else-is_frozen : goal.returns-else-is_frozen
+returns-else-is_frozen c =
     let t = c.args.r.tables in
     judged_held t.counts t.words.now _ _ _ _ _ c.args.r.there c.args.p.order c.requires.2 c.requires.0
     c.requires.1 _ (sym c.in_ok-b.was ∙ c.nearest.ensures) c.is_frozen.ensures c.if-is_frozen.false

@@ -1,7 +1,6 @@
 -- `blocking::nearest` meets its contract: what the walk finds from here is what it finds from the start.
 use mathlib.Core.Path.{◌≡◌}
 use Rattle.std.specs.Prelude.{None}
-use Rattle.types.specs.Kinds.{mode_number}
 use Rattle.tables.specs.Views.{rec_in}
 use Rattle.tables.specs.Walked.{values_left}
 use Rattle.blocking.specs.Search.{nearest}
@@ -9,5 +8,5 @@ use Rattle.blocking.proofs.nearest.Given as goal
 
 abbrev pub invariant-loop-l : goal.invariant-loop-l
 invariant-loop-l l =
-    nearest (mode_number l.a.mode) l.a.slot l.p.low l.p.high l.best (values_left l.l-iterator)
-    ≡ nearest (mode_number l.a.mode) l.a.slot l.p.low l.p.high None (rec_in l.r).locks
+    nearest l.a.mode l.a.slot l.p.low l.p.high l.best (values_left l.l-iterator)
+    ≡ nearest l.a.mode l.a.slot l.p.low l.p.high None (rec_in l.r).locks

@@ -14,10 +14,13 @@ put-requires c = (
 )
 
 pub loop-i-preserved : goal.loop-i-preserved
-loop-i-preserved c = link_again c.loop-i.invariant (omega arith) c.next_free.ensures c.put.ensures
+loop-i-preserved c = link_again _ c.loop-i.invariant (omega arith) c.next_free.ensures c.put.ensures
 
 pub shape_of-w : goal.shape_of-w
 shape_of-w c = c.loop-i.invariant.size
 
 pub returns : goal.returns
 returns c = link_done c.loop-i.invariant (omega arith)
+
+pub returns-2 : goal.returns-2
+returns-2 c = link_done (link_again _ c.loop-i.invariant (omega arith) c.next_free.ensures c.put.ensures) (omega arith)

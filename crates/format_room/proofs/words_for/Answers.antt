@@ -2,7 +2,6 @@
 -- Assumes nothing.
 use mathlib.Core.Path.{sym, ap, ◌∙◌}
 use lib.Dec.{leb}
-use Rattle.std.proofs.Common.{Ok}
 use borrow.Author.Tests.{le-leb, lt-leb}
 use Rattle.tables.proofs.Header.{good_ranged}
 use Rattle.format_room.specs.Room.{room_for, words_for}
@@ -23,7 +22,7 @@ returns-then-n-room c =
     (rw (ap (λ x. leb x c.args.room) (sym c.size_of-n.ensures)
     ∙ le-leb c.size_of-n.result c.args.room
     (omega (arith, c.if-n-room.true)))
-    (ap Ok c.size_of-n.ensures))
+    c.size_of-n.ensures)
 
 pub returns-else-n-room : goal.returns-else-n-room
 unfolding words_for room_for

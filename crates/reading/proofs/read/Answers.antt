@@ -2,10 +2,9 @@
 use mathlib.Core.Path.{ap, ◌∙◌}
 use Rattle.std.specs.Prelude.{Err}
 use Rattle.calls.proofs.Acting.{has_header, ready, slot_row, indexed_at}
-use Rattle.calls.proofs.Checks.{passed, open_out, record_out, record_refused}
+use Rattle.calls.proofs.Checks.{passed, open_out, record_out, record_refused, point_out, point_refused}
 use Rattle.calls.proofs.Handles.{row_there}
-use Rattle.reading.proofs.Reading.{reads_closed, reads_no_record, reads_zero, reads_too_large}
-use Rattle.reading.proofs.Reading.{read_acts}
+use Rattle.reading.proofs.Reading.{reads_closed, reads_no_record, reads_bad_point, read_acts}
 use Rattle.reading.proofs.read.Goals as goal
 
 pub counts_of-c-requires : goal.counts_of-c-requires
@@ -26,30 +25,23 @@ returns-in_err-r c =
     rw (passed c.from_residual-in_err-r.result c.from_residual-in_err-r.ensures.1 ∙ ap Err r.1)
     (reads_no_record _ _ c.requires.0 c.counts_of-c.ensures _ _ _ _ o.0 o.1 r.0)
 
-pub returns-then-n-lt1 : goal.returns-then-n-lt1
-returns-then-n-lt1 c =
+pub returns-in_err-n : goal.returns-in_err-n
+returns-in_err-n c =
     let o = open_out _ _ c.open_slot.ensures c.in_ok-k.was in
     let r = record_out _ _ c.record.ensures c.in_ok-r.was in
-    reads_zero _ _ c.requires.0 c.counts_of-c.ensures _ _ _ _ o.0
-    o.1 r.0 _
-    c.from-n.ensures c.if-n-lt1.true
-
-pub returns-then-n-gt-LAST : goal.returns-then-n-gt-LAST
-returns-then-n-gt-LAST c =
-    let o = open_out _ _ c.open_slot.ensures c.in_ok-k.was in
-    let r = record_out _ _ c.record.ensures c.in_ok-r.was in
-    reads_too_large _ _ c.requires.0 c.counts_of-c.ensures _ _ _ _ o.0
-    o.1 r.0 _
-    c.from-n.ensures c.if-n-lt1.false c.if-n-gt-LAST.true
+    let n = point_refused _ _ c.point.ensures c.in_err-n.was in
+    rw (passed c.from_residual-in_err-n.result c.from_residual-in_err-n.ensures.1 ∙ ap Err n.1)
+    (reads_bad_point _ _ c.requires.0 c.counts_of-c.ensures _ _ _ _ o.0 o.1 r.0 n.0)
 
 pub read_open-requires : goal.read_open-requires
 read_open-requires c =
     let o = open_out _ _ c.open_slot.ensures c.in_ok-k.was in
-    let r = record_out _ _ c.record.ensures c.in_ok-r.was in (
+    let r = record_out _ _ c.record.ensures c.in_ok-r.was in
+    let n = point_out _ _ c.point.ensures c.in_ok-n.was in (
       ready _ c.requires.0 _ c.counts_of-c.ensures,
       rw o.2 (slot_row _ _ _ o.0),
       rw r.1 (row_there _ _ r.0),
-      c.if-n-gt-LAST.false,
+      rw n.2 n.1,
       indexed_at _ _ c.counts_of-c.ensures c.requires.1,
     )
 
@@ -57,6 +49,6 @@ pub returns : goal.returns
 returns c =
     let o = open_out _ _ c.open_slot.ensures c.in_ok-k.was in
     let r = record_out _ _ c.record.ensures c.in_ok-r.was in
-    read_acts _ _ c.requires.0 c.counts_of-c.ensures _ _ _ _ o.0
-    o.1 r.0 _
-    c.from-n.ensures c.if-n-lt1.false c.if-n-gt-LAST.false _ _ _ o.2 (rw r.1 at c.read_open.ensures)
+    let n = point_out _ _ c.point.ensures c.in_ok-n.was in
+    read_acts _ _ c.requires.0 c.counts_of-c.ensures _ _ _ _ o.0 o.1 r.0 n.0 n.1 _ _ _ _ o.2 n.2
+    (rw r.1 at c.read_open.ensures)

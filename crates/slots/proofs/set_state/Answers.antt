@@ -20,6 +20,5 @@ set_word-requires-2 c = (
 
 pub returns : goal.returns
 returns c =
-    rw c.from.ensures at
-    (set_state_law _ _ c.requires.0 c.requires.1
-    c.set_word.ensures c.set_word-2.ensures)
+    set_state_law _ _ c.requires.0 c.requires.1
+    c.set_word.ensures c.set_word-2.ensures

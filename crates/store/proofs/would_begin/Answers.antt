@@ -13,13 +13,16 @@ pub invariant_of-tables : goal.invariant_of-tables
 invariant_of-tables c =
     record { fits = (ready _ (checked_sound _ c.check.ensures c.in_ok-check.was) _ c.counts_of.ensures).well.fits }
 
-pub returns-in-Some : goal.returns-in-Some
-returns-in-Some c =
-    a_slot _ _ (checked_sound _ c.check.ensures c.in_ok-check.was) c.counts_of.ensures c.free_slot.ensures c.in-Some.is
+pub returns-in_err-ok_or : goal.returns-in_err-ok_or
+returns-in_err-ok_or c =
+    rw (passed c.from_residual-in_err-ok_or.result c.from_residual-in_err-ok_or.ensures.1)
+    (no_slot _ _ (checked_sound _ c.check.ensures c.in_ok-check.was) c.counts_of.ensures c.free_slot.ensures
+    c.ok_or.ensures.value c.in_err-ok_or.was)
 
-pub returns-in-None : goal.returns-in-None
-returns-in-None c =
-    no_slot _ _ (checked_sound _ c.check.ensures c.in_ok-check.was) c.counts_of.ensures c.free_slot.ensures c.in-None.is
+pub returns : goal.returns
+returns c =
+    a_slot _ _ (checked_sound _ c.check.ensures c.in_ok-check.was) c.counts_of.ensures c.free_slot.ensures
+    c.ok_or.ensures.value c.in_ok-ok_or.was
 
 pub returns-in_err-check : goal.returns-in_err-check
 returns-in_err-check c =

@@ -11,27 +11,31 @@ loop-i-init g c =
     λ p d. freeing_start _ (rw (c.table-t.ensures, c.heads-h.ensures) c.requires.ready.2)
     (rw (c.head_of.ensures, add-one) at c.new-walk.ensures)
 
-pub invariant_of-read : goal.invariant_of-read
-invariant_of-read g c =
+pub invariant_of-part : goal.invariant_of-part
+invariant_of-part g c =
     let q = c.requires.tested in record {
       fits = freeing_fits (c.loop-i.invariant q.0 q.1) c.args.c c.requires.kept c.table-t.ensures c.heads-h.ensures;
     }
 
 pub unlink-requires : goal.unlink-requires
 unlink-requires g c =
-    let q = c.requires.tested in rw add-one (freeing_ready (c.loop-i.invariant q.0 q.1) c.in-Some.ensures)
+    let q = c.requires.tested in
+    rw add-one (freeing_ready (c.loop-i.invariant q.0 q.1)
+    (rw (c.part.ensures.0, c.part.ensures.1, sym c.table-t.ensures) at c.in-Some.ensures))
 
 pub overflow_add-freed : goal.overflow_add-freed
 overflow_add-freed g c =
     let q = c.requires.tested in
     let room =
-    freeing_room (c.loop-i.invariant q.0 q.1) c.in-Some.ensures _ (rw add-one at c.unlink.ensures) in
+    freeing_room (c.loop-i.invariant q.0 q.1)
+    (rw (c.part.ensures.0, c.part.ensures.1, sym c.table-t.ensures) at c.in-Some.ensures) _
+    (rw add-one at c.unlink.ensures) in
     search rules
 
 pub loop-i-preserved-then-test : goal.loop-i-preserved-then-test
 loop-i-preserved-then-test g c =
     λ p d. let i = c.loop-i.invariant p d in
-    let m = c.in-Some.ensures in
+    let m = rw (c.part.ensures.0, c.part.ensures.1, sym c.table-t.ensures) at c.in-Some.ensures in
     freeing_hit i m
     (ap p
     (sym (freeing_entry i c.args.c c.requires.kept c.table-t.ensures c.heads-h.ensures m) ∙ sym c.read-row.ensures)
@@ -41,7 +45,7 @@ loop-i-preserved-then-test g c =
 pub loop-i-preserved : goal.loop-i-preserved
 loop-i-preserved g c =
     λ p d. let i = c.loop-i.invariant p d in
-    let m = c.in-Some.ensures in
+    let m = rw (c.part.ensures.0, c.part.ensures.1, sym c.table-t.ensures) at c.in-Some.ensures in
     freeing_miss i m
     (ap p
     (sym (freeing_entry i c.args.c c.requires.kept c.table-t.ensures c.heads-h.ensures m) ∙ sym c.read-row.ensures)
@@ -50,4 +54,5 @@ loop-i-preserved g c =
 pub returns : goal.returns
 returns g c =
     λ p d. rw (c.table-t.ensures, c.heads-h.ensures) at
-    (freeing_end (c.loop-i.invariant p d) c.in_default.ensures)
+    (freeing_end (c.loop-i.invariant p d)
+    (rw (c.part.ensures.0, c.part.ensures.1, sym c.table-t.ensures) at c.in_default.ensures))

@@ -1,10 +1,9 @@
 -- `lookups::edits::known` meets its contract. Rests on Slots.
-use Rattle.lookups.proofs.Slots.{known_none, known_some}
+use borrow.Author.Tests.{tests}
+use Rattle.std.proofs.Common.{rules}
+use Rattle.lookups.proofs.Slots.{known_of}
 use Rattle.lookups.proofs.edits.known.Goals as goal
 
-pub returns-in-Some : goal.returns-in-Some
-returns-in-Some c = known_some c.args.t c.args.h.0 c.in-Some.s c.in-Some.ensures c.generation.ensures
-    c.generation-in-Some.ensures
-
-pub returns-in-None : goal.returns-in-None
-returns-in-None c = known_none c.args.t c.args.h.0 c.in-None.ensures
+pub returns : goal.returns
+returns c = known_of c.args.t c.args.h.0 c.slot_of.result c.slot_of.ensures c.is_some_and.ensures
+    (λ s k. search (rules, tests))

@@ -13,5 +13,6 @@ returns g c =
     (count_from_yields_List c.take.result _ c.count.ensures.ran
     (YieldsList-from_take c.args.most
     (YieldsList-at c.take.ensures.source
-    (YieldsList-from_first (λ i. i) rows_left _ (c.rows.ensures ∙ rw (c.table.ensures, c.first.ensures) refl)))
+    (YieldsList-from_first (λ i. i) rows_left _
+    (c.rows.ensures ∙ rw (c.part.ensures.0, c.part.ensures.1, c.first.ensures) refl)))
     c.take.ensures.count))

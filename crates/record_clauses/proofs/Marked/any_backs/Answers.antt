@@ -1,37 +1,30 @@
--- The walk starts at the record's lock rows, each row met is one of them, and a turn goes on past a row that does not
--- back.
-use mathlib.Core.Path.{refl, sym, ap, ◌∙◌}
-use mathlib.Core.List.{map}
+-- `record_clauses::Marked::any_backs` meets its contract: the rows are those of the record's chain, so that the marks
+-- tell of each. Rests on Chained of `tables` and on Marks of `clauses`.
+use mathlib.Core.Path.{◌∙◌, ap}
+use borrow.Author.Tests.{tests}
+use Rattle.std.proofs.Common.{rules}
+use Rattle.std.proofs.lemmas.Iterator.Adapters.{serves_from_places}
+use Rattle.std.proofs.lemmas.Iterator.Consumers.{YieldsList-from_first}
 use Rattle.chains.specs.Walker.{rows_left}
 use Rattle.meaning.specs.Lists.{any}
 use Rattle.meaning.specs.Sound.{backs}
-use Rattle.tables.specs.Decode.{lock_at, edits_of}
-use Rattle.clauses.proofs.Steps.{or_on}
-use Rattle.clauses.proofs.Marks.{locks_listed, ahead_start, ahead_here, ahead_on}
+use Rattle.tables.specs.Decode.{lock_at, edits_of, lock_rows}
+use Rattle.tables.proofs.Chained.{any_rows}
+use Rattle.clauses.proofs.Marks.{locks_listed, row_among, any_locks}
 use Rattle.record_clauses.proofs.Marked.any_backs.Goals as goal
 
-pub loop-i-init : goal.loop-i-init
-loop-i-init c =
+pub any-requires-clause-callable : goal.any-requires-clause-callable
+any-requires-clause-callable c =
+    let r = c.args.self.record in
+    serves_from_places (YieldsList-from_first (λ x. x) rows_left _ c.lock_rows.ensures) (λ i q k. search rules)
+    (λ i k l e. let o = row_among (lock_rows r.tables.counts r.tables.words.now r.number) k i i l e in search rules)
+
+pub returns : goal.returns
+returns c =
     let r = c.args.self.record in
     let n = r.tables.counts in
     let w = r.tables.words.now in
-    let e = ap rows_left c.into_iter-i-iterator.ensures.into_iter_gives ∙ c.lock_rows-i-items.ensures in
-    let p = backs (edits_of n w) r.number c.args.p in (
-      ap (λ rs. any p (map (lock_at n w) rs)) e ∙ ap (any p) (locks_listed n w r.number),
-      ahead_start e,
-    )
-
-pub row_backs-requires : goal.row_backs-requires
-row_backs-requires c = ahead_here c.loop-i.invariant.1 c.in-Some.ensures.steps
-
-pub loop-i-preserved : goal.loop-i-preserved
-loop-i-preserved c =
-    let r = c.args.self.record in
-    let n = r.tables.counts in
-    let w = r.tables.words.now in
-    let p = backs (edits_of n w) r.number c.args.p in (
-      or_on (sym c.row_backs.ensures ∙ c.if-row_backs.false) refl
-          ∙ sym (ap (λ rs. any p (map (lock_at n w) rs)) c.in-Some.ensures.steps)
-          ∙ c.loop-i.invariant.0,
-      ahead_on c.loop-i.invariant.1 c.in-Some.ensures.steps,
-    )
+    any_rows (λ i. backs (edits_of n w) r.number c.args.p (lock_at n w i)) c.any.new.self c.any.ensures.ran
+    c.lock_rows.ensures (λ i b q k. search (rules, tests))
+    ∙ any_locks (backs (edits_of n w) r.number c.args.p) (lock_at n w) (lock_rows n w r.number)
+    ∙ ap (any (backs (edits_of n w) r.number c.args.p)) (locks_listed n w r.number)

@@ -1,13 +1,14 @@
 use Rattle.chains.proofs.Parts.{mark_start, mark_met, mark_twice, mark_broken, mark_end}
 use mathlib.Core.Path.{refl}
+use native.Mathlib.Omega.{arith}
 use Rattle.chains.proofs.partition.Check.mark_chain.Goals as goal
 
 pub loop-row-init : goal.loop-row-init
-loop-row-init c = (mark_start _ _ _ c.requires.marks, refl)
+loop-row-init c = (mark_start _ _ _ (omega arith), refl)
 
 pub loop-row-preserved : goal.loop-row-preserved
 loop-row-preserved c =
-    let i = c.loop-row.invariant in (mark_met i.0 c.requires.few c.in-Some.ensures c.if-self-row.false, i.1)
+    let i = c.loop-row.invariant in (mark_met i.0 c.args.self.now.few c.in-Some.ensures c.if-self-row.false, i.1)
 
 pub returns-then-self-row : goal.returns-then-self-row
 returns-then-self-row c =

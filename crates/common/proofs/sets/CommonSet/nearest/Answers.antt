@@ -27,28 +27,25 @@ loop-j-init g c =
     (ap enumerate_count e ∙ s.count)
     (ap (λ t. values_left (enumerate_source t)) e ∙ ap values_left s.source ∙ c.accesses.ensures) t.named
 
-pub invariant_of-next : goal.invariant_of-next
-invariant_of-next g c = record { there = named_next _ _ c.loop-j.invariant.named c.in-Some.ensures.steps.0 }
-
-pub lift-requires : goal.lift-requires
-lift-requires g c =
+pub lift_next-requires : goal.lift_next-requires
+lift_next-requires g c =
     let t = c.in-Some.ensures.steps in
     let s = c.args.self in
     let n = seek_next (allows_at g.E.End.point (recs_in s) s.slot.number) _ _ _ c.loop-j.invariant t.0 t.1 in
-    (n.2.from, n.0, n.1, (n.2, c.loop-j.invariant.low))
+    (n.2.from, n.0, named_next _ _ c.loop-j.invariant.named t.0, n.1, (n.2, c.loop-j.invariant.low))
 
 pub returns-in_err-p : goal.returns-in_err-p
 returns-in_err-p g c =
     let s = c.args.self in
     rw c.from_residual.ensures
-    (seek_out (allows_at g.E.End.point (recs_in s) s.slot.number) _ _ _ _ (rw c.in_err-p.was at c.lift.ensures)
+    (seek_out (allows_at g.E.End.point (recs_in s) s.slot.number) _ _ _ _ (rw c.in_err-p.was at c.lift_next.ensures)
     (omega arith))
 
 pub loop-j-preserved : goal.loop-j-preserved
 loop-j-preserved g c =
     let t = c.in-Some.ensures.steps in
     let s = c.args.self in
-    let b = rw c.in_ok-p.was at c.lift.ensures in
+    let b = rw c.in_ok-p.was at c.lift_next.ensures in
     seek_on (allows_at g.E.End.point (recs_in s) s.slot.number) _ _ _ c.loop-j.invariant t.0 t.1 t.2 b.0 b.1
 
 pub returns : goal.returns

@@ -20,18 +20,19 @@ loop-a-init g c =
       c.requires.1,
     )
 
-pub invariant_of-limit : goal.invariant_of-limit
-invariant_of-limit g c = record { there = named_next _ _ c.loop-a.invariant.1 c.in-Some.ensures.steps.0 }
+pub limit-requires : goal.limit-requires
+limit-requires g c = named_next _ _ c.loop-a.invariant.1 c.in-Some.ensures.steps.0
 
 pub returns-in_err-q : goal.returns-in_err-q
 returns-in_err-q g c =
     rw c.from_residual.ensures
     (raise_out (take_count c.loop-a.a-iterator) (take_count c.next.new.self) c.loop-a.invariant.0
-    c.in-Some.ensures.steps.0 c.in-Some.ensures.steps.1 (rw c.in_err-q.was at c.next_allowed.ensures))
+    c.in-Some.ensures.steps.0 c.in-Some.ensures.steps.1
+    (rw (c.limit.ensures.0, c.limit.ensures.1, c.limit.ensures.2, c.in_err-q.was) at c.next_allowed.ensures))
 
 pub loop-a-preserved : goal.loop-a-preserved
 loop-a-preserved g c =
-    let b = rw c.in_ok-q.was at c.next_allowed.ensures in (
+    let b = rw (c.limit.ensures.0, c.limit.ensures.1, c.limit.ensures.2, c.in_ok-q.was) at c.next_allowed.ensures in (
       raise_on (take_count c.loop-a.a-iterator) (take_count c.next.new.self) c.loop-a.invariant.0
           c.in-Some.ensures.steps.0 c.in-Some.ensures.steps.1 b.0,
       named_on _ _ c.loop-a.invariant.1 c.in-Some.ensures.steps.0,

@@ -4,8 +4,9 @@ use native.Mathlib.Omega.{arith}
 use lib.ListN.{length-set}
 use Rattle.chains.specs.Walk.{IsRow}
 use Rattle.chains.specs.Walker.{rows_left}
+use Rattle.tables.specs.Layout.{lock_table}
 use Rattle.clauses.specs.Marks.{mark_own}
-use Rattle.clauses.proofs.Marks.{lock_row, ahead_start, ahead_here, ahead_on, own_on_lem, own_done}
+use Rattle.clauses.proofs.Marks.{lock_row, ahead_start, ahead_here, ahead_on, own_hit, own_miss, own_done}
 use Rattle.std.proofs.Common.{rules}
 use Rattle.record_clauses.proofs.lock_marks.LockMarks.mark_own.Goals.{In-Some}
 use Rattle.record_clauses.proofs.lock_marks.LockMarks.mark_own.Goals as goal
@@ -26,19 +27,23 @@ pub bounds-self-i : goal.bounds-self-i
 bounds-self-i c =
     let l = row (goal.at.bounds-self-i c).In-Some in omega (arith, l.high, c.args.r.tables.fits.ranged.locks_high)
 
-pub own_mark-requires : goal.own_mark-requires
-own_mark-requires c = row (goal.at.own_mark-requires c).In-Some
+pub read-requires : goal.read-requires
+unfolding lock_table
+read-requires c = row (goal.at.read-requires c).In-Some
 
-pub bounds-self-i-in-loop-i : goal.bounds-self-i-in-loop-i
-bounds-self-i-in-loop-i c =
-    let l = row (goal.at.bounds-self-i-in-loop-i c).In-Some in
-    omega (arith, l.high, c.args.r.tables.fits.ranged.locks_high)
+pub loop-i-preserved-then-read-k : goal.loop-i-preserved-then-read-k
+loop-i-preserved-then-read-k c = (
+  own_hit c.args.r.tables.counts c.args.r.tables.words.now c.args.k _ c.loop-i.invariant.0 c.in-Some.ensures.steps
+      c.read.ensures c.if-read-k.true,
+  simp length-set c.loop-i.invariant.1,
+  ahead_on c.loop-i.invariant.2 c.in-Some.ensures.steps,
+)
 
 pub loop-i-preserved : goal.loop-i-preserved
 loop-i-preserved c = (
-  own_on_lem c.args.r.tables.counts c.args.r.tables.words.now c.args.k _ c.loop-i.invariant.0 c.in-Some.ensures.steps
-      c.own_mark.ensures,
-  simp length-set c.loop-i.invariant.1,
+  own_miss c.args.r.tables.counts c.args.r.tables.words.now c.args.k _ c.loop-i.invariant.0 c.in-Some.ensures.steps
+      c.read.ensures c.if-read-k.false,
+  c.loop-i.invariant.1,
   ahead_on c.loop-i.invariant.2 c.in-Some.ensures.steps,
 )
 
