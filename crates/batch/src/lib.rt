@@ -11,7 +11,7 @@ ghost use Rattle.tables.specs.Words.{lent, decode};
 ghost use Rattle.index.specs.Index.{Indexed};
 ghost use Rattle.encoding.specs.Encoding.{CALL_WORDS, REPLY_WORDS};
 ghost use Rattle.store.specs.Promises.{Does, sound_or_refused};
-ghost use Rattle.batch.specs.Runs.{Steps, Runs};
+ghost use Rattle.batch.specs.Runs.{Steps, Runs, fitting};
 
 use encoding::{CALL_WORDS, REPLY_WORDS, call_at, put_row, row_of};
 use index::{INDEX, UNKNOWN};
@@ -58,6 +58,14 @@ fn step(
     put_row(replies, i * REPLY_WORDS, row_of(reply));
 }
 
+// How many calls of the list have room for their reply.
+// Kept: list and replies are two arrays of the C interface.
+fn fitting(list: &[u64], replies: &[u64]) -> usize
+    ensures { result ≡ fitting list.now replies.now }
+{
+    (list.len() / CALL_WORDS).min(replies.len() / REPLY_WORDS)
+}
+
 // The calls of the list with an index, and their replies.
 // Kept: as `step`; a loop shared with `asks` takes an FnMut, of which each caller would state what a turn leaves.
 fn steps(words: &mut [u64], list: &[u64], replies: &mut [u64], ix: &mut [u16]) -> usize
@@ -67,14 +75,14 @@ fn steps(words: &mut [u64], list: &[u64], replies: &mut [u64], ix: &mut [u16]) -
         replies.old replies.new result }
 {
     let checked = store::check(words);
-    let n = (list.len() / CALL_WORDS).min(replies.len() / REPLY_WORDS);
+    let n = fitting(list, replies);
     for i in 0..n {
         step(words, checked, list, i, replies, ix);
     }
     n
 }
 
-// Lists of fewer calls go without an index: to fill it takes as long as some calls.
+// Where fewer calls are to be done there is no index: to fill it takes as long as some calls.
 const FEW: usize = 16;
 
 // Does the calls of the list in their order, until the list ends or the next reply has no room; returns how many.
@@ -84,7 +92,7 @@ pub fn run(words: &mut [u64], list: &[u64], replies: &mut [u64]) -> usize
         words.old words.new
         replies.old replies.new result }
 {
-    if list.len() < FEW * CALL_WORDS {
+    if fitting(list, replies) < FEW {
         return steps(words, list, replies, &mut [UNKNOWN; 1]);
     }
     steps(words, list, replies, &mut [UNKNOWN; INDEX])

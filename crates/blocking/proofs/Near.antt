@@ -167,6 +167,14 @@ module _ (mode k low high : ℕ) where
               let near = ltb-false b.point m.low e in
               absurd (none_meets l ls rises low b.point after m j (record { starts = near; ends = i.ends }))
 
+  -- where a lock starts beyond the points, neither it nor a later one meets them
+  none_stop : (l : Lock) (ls : List Lock) → pairwise no_later (l ∷ ls) ≡ true → high < l.low
+      → Finds None (l ∷ ls) None
+  none_stop l ls rises after = (
+    refl,
+    λ m j t. none_meets l ls rises low high after m j (meets_out low high m t.meets),
+  )
+
   finds : (b : Option Start) (ls : List Lock) → pairwise no_later ls ≡ true → Finds b ls (nearest mode k low high b ls)
   unfolding nearest nearer
   finds None [] rises = (refl, λ l m t. Memᴰ.not-nil m)
@@ -175,12 +183,13 @@ module _ (mode k low high : ℕ) where
     λ s e. (let same : b ≡ s = cc in rw same (omega arith)),
     λ l m t. absurd (Memᴰ.not-nil m),
   )
-  finds b (l ∷ ls) rises = go b (test (beyond b l)) (test (tested l)) (λ d. finds d ls (rest_rises l ls rises))
+  finds b (l ∷ ls) rises = go b (test (beyond high b l)) (test (tested l)) (λ d. finds d ls (rest_rises l ls rises))
     where
-      go : (b : Option Start) → (beyond b l ≡ true) ⊎ (beyond b l ≡ false) → (tested l ≡ true) ⊎ (tested l ≡ false)
+      go : (b : Option Start) → (beyond high b l ≡ true) ⊎ (beyond high b l ≡ false)
+          → (tested l ≡ true) ⊎ (tested l ≡ false)
           → ((d : Option Start) → Finds d ls (nearest mode k low high d ls))
           → Finds b (l ∷ ls) (nearest mode k low high b (l ∷ ls))
-      go None (inl e) t rest = absurd (not_both e refl)
+      go None (inl e) t rest = rw e (none_stop l ls rises (ltb-true high l.low e))
       go (Some b) (inl e) t rest = rw e (found_stop b l ls rises (ltb-true b.point l.low e))
       go b (inr e) (inl t) rest =
           rw (e, t) (found_on l ls b (nearest mode k low high (Some (joined b (start low l))) ls) t

@@ -1,7 +1,7 @@
 -- Searches over a record's locks, as the code makes them: which locks a search is about, own ones or those that block,
 -- what one walk of them finds, and where it may stop because the locks rise. Rests on Points of the crate `meaning` and
 -- on Decode of the crate `tables`.
-use Rattle.std.specs.Prelude.{ℕ, suc, ◌<◌, min, max, ◌≡◌, Bool, true, false, cond, ◌&&◌, ◌||◌, List, [], ◌∷◌, leb, ltb}
+use Rattle.std.specs.Prelude.{ℕ, suc, ◌<◌, min, max, ◌≡◌, Bool, true, cond, ◌&&◌, ◌||◌, List, [], ◌∷◌, leb, ltb}
 use Rattle.std.specs.Prelude.{Option, None, Some, Result, Ok, Err}
 use Rattle.std.specs.Bool.{then_some}
 use Rattle.types.specs.Limits.{SLOTS}
@@ -76,15 +76,15 @@ unfoldable pub nearer : ℕ → ℕ → ℕ → ℕ → Option Start → Lock �
 nearer mode k low high b l = cond (blocks mode k l && meets low high l) (Some (joined b (start low l))) b
 
 -- the walk of the locks with b so far, which stops at a lock that starts beyond the point found: no later one is nearer
--- or as near
-abbrev pub beyond : Option Start → Lock → Bool
-beyond None l = false
-beyond (Some b) l = ltb b.point l.low
+-- or as near; where none is found, at one that starts beyond the points up to high: no later one meets them
+abbrev pub beyond : ℕ → Option Start → Lock → Bool
+beyond high None l = ltb high l.low
+beyond high (Some b) l = ltb b.point l.low
 
 unfoldable pub nearest : ℕ → ℕ → ℕ → ℕ → Option Start → List Lock → Option Start
 nearest mode k low high b [] = b
 nearest mode k low high b (l ∷ ls) =
-    cond (beyond b l) b (nearest mode k low high (nearer mode k low high b l) ls)
+    cond (beyond high b l) b (nearest mode k low high (nearer mode k low high b l) ls)
 
 -- why slot k is blocked at p: p is frozen, or held by the lowest slot
 unfoldable pub judgement_at : Store → ℕ → ℕ → ℕ → ℕ → Judgement

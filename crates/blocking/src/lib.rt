@@ -100,6 +100,8 @@ fn stops(p: Points, end: u64, l: Lock) -> bool
 // where one starts beyond the end nothing covers the end, counted or not: it is free.
 // Kept: the order of the locks only lets the walk stop early, for nothing is looked up by a lock's low point.
 // Kept: Rising r, record, asker and points; the head of this file says why.
+// Inline, since each of its callers asks one kind of locks, for which it is a shorter loop.
+#[inline(always)]
 pub fn first_free(r: Record<'_>, which: Which, p: Points) -> Option<u64>
     requires { Rising r }
     ensures { result ≡ upto p.high (first_free (counted which (rec_in r.entry).locks) p.low p.high) }
@@ -142,15 +144,17 @@ fn nearer(a: Asker, p: Points, best: Option<Start>, l: Lock) -> Option<Start>
     best
 }
 
-// The lock starts beyond the best so far.
-fn beyond(best: Option<Start>, l: Lock) -> bool
-    ensures { result ≡ beyond best l }
+// The lock starts beyond the best so far, or beyond the points where there is none.
+// Kept: record, asker and points; the head of this file says why.
+fn beyond(p: Points, best: Option<Start>, l: Lock) -> bool
+    ensures { result ≡ beyond p.high best l }
 {
-    best.is_some_and(|b| b.point < l.low)
+    best.map_or(p.high, |b| b.point) < l.low
 }
 
 // The first point under a lock that blocks the asker, with the lowest owner of those that start there. The locks rise,
-// so from one that starts beyond the point found on, none is nearer or as near.
+// so from one that starts beyond the point found on, none is nearer or as near; and where none is found, from one that
+// starts beyond the points on, none meets them.
 // Kept: the order of the locks only lets the walk stop early, for nothing is looked up by a lock's low point.
 // Kept: record, asker and points; the head of this file says why.
 fn nearest(r: Record<'_>, a: Asker, p: Points) -> Option<Start>
@@ -158,7 +162,7 @@ fn nearest(r: Record<'_>, a: Asker, p: Points) -> Option<Start>
 {
     let mut best: Option<Start> = None;
     for l in r.locks() {
-        if beyond(best, l) {
+        if beyond(p, best, l) {
             return best;
         }
         best = nearer(a, p, best, l);

@@ -29,7 +29,7 @@ use Rattle.calls.proofs.Acting.{ready, makes_refused, makes_done, makes_as, acts
 use Rattle.calls.proofs.Handles.{has_record_is}
 use Rattle.calls.proofs.Exits.{write_closed, write_no_record, write_passes, write_no_room}
 use Rattle.calls.proofs.Exits.{write_done}
-use Rattle.std.specs.Prelude.{Some}
+use Rattle.types.specs.declared.Pending.TheVariants.{Written}
 
 module _ (c : Counts) (w : List ℕ) (hs : sound_words (lent w) ≡ true) (e : c ≡ counts_of w) (h r : ℕ) (v : Val) where
   refuses : (x : Refusal) → writing h r v (decode_at c w) ≡ replies (decode_at c w) (of_refusal x)
@@ -64,7 +64,7 @@ module _ (c : Counts) (w : List ℕ) (R : Ready c w) (k r : ℕ) (v : Val) where
   pub open_wrote : IsRow c.edits k → access_room (decode_at c w) k r ≡ true → (a : Access)
       → a ≡ access_of (slot_at c w k) r → (w' : List ℕ)
       → Becomes c w'
-      (on_edit (decode_at c w) k (λ x. with_access x (record { rec = r; from = a.from; value = Some v })))
+      (on_edit (decode_at c w) k (λ x. with_access x (record { rec = r; from = a.from; value = Written v })))
       → Makes c (write_open (decode_at c w) k r v) w w' ok
   unfolding written
   open_wrote i e a f w' B =
@@ -73,6 +73,6 @@ module _ (c : Counts) (w : List ℕ) (R : Ready c w) (k r : ℕ) (v : Val) where
       makes_done c w (write_open (decode_at c w) k r v) w' (written (decode_at c w) k r v) ok B.well
       (B.means ∙ ap
       (λ (x : ℕ). on_edit (decode_at c w) k
-      (λ y. with_access y (record { rec = r; from = x; value = Some v })))
+      (λ y. with_access y (record { rec = r; from = x; value = Written v })))
       from)
       (write_done (decode_at c w) k r v e) refl

@@ -37,7 +37,7 @@ ghost use Rattle.calls.specs.Checks.{record_in, point_from, above_floor, known_s
 
 use blocking::{Blocked, Judgement};
 use tables::{Record, Slot, Tables};
-use types::{Access, Counts, Handle, LAST, Point, Refusal, Seen};
+use types::{Access, Counts, Handle, LAST, Pending, Point, Refusal, Seen};
 
 // Checks that several calls share, each with its refusal.
 
@@ -168,7 +168,7 @@ fn write_open(
     }
     let a = Access {
         rec,
-        value: Some(pending),
+        value: Pending::Written(pending),
         ..lookups::access_in(tables, rec, i)
     };
     slots::set_access(w, c, k, i, a);

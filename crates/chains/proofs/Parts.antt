@@ -12,6 +12,7 @@ use lib.ListN.{length, get_or, set, length-set, replicate, length-replicate}
 use lib.Seq.{get_or-set_same, get_or-set_other}
 use lib.Dec.{eqb}
 use borrow.Author.Tests.{eq-eqb, ne_eqb}
+use Rattle.std.specs.Prelude.{Option, None, Some}
 use Rattle.chains.specs.declared.Table.{Table}
 use Rattle.chains.specs.declared.Heads.{Heads}
 use Rattle.chains.specs.declared.Cursor.{Cursor}
@@ -20,7 +21,7 @@ use Rattle.chains.specs.Cursor.{Met, Halted}
 use Rattle.chains.specs.Walk.{more, rows, ends}
 use Rattle.chains.specs.Table.{Laid, link, chain, ended, front, head_of, rows_of, ended_of}
 use Rattle.chains.specs.Partition.{MARKS, on_chains, partition, Marks, mark, Clear, Unmarked, Marked}
-use Rattle.chains.specs.Partition.{CanCheck, Advanced, free_start, Begun}
+use Rattle.chains.specs.Partition.{MarkedChain, CanCheck, Advanced, free_start, Begun}
 use Rattle.chains.proofs.Bounded.{bool_false, all_suc, all_at, sum_front, sum_full}
 use Rattle.chains.proofs.Occurs.{occ_nil, occ_same, occ_other, occ_here}
 use Rattle.chains.proofs.Walks.{more_out, step, stop, rows_length}
@@ -175,6 +176,11 @@ module _ {t : Table} {w : List ℕ} {m₀ : List Bool} {s₀ : Cursor} {m : List
         added = λ k. y.added k ∙ i.met k;
         room_left = omega (arith, y.room_left, i.long);
       }
+
+  pub mark_rest : (m' : List Bool) (r : Option ℕ) → MarkedChain t w m m' s.row s.left r
+      → MarkedChain t w m₀ m' s₀.row s₀.left r
+  mark_rest m' None u = rest_unmarked u
+  mark_rest m' (Some left) y = rest_marked y
 
 -- a table can be checked, and the walk of its free chain begins at the head
 pub can_check : {t : Table} {h : Heads} {w : List ℕ} → Laid t h w → t.count < MARKS → CanCheck t h w

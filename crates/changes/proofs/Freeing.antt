@@ -1,18 +1,20 @@
 -- The walk that frees rows of a chain by a test of their entry, and counts them: the invariant of Turns of `chains`. In
--- each, `m` is what the walk's step ensures. Rests on Turns of `chains`.
-use Prim.Native.Nat.{ℕ, ◌+◌, ◌≤◌}
-use mathlib.Core.Path.{◌≡◌}
+-- each, `m` is what the walk's step ensures. Rests on Turns and Frames of `chains`.
+use Prim.Native.Nat.{ℕ, ◌+◌, ◌≤◌, ◌<◌}
+use mathlib.Core.Path.{◌≡◌, ap}
 use mathlib.Core.Bool.{Bool, true, false}
 use mathlib.Core.List.{List, []}
 use native.Mathlib.Omega.{arith}
-use lib.ListN.{length}
+use lib.ListN.{length, set}
 use Rattle.chains.specs.declared.Table.{Table}
 use Rattle.chains.specs.declared.Heads.{Heads}
 use Rattle.chains.specs.declared.Cursor.{Cursor}
+use Rattle.chains.specs.Walk.{IsRow}
 use Rattle.chains.specs.Cursor.{start, Met, Halted}
-use Rattle.chains.specs.Table.{head_of, rows_of}
+use Rattle.chains.specs.Table.{place, head_of, rows_of, Laid}
 use Rattle.chains.specs.Change.{Ready, Follows, Unlinked}
-use Rattle.chains.proofs.Turns.{TurnInv, turn_start, turn_ready, turn_hit, turn_miss, turn_count, turn_end}
+use Rattle.chains.proofs.Frames.{put_same}
+use Rattle.chains.proofs.Turns.{TurnInv, turn_start, turn_ready, turn_hit, turn_miss, turn_count, turn_end, turn_put}
 use Rattle.types.specs.declared.Counts.{Counts}
 use Rattle.tables.specs.Layout.{Fits}
 use Rattle.changes.specs.Freed.{FreedBy, RowsKept}
@@ -56,3 +58,17 @@ module _ {t : Table} {h : Heads} {test : ℕ → Bool} {w₀ : List ℕ} {a : �
 
     pub freeing_entry : {s' : Cursor} {x : ℕ} → Met t w s x s' → at w x ≡ at w₀ x
     freeing_entry {x = x} m = (k w (rw (et, eh) at i.turns.elsewhere)).1 x (rw et at m.row)
+
+-- a word of a row that is no link word stored beside the walk: it is as if the walk had begun with it
+pub freeing_put : {t : Table} {h : Heads} {test : ℕ → Bool} {w₀ : List ℕ} {a : ℕ} {w : List ℕ} {place' : ℕ}
+    {s : Cursor} {freed : ℕ} → Freeing t h test w₀ a w place' s freed → Laid t h w₀
+    → (x o v : ℕ) → IsRow t.count x → o < t.stride → (o ≡ t.off → ⊥)
+    → Freeing t h test (set w₀ (place t x o) v) a (set w (place t x o) v) place' s freed
+freeing_put {t} {h} {test} {w₀} {a} {w} i l x o v q k n =
+    let in_a = i.turns.ready.a_in in
+    let same₀ = (put_same t h w₀ x o v l q.low k n).rows_kept a in_a in
+    let same = (put_same t h w x o v i.turns.ready.laid q.low k n).rows_kept a in_a in
+    record {
+      turns = rw same₀ (turn_put i.turns l x o v q k n);
+      lost = omega (arith, i.lost, ap length same₀, ap length same);
+    }

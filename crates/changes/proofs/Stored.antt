@@ -1,9 +1,9 @@
 -- A row that has been filled has the entry it was filled with, and its words are those of no other row. Rests on
 -- Entries of `chains`.
-use Rattle.std.specs.Prelude.{Some, None, is_some}
-use Rattle.std.specs.Option.{unwrap_or}
-use Rattle.types.specs.Values.{Value, blank}
-use Rattle.std.specs.Prelude.{Some}
+use Rattle.std.specs.Prelude.{Some, is_some}
+use Rattle.types.specs.Values.{pending_value, pending_word}
+use Rattle.types.specs.declared.Pending.{Pending}
+use Rattle.types.specs.declared.Pending.TheVariants.{Written, Unwritten}
 use Prim.Native.Nat.{ℕ, ◌+◌, ◌*◌, ◌/◌, ◌%◌, ◌<◌}
 use mathlib.Core.Path.{◌≡◌, refl, ap, ◌∙◌}
 use mathlib.Core.Bool.{Bool, true, false, cond}
@@ -28,7 +28,7 @@ use Rattle.tables.specs.Decode.{version_at, lock_at, access_at}
 use Rattle.writes.specs.Rows.{lock_tag, written_mark, version_stored, lock_stored, access_stored}
 use Rattle.tables.specs.Words.{names_record, marked}
 use Rattle.tables.proofs.Places
-use Rattle.meaning.specs.Store.{has_written, written_value}
+use Rattle.meaning.specs.Store.{has_written}
 
 -- a store to another word of the row
 other : (t : Table) (w : List ℕ) {i : ℕ} → IsRow t.count i → (o v u : ℕ) → o < t.stride → u < t.stride
@@ -109,16 +109,18 @@ mark_tested true = (refl, refl)
 mark_tested false = (refl, refl)
 
 -- what is stored of a value gives it again
-value_stored : (v : Value) → cond (eqb (written_mark (is_some v)) 1) (Some (unwrap_or v blank)) None ≡ v
+value_stored : (v : Pending)
+    → cond (eqb (written_mark (is_some (pending_value v))) 1) (Written (pending_word v)) (Unwritten (pending_word v))
+    ≡ v
 unfolding written_mark
-value_stored None = refl
-value_stored (Some x) = refl
+value_stored (Written x) = refl
+value_stored (Unwritten x) = refl
 
 module _ {c : Counts} {w : List ℕ} (f : Fits c w) {i : ℕ} (q : IsRow c.accesses i) (a : Access) where
   access_stored_fields : (field (access_table c) (access_stored c w i a) i A_RECORD ≡ a.rec)
       × (field (access_table c) (access_stored c w i a) i A_FROM ≡ a.from)
       × (field (access_table c) (access_stored c w i a) i A_WRITTEN ≡ written_mark (has_written a))
-      × (field (access_table c) (access_stored c w i a) i A_VALUE ≡ written_value a)
+      × (field (access_table c) (access_stored c w i a) i A_VALUE ≡ pending_word a.value)
   unfolding access_stored access_table
   access_stored_fields =
       let t = access_table c in
@@ -129,16 +131,16 @@ module _ {c : Counts} {w : List ℕ} (f : Fits c w) {i : ℕ} (q : IsRow c.acces
       let f1 : Fits c x1 = Places.access_fits i A_RECORD a.rec f refl in
       let f2 : Fits c x2 = Places.access_fits i A_FROM a.from f1 refl in
       let f3 : Fits c x3 = Places.access_fits i A_WRITTEN m f2 refl in (
-        other t x3 q A_VALUE (written_value a) A_RECORD (omega arith) (omega arith) (λ z. omega arith)
+        other t x3 q A_VALUE (pending_word a.value) A_RECORD (omega arith) (omega arith) (λ z. omega arith)
             ∙ other t x2 q A_WRITTEN m A_RECORD (omega arith) (omega arith) (λ z. omega arith)
             ∙ other t x1 q A_FROM a.from A_RECORD (omega arith) (omega arith) (λ z. omega arith)
             ∙ field_same t w i A_RECORD a.rec (lies (Places.accesses_laid f)) q (omega arith),
-        other t x3 q A_VALUE (written_value a) A_FROM (omega arith) (omega arith) (λ z. omega arith)
+        other t x3 q A_VALUE (pending_word a.value) A_FROM (omega arith) (omega arith) (λ z. omega arith)
             ∙ other t x2 q A_WRITTEN m A_FROM (omega arith) (omega arith) (λ z. omega arith)
             ∙ field_same t x1 i A_FROM a.from (lies (Places.accesses_laid f1)) q (omega arith),
-        other t x3 q A_VALUE (written_value a) A_WRITTEN (omega arith) (omega arith) (λ z. omega arith)
+        other t x3 q A_VALUE (pending_word a.value) A_WRITTEN (omega arith) (omega arith) (λ z. omega arith)
             ∙ field_same t x2 i A_WRITTEN m (lies (Places.accesses_laid f2)) q (omega arith),
-        field_same t x3 i A_VALUE (written_value a) (lies (Places.accesses_laid f3)) q (omega arith),
+        field_same t x3 i A_VALUE (pending_word a.value) (lies (Places.accesses_laid f3)) q (omega arith),
       )
 
   pub access_stored_at : access_at c (access_stored c w i a) i ≡ a
@@ -174,7 +176,7 @@ module _ (c : Counts) {w w₁ : List ℕ} {a b : ℕ} {A B : List ℕ} {i : ℕ}
       → Filled (access_table c) (access_heads c) w (access_stored c w₁ i x) a b A B i
   unfolding access_stored access_table
   access_filled rd k q x =
-      filled_put rd A_VALUE (written_value x)
+      filled_put rd A_VALUE (pending_word x.value)
       (filled_put rd A_WRITTEN (written_mark (has_written x))
       (filled_put rd A_FROM x.from (filled_put rd A_RECORD x.rec k q (omega arith) (λ e. omega arith)) q
       (omega arith) (λ e. omega arith)) q (omega arith) (λ e. omega arith)) q (omega arith) (λ e. omega arith)

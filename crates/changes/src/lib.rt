@@ -23,15 +23,15 @@ ghost use Rattle.meaning.specs.Ending.{insert};
 ghost use Rattle.tables.specs.Layout.{MODES};
 ghost use Rattle.tables.specs.Decode.{decode_at};
 ghost use Rattle.tables.specs.Words.{Well};
-ghost use Rattle.tables.specs.Views.{rec_in};
 ghost use Rattle.changes.specs.Becomes.{Becomes, Beside, version_of, on_versions, on_locks};
 ghost use Rattle.changes.specs.Widened.{widened};
 
-use chains::{Falling, Rising};
+use chains::{Cursor, Falling, Linked, Rising};
 pub use freed::free_rows;
 use locks::touches;
-use tables::{L_LOW, Record, Tables, V_POINT};
+use tables::{L_LOW, Part, Row, Tables, V_POINT};
 use types::{Counts, Lock, READ, SETTLED, Version};
+use updates::Pair;
 
 // Locks.
 
@@ -77,22 +77,10 @@ fn taken_in(low: u64, high: u64, row: Lock, l: Lock) -> Lock
     }
 }
 
-// The row that low..high and the settled reads which it overlaps or adjoins are together.
-// Kept: low and high; the head of this file says why.
-fn joined_row(r: Record<'_>, low: u64, high: u64) -> Lock
-    ensures { result ≡ joined_row low high (rec_in r.entry).locks }
-{
-    let row = Lock {
-        low,
-        high,
-        mode: READ,
-        owner: SETTLED,
-    };
-    r.locks().fold(row, |row, l| taken_in(low, high, row, l))
-}
-
 // The settled reads of record r that overlap or adjoin low..high go. Replies the row that they and low..high are
 // together.
+// Kept: a loop as that of `free_rows`, which widens the row in the same turn, so that the chain is walked once. A
+// `free_rows` that folds too would ask for a second callable and its law, for this one caller.
 // Kept: words and counts, low and high, Well c w, r < c.records; the head of this file says why.
 fn drop_touching(w: &mut [u64], c: Counts, r: usize, low: u64, high: u64) -> Lock
     requires { Well c w.old × (r < c.records) }
@@ -100,12 +88,45 @@ fn drop_touching(w: &mut [u64], c: Counts, r: usize, low: u64, high: u64) -> Loc
         (on_locks (decode_at c w.old) r (keep (λ l. not (touches low high l))))
         × (result ≡ joined_row low high (rec_at (decode_at c w.old) r).locks) }
 {
+    let t = Lock::table(c);
+    let h = Lock::heads(c);
+    let pair = Pair {
+        of: Linked { table: t, heads: h },
+        a: r + 1,
+        b: 0,
+    };
+    let mut row = Lock {
+        low,
+        high,
+        mode: READ,
+        owner: SETTLED,
+    };
+    let mut place = 0;
     let tables = Tables {
         words: w,
         counts: c,
     };
-    let row = joined_row(Record { tables, number: r }, low, high);
-    free_rows(w, c, r, |l: Lock| touches(low, high, l));
+    let mut walk = Cursor::new(t, tables.first::<Lock>(r + 1));
+    while let Some(i) = walk.along(&Tables {
+        words: w,
+        counts: c,
+    }
+    .part::<Lock>())
+    {
+        let l = Lock::read(
+            Tables {
+                words: w,
+                counts: c,
+            },
+            i,
+        );
+        row = taken_in(low, high, row, l);
+        if touches(low, high, l) {
+            updates::unlink(w, pair, place, i);
+        } else {
+            place = i;
+        }
+    }
     row
 }
 

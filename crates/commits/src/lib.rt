@@ -55,7 +55,7 @@ impl Step for Save {
             counts: c,
         };
         let a = Access::read(tables, i);
-        if let Some(value) = a.value {
+        if let Some(value) = a.value.written() {
             changes::add_version(w, c, a.rec as usize, self.t, value);
         }
     }

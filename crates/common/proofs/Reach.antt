@@ -251,6 +251,12 @@ module _ (point : ℕ → ℕ) (near far : ℕ → ℕ → ℕ) (sees : Sees poi
   pub read_late : LAST < a.from → LeastFrom set d (suc LAST)
   read_late h = none_from (λ x f g w. omega (arith, w.from, sees.within x (omega arith) g))
 
+  -- no point from its start on is as far away
+  pub read_past : far a.from LAST < d → LeastFrom set d (suc LAST)
+  read_past h =
+      none_from (λ x f g w. omega
+      (arith, (sees.into a.from LAST x (omega arith) g w.from (sees.within x (omega arith) g)).1))
+
   module _ (early : a.from ≤ LAST) (last : ℕ) (r : suc last ≡ read_end ls a) {low : ℕ}
       (m : low ≡ max d (near a.from last)) where
     -- a point that it allows is one that its reads allow

@@ -56,7 +56,7 @@ impl<'a> Limit<'a> {
     fn allows_write(self, p: u64) -> bool
         ensures { result ≡ allows_write (own_locks self.entry) self.entry.access p }
     {
-        self.access.value.is_none() || write_on(self.named(), self.owner(), p)
+        self.access.value.written().is_none() || write_on(self.named(), self.owner(), p)
     }
 
     // Kept: p ≤ LAST; the head of this file says why.

@@ -110,7 +110,7 @@ impl<'a> Limit<'a> {
     fn written_from<E: End>(self, d: u64) -> Option<u64>
         ensures { result ≡ written_from E.near E.far (own_locks self.entry) self.entry.access d }
     {
-        if self.access.value.is_none() {
+        if self.access.value.written().is_none() {
             return Some(d);
         }
         self.first_write::<E>(d)
@@ -118,6 +118,8 @@ impl<'a> Limit<'a> {
 
     // The least distance at or above d of a point that it allows.
     // Kept: 1 ≤ d, d ≤ LAST: of a distance, as of p in `nearing`; a struct of it would be opened at each comparison.
+    // Inline: a `Limit` is many words to hand over, and this is asked of each access again and again.
+    #[inline(always)]
     pub(crate) fn next_allowed<E: End>(self, d: u64) -> Option<u64>
         requires { (1 ≤ d) × (d ≤ LAST) }
         ensures { NextFrom
@@ -125,6 +127,10 @@ impl<'a> Limit<'a> {
     {
         let from = self.access.from;
         if LAST < from {
+            return None;
+        }
+        // what it has read starts nearer than this, so that no lock is looked at
+        if E::far(from, LAST) < d {
             return None;
         }
         let last = self.read_last();

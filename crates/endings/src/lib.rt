@@ -63,7 +63,7 @@ impl Step for Leave {
         if 0 < a.from {
             changes::leave_settled(w, c, r, READ, a.from, self.t);
         }
-        if a.value.is_some() {
+        if a.value.written().is_some() {
             changes::leave_settled(w, c, r, WRITE, self.t, self.t);
         }
     }

@@ -4,7 +4,7 @@ ghost use Rattle.tables.specs.Decode.{AccessRow};
 ghost use Rattle.lookups.specs.Accesses.{RowIn, InRow};
 
 use tables::{A_RECORD, Row, Slot, Tables};
-use types::Access;
+use types::{Access, Pending};
 
 // The row of the slot's access of record r.
 // Kept: `first_with` is the generic one, at the chain of the slot and the word of the record.
@@ -28,7 +28,7 @@ pub fn access_in(t: Tables<'_>, r: u64, i: Option<usize>) -> Access
         None => Access {
             rec: r,
             from: 0,
-            value: None,
+            value: Pending::Unwritten(0),
         },
     }
 }

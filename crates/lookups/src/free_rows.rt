@@ -45,7 +45,7 @@ pub fn access_room(t: Tables<'_>, i: Option<usize>) -> bool
 fn written_count(s: Slot<'_>) -> usize
     ensures { result ≡ length (written_of (edit_in s.entry)) }
 {
-    s.accesses().filter(|a| a.value.is_some()).count()
+    s.accesses().filter(|a| a.value.written().is_some()).count()
 }
 
 // Kept: `has_free` is the generic one.

@@ -5,7 +5,7 @@ use Rattle.meaning.specs.Store.{Val, Access, Edit, Store, handle, slot_of, next_
 use Rattle.meaning.specs.Store.{access_of, names}
 use Rattle.types.specs.Replies.{ok, edit}
 use Rattle.meaning.specs.Outcomes.{Outcome, replies, Verdict, pass, needs, unless, for_open, has_record, access_room}
-use Rattle.std.specs.Prelude.{Some, None}
+use Rattle.types.specs.declared.Pending.TheVariants.{Written}
 
 -- "names an existing record at most once": an access takes the place of the edit's access of that record, or stands
 -- first where it has none
@@ -47,7 +47,7 @@ beginning s =
 
 -- "a second write of the record replaces it": its access after a write; what was read stays
 abbrev pub written_access : Edit → ℕ → Val → Access
-written_access e r v = record { rec = r; from = (access_of e r).from; value = Some v }
+written_access e r v = record { rec = r; from = (access_of e r).from; value = Written v }
 
 -- Write: the store after it. "No lock."
 unfoldable pub written : Store → ℕ → ℕ → Val → Store

@@ -11,7 +11,7 @@ use Rattle.meaning.specs.Outcomes.{is_point, judge, access_room, lock_room}
 use Rattle.meaning.specs.Edits.{with_access}
 use Rattle.types.specs.declared.Extent.{Extent}
 use Rattle.types.specs.declared.Extent.TheVariants.{All, Part}
-use Rattle.std.specs.Prelude.{Some, None}
+use Rattle.types.specs.declared.Pending.TheVariants.{Unwritten}
 use Rattle.meaning.specs.Store.{has_written, written_value}
 
 -- "A wants all points or none, P takes a part." Where what is taken of low..high ends, if it starts at from
@@ -89,7 +89,7 @@ read_verdict s k r m w =
 
 -- Layout, access: "point read + 1": what a new read remembers, from being tr + 1
 abbrev pub read_access : ℕ → ℕ → Access
-read_access r from = record { rec = r; from = from; value = None }
+read_access r from = record { rec = r; from = from; value = Unwritten blank }
 
 -- Read: the store after a new read, with its lock and its access
 unfoldable pub read_store_by : Keeping → Store → ℕ → ℕ → ℕ → ℕ → Store

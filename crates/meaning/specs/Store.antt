@@ -7,6 +7,8 @@ use Rattle.meaning.specs.Lists.{any, find, total, keep}
 use Rattle.types.specs.Limits.{FREE}
 pub use Rattle.types.specs.Values.{Value}
 pub use Rattle.types.specs.Values.{Val, blank}
+use Rattle.types.specs.Values.{pending_value}
+use Rattle.types.specs.declared.Pending.TheVariants.{Unwritten}
 pub use Rattle.types.specs.Numbers.{handle, slot_of, generation_of, next_generation}
 pub use Rattle.types.specs.declared.Version.{Version}
 pub use Rattle.types.specs.declared.Lock.{Lock}
@@ -129,7 +131,7 @@ is_of r a = eqb a.rec r
 
 -- an access of r with nothing read and nothing written; for access_of, where the edit has none
 abbrev pub no_access : ℕ → Access
-no_access r = record { rec = r; from = 0; value = None }
+no_access r = record { rec = r; from = 0; value = Unwritten blank }
 
 -- "an edit names an existing record at most once in its accesses": its access of record r
 unfoldable pub access_of : Edit → ℕ → Access
@@ -145,10 +147,10 @@ has_read a = ltb 0 a.from
 
 -- Layout, access: "1 if written, value": the record was written, and what is to be written ("0 until written")
 abbrev pub has_written : Access → Bool
-has_written a = is_some a.value
+has_written a = is_some (pending_value a.value)
 
 abbrev pub written_value : Access → Val
-written_value a = unwrap_or a.value blank
+written_value a = unwrap_or (pending_value a.value) blank
 
 -- "each record written": the accesses of records written
 abbrev pub written_of : Edit → List Access

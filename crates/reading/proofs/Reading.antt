@@ -44,7 +44,8 @@ use Rattle.calls.proofs.Rooms.{lock_free, edit_leaves_room, edit_then_lock}
 use Rattle.reading.proofs.ReadExits.{read_closed, read_no_record, read_bad_point, read_passes}
 use Rattle.reading.proofs.ReadExits.{read_own, read_again, read_first, read_below, read_by_small}
 use Rattle.reading.proofs.ReadExits.{read_blocked, read_granted_is, read_no_access, read_no_lock, read_done}
-use Rattle.std.specs.Prelude.{None}
+use Rattle.types.specs.Values.{blank}
+use Rattle.types.specs.declared.Pending.TheVariants.{Unwritten}
 use Rattle.meaning.specs.Store.{has_written, written_value}
 
 -- the lock and the access of a read, of the version v
@@ -64,9 +65,9 @@ module _ (c : Counts) (w : List ℕ) (R : Ready c w) (k r from end : ℕ) (v : V
 
     module _ (l : lock_room (decode_at c w) ≡ true) (w₁ : List ℕ)
         (B : Becomes c w₁ (on_edit (decode_at c w) k
-        (λ x. with_access x (record { rec = r; from = from; value = None })))) where
+        (λ x. with_access x (record { rec = r; from = from; value = Unwritten blank })))) where
       abbrev changed : Edit
-      changed = with_access (edit_at (decode_at c w) k) (record { rec = r; from = from; value = None })
+      changed = with_access (edit_at (decode_at c w) k) (record { rec = r; from = from; value = Unwritten blank })
 
       pub taken_room : locks_used (decode_at c w₁) < c.locks
       taken_room = lock_free c w₁ (ap lock_room B.means ∙ edit_leaves_room (decode_at c w) k changed ∙ l)

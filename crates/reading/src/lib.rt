@@ -32,7 +32,7 @@ ghost use Rattle.calls.specs.Parts.{read_taken};
 use blocking::Points;
 use locks::Asker;
 use tables::{Record, Slot, Tables};
-use types::{Access, Counts, Extent, Found, Handle, Lock, Point, READ, Refusal, Version};
+use types::{Access, Counts, Extent, Found, Handle, Lock, Pending, Point, READ, Refusal, Version};
 
 // Read, once the points are granted: one access row for a record new to the edit, one lock row for the points.
 // Kept: words and counts, IsRow c.edits k, Ready c w, r < c.records, AccessRow; the head of this file says why.
@@ -67,7 +67,7 @@ fn read_taken(
         Access {
             rec: r as u64,
             from,
-            value: None,
+            value: Pending::Unwritten(0),
         },
     );
     changes::add_lock(
@@ -144,7 +144,7 @@ fn read_open(
     let slot = Slot { tables, number: k };
     let i = index::access_row(slot, r as u64, ix);
     let a = lookups::access_in(tables, r as u64, i);
-    if let Some(value) = a.value {
+    if let Some(value) = a.value.written() {
         return Ok(Found::Own(value));
     }
     if 0 < a.from {

@@ -2,9 +2,10 @@
 // locks of all records, for the clauses of slots need it (`soundness::check`); `records_sound` is the rest, for all
 // records. It asks that the slots are sound, for then the marks of `lock_marks` say of each lock whether its owner
 // wrote the record. Rests on the crates `types`, `meaning`, `locks`, `chains`, `tables`, `sweeps` and `clauses` and on
-// the module `lock_marks`.
+// the modules `all` and `lock_marks`.
 #![tactic(auto)]
 
+mod all;
 mod lock_marks;
 
 ghost use Rattle.std.specs.Prelude.{◌≡◌, true, suc, ◌≤◌, ◌<◌};
@@ -22,8 +23,8 @@ ghost use Rattle.clauses.specs.Clauses.{record_rest, records_sound, slots_sound}
 ghost use Rattle.clauses.specs.Marks.{Writers};
 ghost use Rattle.clauses.specs.Views.{edits_in, lock_rows, SlotOf, committed_at};
 
+pub use all::all_records;
 use chains::MARKS;
-use clauses::all_records;
 use lock_marks::{LockMarks, lock_rows};
 use sweeps::Swept;
 use tables::{Record, Row, Slot, Tables};

@@ -42,7 +42,7 @@ impl LockMarks {
         ensures { self.new.rows
             ≡ mark_access s.entry.tables.counts s.entry.tables.words.now s.entry.number self.old.rows a }
     {
-        if a.value.is_none() {
+        if a.value.written().is_none() {
             return;
         }
         let number = a.rec as usize;

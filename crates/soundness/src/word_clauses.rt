@@ -1,6 +1,6 @@
 // The clauses on the words: every row is on exactly one chain, lock rows name the record of their chain, written marks
 // are 0 or 1. `formed_at` is all of them; it equals `formed_at` of tables/specs/Words. Rests on the crates `types`,
-// `chains`, `tables` and `clauses`.
+// `chains`, `tables` and `record_clauses`.
 ghost use Rattle.std.specs.Prelude.{◌≡◌, ◌&&◌, ◌<◌, ◌≤◌};
 ghost use Rattle.chains.specs.Lists.{all_of};
 ghost use Rattle.chains.specs.Table.{rows_of};
@@ -10,7 +10,7 @@ ghost use Rattle.tables.specs.Words.{versions_parted, locks_parted, accesses_par
 ghost use Rattle.tables.specs.Words.{marks_listed, formed_at};
 
 use chains::{Fields, Linked};
-use clauses::all_records;
+use record_clauses::all_records;
 use tables::{A_WRITTEN, L_RECORD, Record, Row, Slot, Tables};
 use types::{Access, Lock, Version};
 

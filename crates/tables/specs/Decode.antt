@@ -1,12 +1,13 @@
 -- What the words mean: the abstract store of the crate `meaning`. Rests on Layout and the chains of `chains`; total on
 -- all words.
-use Rattle.std.specs.Prelude.{ℕ, zero, suc, ◌/◌, ◌%◌, List, [], ◌∷◌, map, eqb, ◌≡◌, cond, Option, Some, None}
+use Rattle.std.specs.Prelude.{ℕ, zero, suc, ◌/◌, ◌%◌, List, [], ◌∷◌, map, eqb, ◌≡◌, cond, Option, Some}
 use Rattle.std.specs.List.{find}
 use Rattle.chains.specs.Table.{field, rows_of}
 use Rattle.meaning.specs.Store.{Rec, Edit, Store, is_of}
 use Rattle.types.specs.declared.Version.{Version}
 use Rattle.types.specs.declared.Lock.{Lock}
 use Rattle.types.specs.declared.Access.{Access}
+use Rattle.types.specs.declared.Pending.TheVariants.{Written, Unwritten}
 use Rattle.types.specs.declared.Counts.{Counts}
 use Rattle.tables.specs.Layout
 
@@ -41,7 +42,8 @@ module _ (c : Counts) (w : List ℕ) where
         from = field (Layout.access_table c) w i Layout.A_FROM;
         value =
             cond (eqb (field (Layout.access_table c) w i Layout.A_WRITTEN) 1)
-            (Some (field (Layout.access_table c) w i Layout.A_VALUE)) None;
+            (Written (field (Layout.access_table c) w i Layout.A_VALUE))
+            (Unwritten (field (Layout.access_table c) w i Layout.A_VALUE));
       }
 
   -- the rows of a chain: record r's versions and locks, slot k's accesses

@@ -17,7 +17,7 @@ use crate::{
 };
 use chains::{Cursor, Heads};
 use std::marker::PhantomData;
-use types::{Access, Counts, Lock, Version};
+use types::{Access, Counts, Lock, Pending, Version};
 
 // A kind of row that stands on chains: where their heads lie, and a row by value.
 pub trait Row: Part + Copy {
@@ -118,7 +118,11 @@ impl Row for Access {
         Access {
             rec,
             from,
-            value: if mark == 1 { Some(value) } else { None },
+            value: if mark == 1 {
+                Pending::Written(value)
+            } else {
+                Pending::Unwritten(value)
+            },
         }
     }
 

@@ -9,20 +9,21 @@
 // Kept, v ≤ LAST: of a point that a purge hands down; a struct of a bounded number would be opened at each comparison.
 #![tactic(auto)]
 
-ghost use Rattle.std.specs.Prelude.{◌≡◌, ◌≤◌, ◌<◌, leb, map};
+ghost use Rattle.std.specs.Prelude.{◌≡◌, ◌≤◌, ◌<◌, leb};
 ghost use Rattle.types.specs.Limits.{LAST};
 ghost use Rattle.meaning.specs.Store.{with_rec, rec_at};
 ghost use Rattle.meaning.specs.Points.{trimmed, trim_to};
 ghost use Rattle.meaning.specs.Lists.{keep};
 ghost use Rattle.tables.specs.Decode.{decode_at};
 ghost use Rattle.tables.specs.Words.{Well};
-ghost use Rattle.changes.specs.Becomes.{Becomes, with_floor, on_locks};
+ghost use Rattle.changes.specs.Becomes.{Becomes, with_floor};
 ghost use Rattle.trims.specs.Frees.{FreesVersions, FreesLocks};
 
-use chains::Cursor;
+use chains::{Cursor, Linked, head_of};
 use changes::free_rows;
 use tables::{L_LOW, Part, R_FLOOR, Records, Row, Tables};
 use types::{Counts, Lock, SETTLED, Version};
+use updates::Pair;
 use writes::set_word;
 
 // The record's floor.
@@ -50,17 +51,24 @@ fn raised_low(l: Lock, v: u64) -> u64
     }
 }
 
-// The low ends of record r's locks rise so.
+// Settled locks of record r lose their points up to v; replies how many rows were freed. Each row that is met gets its
+// low end, also one that then goes, since the words of a free row may be anything.
+// Kept: no `free_rows`, whose test only reads a row; this one walk also stores the row's low end.
 // Kept: words and counts, Well c w, r < c.records, v ≤ LAST; the head of this file says why.
-fn raise_lows(w: &mut [u64], c: Counts, r: usize, v: u64)
+pub fn trim_locks(w: &mut [u64], c: Counts, r: usize, v: u64) -> u64
     requires { Well c w.old × (r < c.records) × (v ≤ LAST) }
-    ensures { Becomes c w.new (on_locks (decode_at c w.old) r (map (trimmed v))) }
+    ensures { FreesLocks c w.old w.new r (trim_to v) result }
 {
-    let tables = Tables {
-        words: w,
-        counts: c,
+    let t = Lock::table(c);
+    let h = Lock::heads(c);
+    let pair = Pair {
+        of: Linked { table: t, heads: h },
+        a: r + 1,
+        b: 0,
     };
-    let mut walk = Cursor::new(Lock::table(c), tables.first::<Lock>(r + 1));
+    let mut freed = 0;
+    let mut place = 0;
+    let mut walk = Cursor::new(t, head_of(w, h, r + 1));
     while let Some(i) = walk.along(&Tables {
         words: w,
         counts: c,
@@ -75,17 +83,14 @@ fn raise_lows(w: &mut [u64], c: Counts, r: usize, v: u64)
             i,
         );
         set_word::<Lock>(w, c, i, L_LOW, raised_low(l, v));
+        if l.owner == SETTLED && l.high <= v {
+            updates::unlink(w, pair, place, i);
+            freed += 1;
+        } else {
+            place = i;
+        }
     }
-}
-
-// Settled locks of record r lose their points up to v; replies how many rows were freed.
-// Kept: words and counts, Well c w, r < c.records, v ≤ LAST; the head of this file says why.
-pub fn trim_locks(w: &mut [u64], c: Counts, r: usize, v: u64) -> u64
-    requires { Well c w.old × (r < c.records) × (v ≤ LAST) }
-    ensures { FreesLocks c w.old w.new r (trim_to v) result }
-{
-    raise_lows(w, c, r, v);
-    free_rows(w, c, r, |l: Lock| l.owner == SETTLED && l.high <= v)
+    freed
 }
 
 // Versions.

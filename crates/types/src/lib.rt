@@ -85,13 +85,45 @@ pub struct Lock {
     pub owner: u64,
 }
 
+// What an access writes; or the word that stands in the value's place until it writes, which Read leaves 0.
+// Kept: no Option, since that word is part of what words mean too (DECISIONS), and no Result, since none is an error.
+#[derive(Clone, Copy, PartialEq, Eq)]
+pub enum Pending {
+    Written(u64),
+    Unwritten(u64),
+}
+
+impl Pending {
+    ghost use Rattle.std.specs.Prelude.{◌≡◌};
+    ghost use Rattle.types.specs.Values.{pending_value, pending_word};
+
+    pub fn written(self) -> Option<u64>
+        ensures { result ≡ pending_value self }
+    {
+        match self {
+            Pending::Written(v) => Some(v),
+            Pending::Unwritten(_) => None,
+        }
+    }
+
+    // The word that stands in the value's place.
+    pub fn word(self) -> u64
+        ensures { result ≡ pending_word self }
+    {
+        match self {
+            Pending::Written(v) => v,
+            Pending::Unwritten(x) => x,
+        }
+    }
+}
+
 // What an edit did with a record: `from` is the point read + 1, or 0; `value` what it writes, if it does.
 #[derive(Clone, Copy, PartialEq, Eq)]
 pub struct Access {
     pub rec: u64,
     // Kept: any word may stand there; Some of the largest point, stored + 1, fits no word: put_access would ask more.
     pub from: u64,
-    pub value: Value,
+    pub value: Pending,
 }
 
 // The five counts of a store.

@@ -5,9 +5,8 @@ use Rattle.types.specs.declared.Lock.{Lock}
 use Rattle.types.specs.declared.Access.{Access}
 use Rattle.types.specs.declared.Counts.{Counts}
 use Rattle.tables.specs.Layout
-use Rattle.std.specs.Option.{unwrap_or}
 use Rattle.std.specs.Prelude.{is_some}
-use Rattle.types.specs.Values.{blank}
+use Rattle.types.specs.Values.{pending_value, pending_word}
 
 -- "mode (1 read, 2 write) + 4 × owner slot"
 unfoldable pub lock_tag : Lock → ℕ
@@ -46,6 +45,6 @@ module _ (c : Counts) (w : List ℕ) (i : ℕ) where
       (set (set w (place (Layout.access_table c) i Layout.A_RECORD) a.rec)
       (place (Layout.access_table c) i Layout.A_FROM) a.from)
       (place (Layout.access_table c) i Layout.A_WRITTEN)
-      (written_mark (is_some a.value)))
+      (written_mark (is_some (pending_value a.value))))
       (place (Layout.access_table c) i Layout.A_VALUE)
-      (unwrap_or a.value blank)
+      (pending_word a.value)

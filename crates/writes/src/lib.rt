@@ -85,8 +85,8 @@ pub fn put_access(w: &mut [u64], c: Counts, i: usize, a: Access)
 {
     set_word::<Access>(w, c, i, A_RECORD, a.rec);
     set_word::<Access>(w, c, i, A_FROM, a.from);
-    set_word::<Access>(w, c, i, A_WRITTEN, a.value.is_some() as u64);
-    set_word::<Access>(w, c, i, A_VALUE, a.value.unwrap_or(0));
+    set_word::<Access>(w, c, i, A_WRITTEN, a.value.written().is_some() as u64);
+    set_word::<Access>(w, c, i, A_VALUE, a.value.word());
 }
 
 // The first free row comes to stand on record r's chain of such rows after those whose word o comes before q. Replies

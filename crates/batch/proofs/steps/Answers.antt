@@ -7,7 +7,7 @@ use Rattle.batch.proofs.steps.Goals as goal
 
 pub loop-i-init : goal.loop-i-init
 loop-i-init c = (
-  run_start c.min-n.ensures,
+  run_start c.fitting-n.ensures,
   c.requires,
   refl,
 )

@@ -56,5 +56,6 @@ returns c =
       c.set_word.ensures,
       counted c.is_some.result,
       c.is_some.ensures,
-      c.unwrap_or.ensures,
+      c.written.ensures,
+      c.word.ensures,
     ) refl

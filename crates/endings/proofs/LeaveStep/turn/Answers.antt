@@ -1,7 +1,8 @@
 -- `endings::LeaveStep::turn` meets its contract: its read lock, if it has one, and then its write lock. Rests on
 -- Besides.
-use mathlib.Core.Path.{sym, ◌∙◌}
+use mathlib.Core.Path.{sym, ap, ◌∙◌}
 use borrow.Author.Tests.{lt-ltb, le-ltb}
+use Rattle.std.specs.Prelude.{is_some}
 use Rattle.types.specs.Limits.{READ, WRITE}
 use Rattle.tables.specs.Layout.{access_table}
 use Rattle.endings.proofs.Besides.{left_one, left_none, read_needs, write_needs, row_left}
@@ -28,7 +29,7 @@ leave_settled-requires-then-is_some c =
           w.leave_settled.ensures)
       | else-a-gt0 w ↦ rw w.w-is
           (left_none _ _ _ READ _ _ _ (le-ltb 0 c.read-a.result.from w.if-a-gt0.false) c.requires.0)
-    ]) (sym c.is_some.ensures ∙ c.if-is_some.true)
+    ]) (sym (ap is_some c.written.ensures) ∙ sym c.is_some.ensures ∙ c.if-is_some.true)
 
 pub returns-then-is_some : goal.returns-then-is_some
 returns-then-is_some c =
@@ -37,7 +38,9 @@ returns-then-is_some c =
           w.leave_settled.ensures)
       | else-a-gt0 w ↦ rw w.w-is
           (left_none _ _ _ READ _ _ _ (le-ltb 0 c.read-a.result.from w.if-a-gt0.false) c.requires.0)
-    ]) (left_one _ _ _ WRITE _ _ _ (sym c.is_some.ensures ∙ c.if-is_some.true) c.leave_settled-then-is_some.ensures)
+    ])
+    (left_one _ _ _ WRITE _ _ _ (sym (ap is_some c.written.ensures) ∙ sym c.is_some.ensures ∙ c.if-is_some.true)
+    c.leave_settled-then-is_some.ensures)
 
 pub returns-else-is_some : goal.returns-else-is_some
 returns-else-is_some c =
@@ -50,4 +53,5 @@ returns-else-is_some c =
           (left_none _ _ _ READ _ _ _ (le-ltb 0 c.read-a.result.from w.if-a-gt0.false) c.requires.0)
     ] in
     row_left _ _ _ _ c.args.self.t c.requires.0 c.requires.2 c.read-a.ensures B
-    (left_none _ _ _ WRITE _ _ _ (sym c.is_some.ensures ∙ c.if-is_some.false) B.becomes.well)
+    (left_none _ _ _ WRITE _ _ _
+    (sym (ap is_some c.written.ensures) ∙ sym c.is_some.ensures ∙ c.if-is_some.false) B.becomes.well)

@@ -1,9 +1,9 @@
--- `clauses::all_records`: each call of the test is of a record of the tables, and what all of them answer is the
--- answer. Rests on Counting.
+-- `record_clauses::all_records`: each call of the test is of a record of the tables, and what all of them answer is the
+-- answer. Rests on Counting of `clauses`.
 use mathlib.Core.Path.{refl}
 use native.Mathlib.Omega.{arith}
 use Rattle.clauses.proofs.Counting.{up_start, up_again, up_fail, up_end}
-use Rattle.clauses.proofs.all_records.Goals as goal
+use Rattle.record_clauses.proofs.all.all_records.Goals as goal
 
 pub loop-number-init : goal.loop-number-init
 loop-number-init g c f h = up_start

@@ -1,10 +1,11 @@
--- `clauses::all_records`: all records so far passed, by any function that the test computes. Rests on Counting.
+-- `record_clauses::all_records`: all records so far passed, by any function that the test computes. Rests on Counting
+-- of `clauses`.
 use Prim.Native.Nat.{ℕ}
 use mathlib.Core.Path.{◌≡◌}
 use mathlib.Core.Bool.{Bool}
 use Rattle.tables.specs.declared.views.Record.{Record}
 use Rattle.clauses.proofs.Counting.{UpTo}
-use Rattle.clauses.proofs.all_records.Given as goal
+use Rattle.record_clauses.proofs.all.all_records.Given as goal
 
 abbrev pub invariant-loop-number : goal.invariant-loop-number
 invariant-loop-number g l =
