@@ -458,12 +458,7 @@ fn format_stores(rt: &impl Print) -> io::Result<()> {
         locks: MAX_ROWS,
         accesses: MAX_ROWS,
     };
-    // a literal, since `new` would be handed these words as a copy
-    let mut large = Stage {
-        rt,
-        words: [7u64; 60662],
-    };
-    large.lay_out(most, "the largest store")
+    Stage::new(rt, [7u64; 60662]).lay_out(most, "the largest store")
 }
 
 fn main(rt: HostRuntime) -> io::Result<()> {
