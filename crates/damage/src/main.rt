@@ -20,6 +20,18 @@ use types::{
     WRITE,
 };
 
+// Formats the words, and prints the reply and the verdict.
+// Kept: a `Stage` for the largest store would be a copy of its 485 KB.
+fn lay_out(rt: &impl Print, words: &mut [u64], c: Counts, text: &str) -> io::Result<()> {
+    print!(rt; "{} ", line_of_done(format::format(words, c)))?;
+    judge(rt, words, text)
+}
+
+// The verdict: 1 for sound, 0 for not.
+fn judge(rt: &impl Print, words: &[u64], text: &str) -> io::Result<()> {
+    println!(rt; "{} {text}", soundness::check(words) as u8)
+}
+
 // A store, or words that are none, and where the verdicts are printed.
 // Kept: `desks` and others have one too; on a struct of a library a program's own calls could not be methods.
 #[derive(Drop)]
@@ -35,15 +47,12 @@ impl<'a, R, const N: usize> Stage<'a, R, N> {
 }
 
 impl<R: Print, const N: usize> Stage<'_, R, N> {
-    // Formats the words, and prints the reply and the verdict.
     fn lay_out(&mut self, c: Counts, text: &str) -> io::Result<()> {
-        print!(self.rt; "{} ", line_of_done(format::format(&mut self.words, c)))?;
-        self.judge(text)
+        lay_out(self.rt, &mut self.words, c, text)
     }
 
-    // The verdict: 1 for sound, 0 for not.
     fn judge(&self, text: &str) -> io::Result<()> {
-        println!(self.rt; "{} {text}", soundness::check(&self.words) as u8)
+        judge(self.rt, &self.words, text)
     }
 }
 
@@ -458,7 +467,7 @@ fn format_stores(rt: &impl Print) -> io::Result<()> {
         locks: MAX_ROWS,
         accesses: MAX_ROWS,
     };
-    Stage::new(rt, [7u64; 60662]).lay_out(most, "the largest store")
+    lay_out(rt, &mut [7u64; 60662], most, "the largest store")
 }
 
 fn main(rt: HostRuntime) -> io::Result<()> {
