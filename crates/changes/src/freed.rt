@@ -1,6 +1,6 @@
 // The rows of a record that pass a test become free: the loop behind every change that takes rows from a record, except
-// Purge's of locks, which stores a word of each row in the same walk. Rests on the crates `types`, `chains`, `updates`
-// and `tables`.
+// two that do more in the same walk: Purge's of locks stores a word of each row, and the join of a settled read widens
+// its row. Rests on the crates `types`, `chains`, `updates` and `tables`.
 // Kept, words and counts: a struct that holds lent `&mut` words would have each contract say that it keeps them
 // Kept, Fits c w and Ready: facts of the words, which a struct over `&mut` words cannot hold while they change
 // Kept, r < c.records: no words in it; a struct of counts and number would be made anew at each call, and where a slot

@@ -1,8 +1,9 @@
 // The planning desk (M-101): the layer that our product calls, over the public calls of the store and nothing below.
 // A session has an edit's handle and its working interval. `open` gives one; `read`, `write` and `commit` are lent it
-// and update it in place; `read_with`, `write_with` and `commit_with` take it and give it back by value. What each does
-// is a program of calls of the store (specs/Desk), so that demand 3 holds of desks as it does of the store. Rests on
-// the crates `types`, `meaning`, `tables`, `history`, `layers` and `store`.
+// and update it in place. Each of the three is thin: it takes the session out, calls the function that does the work by
+// value, and puts the session back. What each does is a program of calls of the store (specs/Desk), so that demand 3
+// holds of desks as it does of the store. Rests on the crates `types`, `meaning`, `tables`, `history`, `layers` and
+// `store`.
 #![tactic(auto)]
 
 ghost use Rattle.std.specs.Prelude.{◌≡◌, suc};
@@ -113,6 +114,16 @@ fn going(words: &[u64], s: Session) -> Result<(), Refusal>
     Ok(())
 }
 
+// A refusal of the store is passed on, and the session stays.
+fn refused<R>(s: Session, no: Refusal) -> Step<Result<R, Refusal>>
+    ensures { result ≡ record { session = s; reply = Err no } }
+{
+    Step {
+        session: s,
+        reply: Err(no),
+    }
+}
+
 // What opening at a bad point is refused with: 1, 13 or 6.
 fn refuse_start(words: &[u64]) -> Refusal
     ensures { ByLook slot start_reply words.now result }
@@ -142,87 +153,103 @@ pub fn open(words: &mut [u64], t: Point, width: u64, setting: Setting) -> Result
 
 // What the store found; the interval shrinks to the part of it that was locked. None if nothing of it is left: the edit
 // is aborted and settled then.
-pub fn read(words: &mut [u64], s: &mut Session, rec: u64) -> Result<Option<Found>, Refusal>
-    ensures { Layer (desk_read s.old rec) words.old words.new (reports s.new result) }
+// Kept: no `?`, since a refused call gives the session back too.
+pub fn read_with(words: &mut [u64], s: Session, rec: u64) -> Step<Result<Option<Found>, Refusal>>
+    ensures { Layer (desk_read s rec) words.old words.new (of_read_step result) }
 {
-    going(words, *s)?;
-    let found = store::read(words, s.handle, rec, s.high, Extent::Part)?;
+    if let Err(no) = going(words, s) {
+        return refused(s, no);
+    }
+    let found = match store::read(words, s.handle, rec, s.high, Extent::Part) {
+        Ok(found) => found,
+        Err(no) => return refused(s, no),
+    };
+    let mut session = s;
     if let Found::Read(tr, end, _) = found {
-        match cut(*s, tr, end) {
-            Some(left) => *s = left,
+        match cut(s, tr, end) {
+            Some(left) => session = left,
             None => {
                 let _ = store::abort(words, s.handle, Finish::Settle);
-                *s = closed(*s);
-                return Ok(None);
+                return Step {
+                    session: closed(s),
+                    reply: Ok(None),
+                };
             }
         }
     }
-    Ok(Some(found))
+    Step {
+        session,
+        reply: Ok(Some(found)),
+    }
 }
 
 // A value for the record, pending until the commit. The interval shrinks to what was locked.
-// Kept: `read`, `write` and `commit` share `going` and `?`; what they ask of the store and make of it differs.
+// Kept: no `?`, as `read_with`; the three share `going`, and what they ask of the store and make of it differs.
+pub fn write_with(words: &mut [u64], s: Session, rec: u64, value: u64) -> Step<Result<(), Refusal>>
+    ensures { Layer (desk_write s rec value) words.old words.new (of_write_step result) }
+{
+    if let Err(no) = going(words, s) {
+        return refused(s, no);
+    }
+    match store::lock(words, s.handle, rec, s.low, s.high, Extent::Part) {
+        Ok(locked) => Step {
+            session: Session {
+                low: locked.low,
+                high: locked.high,
+                ..s
+            },
+            reply: store::write(words, s.handle, rec, value),
+        },
+        Err(no) => refused(s, no),
+    }
+}
+
+// The edit is committed at an end of the interval left, and settled.
+// Kept: no `?`, as `read_with`.
+pub fn commit_with(words: &mut [u64], s: Session) -> Step<Result<Option<Point>, Refusal>>
+    ensures { Layer (desk_commit s) words.old words.new (of_commit_step result) }
+{
+    if let Err(no) = going(words, s) {
+        return refused(s, no);
+    }
+    match store::commit(words, s.handle, Pick::Named(named_point(s)), Finish::Settle) {
+        Ok(point) => Step {
+            session: closed(s),
+            reply: Ok(point),
+        },
+        Err(no) => refused(s, no),
+    }
+}
+
+// The thin functions, which are lent the session: document 01 names this form.
+
+// `read`, of the session lent.
+pub fn read(words: &mut [u64], s: &mut Session, rec: u64) -> Result<Option<Found>, Refusal>
+    ensures { Layer (desk_read s.old rec) words.old words.new (reports s.new result) }
+{
+    let step = read_with(words, *s, rec);
+    *s = step.session;
+    step.reply
+}
+
+// `write`, of the session lent.
+// Kept: public, with a reply of its own; one function for the three would take a closure over two `&mut`.
 pub fn write(words: &mut [u64], s: &mut Session, rec: u64, value: u64) -> Result<(), Refusal>
     ensures { Layer (desk_write s.old rec value) words.old words.new
         (says s.new (of_done result)) }
 {
-    going(words, *s)?;
-    let locked = store::lock(words, s.handle, rec, s.low, s.high, Extent::Part)?;
-    s.low = locked.low;
-    s.high = locked.high;
-    store::write(words, s.handle, rec, value)
+    let step = write_with(words, *s, rec, value);
+    *s = step.session;
+    step.reply
 }
 
-// The edit is committed at an end of the interval left, and settled.
+// `commit`, of the session lent.
 // Kept: as `write`.
 pub fn commit(words: &mut [u64], s: &mut Session) -> Result<Option<Point>, Refusal>
     ensures { Layer (desk_commit s.old) words.old words.new
         (says s.new (of_commit result)) }
 {
-    going(words, *s)?;
-    let point = store::commit(
-        words,
-        s.handle,
-        Pick::Named(named_point(*s)),
-        Finish::Settle,
-    )?;
-    *s = closed(*s);
-    Ok(point)
-}
-
-// `read`, by value.
-// Kept: public, by value, since before; one function for the three would take a closure over two `&mut`, and each
-// would state again what that leaves.
-pub fn read_with(
-    words: &mut [u64],
-    mut s: Session,
-    rec: u64,
-) -> Step<Result<Option<Found>, Refusal>>
-    ensures { Layer (desk_read s rec) words.old words.new (of_read_step result) }
-{
-    let reply = read(words, &mut s, rec);
-    Step { session: s, reply }
-}
-
-// `write`, by value.
-// Kept: as `read_with`.
-pub fn write_with(
-    words: &mut [u64],
-    mut s: Session,
-    rec: u64,
-    value: u64,
-) -> Step<Result<(), Refusal>>
-    ensures { Layer (desk_write s rec value) words.old words.new (of_write_step result) }
-{
-    let reply = write(words, &mut s, rec, value);
-    Step { session: s, reply }
-}
-
-// `commit`, by value.
-// Kept: as `read_with`.
-pub fn commit_with(words: &mut [u64], mut s: Session) -> Step<Result<Option<Point>, Refusal>>
-    ensures { Layer (desk_commit s) words.old words.new (of_commit_step result) }
-{
-    let reply = commit(words, &mut s);
-    Step { session: s, reply }
+    let step = commit_with(words, *s);
+    *s = step.session;
+    step.reply
 }
