@@ -114,7 +114,7 @@ fn going(words: &[u64], s: Session) -> Result<(), Refusal>
     Ok(())
 }
 
-// A refusal of the store is passed on, and the session stays.
+// A refused call gives the session back as it was.
 fn refused<R>(s: Session, no: Refusal) -> Step<Result<R, Refusal>>
     ensures { result ≡ record { session = s; reply = Err no } }
 {
